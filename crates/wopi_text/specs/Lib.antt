@@ -1,3 +1,5 @@
+pub mod Decimals
 pub mod FileName
+pub mod Ids
 pub mod LockId
 pub mod Reasons

@@ -1,5 +1,5 @@
 //! Names of files, inline.
-ghost use Rattle.std.specs.Prelude.{◌≡◌, ◌↔◌, ◌%◌, IsTrue, IsOk, IfOk, sum};
+ghost use Rattle.std.specs.Prelude.{◌≡◌, ◌==◌, ◌↔◌, ◌%◌, IsTrue, IsOk, IfOk, sum};
 ghost use Rattle.std.specs.List.{list_all, list_any};
 ghost use Rattle.std.specs.Str.{chars};
 ghost use Rattle.wopi_text.specs.FileName.{IsFileName, is_name_char, forbidden, shard_of};
@@ -88,7 +88,10 @@ impl FileName {
 fn is_forbidden(character: char) -> bool
     ensures { result ≡ list_any (λ other. other == character) forbidden }
 {
-    matches!(character, '/' | '\\' | ':' | '*' | '?' | '"' | '<' | '>' | '|')
+    matches!(
+        character,
+        '/' | '\\' | ':' | '*' | '?' | '"' | '<' | '>' | '|'
+    )
 }
 
 fn is_name_char(character: char) -> bool

@@ -1,0 +1,60 @@
+use crate::{BadId, BadName, Bytes, FileName, LockId, decimal_read, id_read, id_text};
+use std::test::Fail;
+
+#[test]
+fn the_id_of_a_name_is_its_hex_and_reads_back(rt: HostRuntime) -> Result<(), Fail> {
+    let name = FileName::read("é.csv".as_bytes())?;
+    let id = id_text(rt.alloc(), &name)?;
+    assert_eq!(rt; id.as_slice(), b"c3a92e637376".as_slice());
+    let back = id_read(id.as_slice())?;
+    assert_eq!(rt; back.as_str(), "é.csv");
+    assert_eq!(rt; back.shard(), name.shard());
+    Ok(())
+}
+
+#[test]
+fn ids_in_upper_case_or_of_no_name_are_refused(rt: HostRuntime) {
+    for id in ["612E637376", "612e63737", "zz", "", "2e61", "61002e"] {
+        assert!(rt; id_read(id.as_bytes()) == Err(BadId), "{id}");
+    }
+}
+
+#[test]
+fn names_that_a_folder_could_not_keep_are_refused(rt: HostRuntime) {
+    for name in [
+        "", ".a", "a.", "a ", "a/b", "a\\b", "a:b", "a\u{85}b", "a\tb",
+    ] {
+        assert!(rt; FileName::read(name.as_bytes()) == Err(BadName), "{name}");
+    }
+    for name in ["a", "a.csv", "a b", " a", "ä (1).csv"] {
+        assert!(rt; FileName::read(name.as_bytes()).is_ok(), "{name}");
+    }
+}
+
+#[test]
+fn a_lock_id_has_up_to_256_printable_bytes(rt: HostRuntime) {
+    assert!(rt; LockId::read(&[b'x'; 256]).is_some());
+    assert!(rt; LockId::read(&[b'x'; 257]).is_none());
+    for id in ["", " a", "a ", "a\n"] {
+        assert!(rt; LockId::read(id.as_bytes()).is_none(), "{id}");
+    }
+}
+
+#[test]
+fn decimals_end_at_the_greatest_u64(rt: HostRuntime) {
+    assert_eq!(rt; decimal_read(b"18446744073709551615"), Some(u64::MAX));
+    assert_eq!(rt; decimal_read(b"0"), Some(0));
+    for digits in ["18446744073709551616", "00", "01", "", "+1", "-1", "1 "] {
+        assert_eq!(rt; decimal_read(digits.as_bytes()), None, "{digits}");
+    }
+}
+
+#[test]
+fn a_copy_of_bytes_is_equal(rt: HostRuntime) -> Result<(), Fail> {
+    let bytes = Bytes::from_slice(rt.alloc(), b"1,2\n")?;
+    let same = bytes.try_copy(rt.alloc())?;
+    assert_eq!(rt; same.as_slice(), bytes.as_slice());
+    let vector = same.into_vec();
+    assert_eq!(rt; vector.as_slice(), b"1,2\n".as_slice());
+    Ok(())
+}
