@@ -16,7 +16,7 @@ mod lock_id;
 mod reason;
 
 pub use bytes::Bytes;
-pub use decimal::decimal_read;
+pub use decimal::{decimal_read, digits_read};
 pub use faults::{BadId, BadName, Memory};
 pub use file_name::FileName;
 pub use id::{id_read, id_text};
