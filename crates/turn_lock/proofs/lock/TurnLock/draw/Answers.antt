@@ -1,0 +1,10 @@
+use Rattle.std.proofs.Common.{rules, ◌∙◌, ap, sym, arith, subst, ◌<◌}
+use Rattle.turn_lock.proofs.Turning.{draws}
+use Rattle.turn_lock.proofs.lock.TurnLock.draw.Goals as goal
+
+pub compare_exchange-found-requires : goal.compare_exchange-found-requires
+compare_exchange-found-requires g c = let same = c.loop.invariant in let words = c.self.invariant.0 in (
+  search rules,
+  omega arith,
+  draws g.V.Grown.entries g.V.Grown.base _ _ _ _ (ap (λ m. m.0.stage) same.1 ∙ c.requires.free.0) (subst (λ m. 0 < m.0.weight) (sym same.1) c.requires.free.1) (omega arith),
+)

@@ -1,0 +1,4 @@
+pub mod Places
+pub mod Seats
+pub mod Steps
+pub mod Turns
