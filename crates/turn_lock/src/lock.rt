@@ -15,6 +15,7 @@ use std::marker::Model;
 use std::snapshot::Snapshot;
 use std::sync::Wait;
 use std::thread;
+use wopi_text::Memory;
 
 /// The next ticket that will be drawn.
 const TICKET: usize = 0;
@@ -29,6 +30,7 @@ const VALUE: usize = 0;
 
 /// A lock over a value that stands for one history. It is shared by reference, and each thread
 /// comes with a seat of its own.
+#[derive(Drop)]
 pub struct TurnLock<V: Grown> {
     table: Table<Option<V>, View<V::Entry, V::Base>, Snapshot<V>, Turns, Global>,
 }
@@ -182,13 +184,14 @@ impl<V: Grown> TurnLock<V> {
         unreachable!()
     }
 
-    /// A new seat, which has seen the same and has half of the seat's weight, rounded down.
-    pub fn split<R: Wait>(&self, rt: &R, seat: &mut Seat<V>) -> Seat<V>
+    /// A new seat, which has seen the same and has half of the seat's weight, rounded down. A seat
+    /// lies in no memory of the lock's, so that `Memory` never comes.
+    pub fn split<R: Wait>(&self, rt: &R, seat: &mut Seat<V>) -> Result<Seat<V>, Memory>
         requires lock { seat.old.lock ≡ self.now }
         requires free { seat.old.taken ≡ None }
         requires weight { 2 ≤ seat.old.weight }
         ensures kept { seat.new ≡ record seat.old { weight = seat.old.weight - seat.old.weight / 2 } }
-        ensures given { result ≡ record seat.old { own = []; weight = seat.old.weight / 2 } }
+        ensures given { IsOkAnd result (λ given. given ≡ record seat.old { own = []; weight = seat.old.weight / 2 }) }
     {
         let half = seat.weight / 2;
         let table = &self.table.shared;
@@ -196,11 +199,11 @@ impl<V: Grown> TurnLock<V> {
         table.fetch_add::<Lend>(&mut seat.place, BANK, half);
         seat.weight -= half;
         self.fetch(rt, &mut place, half);
-        Seat {
+        Ok(Seat {
             place,
             weight: half,
             count: 0,
-        }
+        })
     }
 
     /// Takes in another seat. The seat has then seen the longer of both lists.
