@@ -1,5 +1,5 @@
 -- The rule holds of a new lock, and what it says of a lock that ends.
-use Rattle.std.proofs.Common.{IsSome, ◌≡◌, ◌≢◌, ⊎_elim, inl, ℕ, zero, suc, ◌+◌, ◌<◌, ◌^◌, List, [], ◌∷◌, set, length, Option, Some, None, refl, ap, sym, ◌∙◌, subst, arith}
+use Rattle.std.proofs.Common.{IsSome, ◌≡◌, ◌≢◌, ⊎_elim, inl, ℕ, zero, suc, ◌^◌, List, [], ◌∷◌, set, length, Option, Some, refl, ap, sym, ◌∙◌, subst, arith}
 use Rattle.std.proofs.lemmas.Bool.Decides.{nat_tests}
 use mathlib.Core.Logic.{dite}
 use native.Mathlib.Decide.{ℕ_discrete}

@@ -7,7 +7,7 @@ use Rattle.turn_lock.specs.declared.view.View.{View}
 use Rattle.turn_lock.specs.declared.view.Stage.{Stage}
 use Rattle.turn_lock.specs.declared.view.Stage.TheVariants.{Free, Waiting, Turn, Joining}
 use Rattle.turn_lock.specs.Turns.{Carries, whole_weight}
-use Rattle.turn_lock.specs.Steps.{Sat, with_stage, with_counted}
+use Rattle.turn_lock.specs.Steps.{Standing, with_stage, with_counted}
 use Rattle.turn_lock.specs.Seats.{taken_of, Rests, seated, IsSeated, added_places}
 
 module _ {T E : Type 0} where
@@ -40,22 +40,22 @@ same_slot x y cs ds e = ap (slot_or x) e
 
 module _ {T E B : Type 0} where
   -- the entries were counted, and then the value was put into the slot
-  pub counted_and_put : (m a b : Sat T E B) (t : ℕ) (taken whole : List E) (x : T) → m.1 ≡ (0, None) ∷ [] → a ≡ (with_counted m.0 t taken whole, m.1) → b ≡ (a.0, (0, Some x) ∷ rest a.1) → b ≡ (with_counted m.0 t taken whole, (0, Some x) ∷ [])
+  pub counted_and_put : (m a b : Standing T E B) (t : ℕ) (taken whole : List E) (x : T) → m.1 ≡ (0, None) ∷ [] → a ≡ (with_counted m.0 t taken whole, m.1) → b ≡ (a.0, (0, Some x) ∷ rest a.1) → b ≡ (with_counted m.0 t taken whole, (0, Some x) ∷ [])
   counted_and_put m a b t taken whole x held counted put =
       put ∙ ((λ k. ((counted k).0, (0, Some x) ∷ rest (counted k).1)) ∙ (λ k. (with_counted m.0 t taken whole, (0, Some x) ∷ rest (held k))))
 
   -- and then the turn was ended
-  pub turn_ended : (m b d : Sat T E B) (t : ℕ) (taken whole : List E) (x : T) → b ≡ (with_counted m.0 t taken whole, (0, Some x) ∷ []) → d ≡ (with_stage b.0 Free, rest b.1) → d ≡ (with_stage (with_counted m.0 t taken whole) Free, [])
+  pub turn_ended : (m b d : Standing T E B) (t : ℕ) (taken whole : List E) (x : T) → b ≡ (with_counted m.0 t taken whole, (0, Some x) ∷ []) → d ≡ (with_stage b.0 Free, rest b.1) → d ≡ (with_stage (with_counted m.0 t taken whole) Free, [])
   turn_ended m b d t taken whole x full ended = ended ∙ (λ k. (with_stage (full k).0 Free, rest (full k).1))
 
   -- what a seat keeps stays, where only what it has seen and owns changed
   pub seated_again : (weight count : ℕ) (p q : Seat (Option T) (View E B)) (t : ℕ) (taken whole : List E) → IsSeated weight count p → q.me ≡ (with_stage (with_counted p.me.0 t taken whole) Free, []) → IsSeated weight count q
   seated_again weight count p q t taken whole was e = record {
-    weight_is = subst (λ (m : Sat T E B). weight ≡ m.0.weight) (sym e) was.weight_is;
-    heavy = subst (λ (m : Sat T E B). 0 < m.0.weight) (sym e) was.heavy;
-    bounded = subst (λ (m : Sat T E B). m.0.weight ≤ whole_weight) (sym e) was.bounded;
-    live = subst (λ (m : Sat T E B). IsSome m.0.base) (sym e) was.live;
-    rests = subst (λ (m : Sat T E B). Rests count m.1 m.0.stage) (sym e) refl;
+    weight_is = subst (λ (m : Standing T E B). weight ≡ m.0.weight) (sym e) was.weight_is;
+    heavy = subst (λ (m : Standing T E B). 0 < m.0.weight) (sym e) was.heavy;
+    bounded = subst (λ (m : Standing T E B). m.0.weight ≤ whole_weight) (sym e) was.bounded;
+    live = subst (λ (m : Standing T E B). IsSome m.0.base) (sym e) was.live;
+    rests = subst (λ (m : Standing T E B). Rests count m.1 m.0.stage) (sym e) refl;
   }
 
   -- what callers see of the seat then

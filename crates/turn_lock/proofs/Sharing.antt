@@ -1,5 +1,5 @@
 -- The steps that split and join seats and move their weight keep the rule.
-use Rattle.std.proofs.Common.{◌≡◌, ◌≢◌, ◌⊎◌, inl, inr, ⊎_elim, ℕ, ◌+◌, ◌-◌, ◌%◌, ◌<◌, ◌≤◌, ◌^◌, eqb, ltb, List, [], ◌∷◌, ◌++◌, set, length, get_or, Option, Some, None, refl, ap, sym, ◌∙◌, subst, arith}
+use Rattle.std.proofs.Common.{◌≡◌, inl, inr, ⊎_elim, ℕ, ◌+◌, ◌-◌, ◌%◌, ◌<◌, ◌^◌, eqb, ltb, List, [], ◌∷◌, ◌++◌, set, length, get_or, Option, refl, ap, sym, ◌∙◌, subst, arith}
 use mathlib.Core.Option.{some, none}
 use mathlib.Core.List.{IsPrefix}
 use lib.ListN.{get_elem?}
@@ -8,10 +8,9 @@ use prog.Atomic.{either}
 use Rattle.atomic_table.proofs.Lists.{set_else, at_longer, at_snoc, exchanged}
 use Rattle.atomic_table.specs.Table.{State, Me, Act, step, keeps, stepped, Valid, carried_after, Allows, Splits, Joins}
 use Rattle.turn_lock.specs.declared.view.View.{View}
-use Rattle.turn_lock.specs.declared.view.Stage.{Stage}
 use Rattle.turn_lock.specs.declared.view.Stage.TheVariants.{Free, Joining}
 use Rattle.turn_lock.specs.Places.{total, times, longer}
-use Rattle.turn_lock.specs.Turns.{StageHolds, HasTurn, ViewHolds, IsHome, IsOut, IsOrderly, split_view, joined_view, spent_view}
+use Rattle.turn_lock.specs.Turns.{HasTurn, ViewHolds, IsHome, IsOut, IsOrderly, split_view, joined_view, spent_view}
 use Rattle.turn_lock.specs.Steps.{with_stage, with_weight, Settles, Lends, Fetches}
 use Rattle.turn_lock.proofs.Keeping.{views_stay, rekept, slot_stays, unmoved, stage_at, no_turn}
 use Rattle.turn_lock.proofs.Prefixes.{prefix_self, both_begin, longer_begins}

@@ -1,5 +1,5 @@
 -- The steps of a turn keep the rule: a ticket is drawn, awaited, the entries are counted, and the next ticket is served.
-use Rattle.std.proofs.Common.{◌≡◌, ◌≢◌, ◌⊎◌, inl, inr, ⊎_elim, ℕ, ◌+◌, ◌-◌, ◌%◌, ◌<◌, ◌≤◌, ◌^◌, cond, eqb, eq-eqb, ne_eqb, List, [], ◌∷◌, ◌++◌, set, length, get_or, Option, Some, None, refl, ap, sym, ◌∙◌, subst, arith}
+use Rattle.std.proofs.Common.{◌≡◌, inl, inr, ⊎_elim, ℕ, ◌+◌, ◌-◌, ◌%◌, ◌<◌, ◌≤◌, ◌^◌, cond, eqb, eq-eqb, ne_eqb, List, [], ◌∷◌, set, length, get_or, Option, Some, refl, ap, sym, ◌∙◌, subst, arith}
 use mathlib.Core.Logic.{dite}
 use native.Mathlib.Decide.{ℕ_discrete}
 use mathlib.Core.Option.{some, none}
@@ -11,9 +11,9 @@ use Rattle.atomic_table.proofs.Lists.{set_here, exchanged}
 use Rattle.atomic_table.specs.Table.{State, Me, Act, step, keeps, takes, gives, stepped, Valid, carried_after, Allows, put_back}
 use Rattle.turn_lock.specs.declared.view.View.{View}
 use Rattle.turn_lock.specs.declared.view.Stage.{Stage}
-use Rattle.turn_lock.specs.declared.view.Stage.TheVariants.{Free, Waiting, Turn, Joining}
-use Rattle.turn_lock.specs.Places.{times, once_below, places_from, places_behind}
-use Rattle.turn_lock.specs.Turns.{Carries, StageHolds, HasNoTicket, HasTurn, ViewHolds, IsHome, IsOut, IsOrderly}
+use Rattle.turn_lock.specs.declared.view.Stage.TheVariants.{Free, Waiting, Turn}
+use Rattle.turn_lock.specs.Places.{times, once_below, places_behind}
+use Rattle.turn_lock.specs.Turns.{Carries, HasNoTicket, HasTurn, IsHome, IsOut, IsOrderly}
 use Rattle.turn_lock.specs.Steps.{with_stage, with_counted, Draws, Looks, Counts, Serves}
 use Rattle.turn_lock.proofs.Keeping.{here_length, turn_holder, views_stay, rekept, same_view, slot_stays, unmoved, stage_at, away_at, no_turn}
 use Rattle.turn_lock.proofs.Prefixes.{prefix_self, prefix_length}

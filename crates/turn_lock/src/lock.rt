@@ -28,8 +28,8 @@ const BANK: usize = 3;
 /// The only slot, where the value lies while no seat holds the turn.
 const VALUE: usize = 0;
 
-/// A lock over a value that stands for one history. It is shared by reference, and each thread
-/// comes with a seat of its own.
+/// A lock over a value that stands for one history. Threads share it by reference, and each comes
+/// with a seat of its own. A contract sees which lock it is, and nothing else.
 #[derive(Drop)]
 pub struct TurnLock<V: Grown> {
     table: Table<Option<V>, View<V::Entry, V::Base>, Snapshot<V>, Turns, Global>,
@@ -90,7 +90,7 @@ impl<V: Grown> TurnLock<V> {
         }
     }
 
-    // Tries until it has drawn a ticket, which it never has where the next one is the greatest u64.
+    // Tries until it has drawn a ticket. The greatest u64 is never drawn.
     fn draw<R: Wait>(&self, rt: &R, place: &mut Place<V>) -> u64
         requires lock { place.old.table_id ≡ self.now }
         requires free { (place.old.me.0.stage ≡ Stage.Free) × (0 < place.old.me.0.weight) }
@@ -127,8 +127,8 @@ impl<V: Grown> TurnLock<V> {
         unreachable!()
     }
 
-    /// Waits for a turn of the seat's own, and takes the value. After 2^64 - 1 turns it waits for
-    /// good.
+    /// Waits for a turn of the seat's own, and takes the value. Where 2^64 - 1 tickets were drawn
+    /// before, it waits for good. Takes no memory.
     pub fn take<R: Wait>(&self, rt: &R, seat: &mut Seat<V>) -> V
         requires lock { seat.old.lock ≡ self.now }
         requires free { seat.old.taken ≡ None }
@@ -146,12 +146,17 @@ impl<V: Grown> TurnLock<V> {
         value
     }
 
-    /// Ends the turn. The seat has then seen the value's whole list, and what was added is its own.
+    /// Ends the turn. The seat has then seen the value's whole list, and the places of the entries
+    /// that were added are its own. Takes no memory.
     pub fn give_back(&self, seat: &mut Seat<V>, value: V)
         requires lock { seat.old.lock ≡ self.now }
         requires turn { IsSomeAnd seat.old.taken (λ taken. IsPrefix taken (V.entries value)) }
         requires base { seat.old.base ≡ Some (V.base value) }
-        ensures { seat.new ≡ record seat.old { seen = V.entries value; own = seat.old.own ++ added_places seat.old.taken (V.entries value); taken = None } }
+        ensures { seat.new ≡ record seat.old {
+          seen = V.entries value;
+          own = seat.old.own ++ added_places seat.old.taken (V.entries value);
+          taken = None;
+        } }
     {
         let count = value.grown();
         let held = Some(value);
@@ -163,7 +168,7 @@ impl<V: Grown> TurnLock<V> {
         table.fetch_add::<Serve>(place, SERVING, 1);
     }
 
-    // Tries until it has fetched the weight.
+    // Tries until it has fetched the weight, which another fetch may have got ahead of.
     fn fetch<R: Wait>(&self, rt: &R, place: &mut Place<V>, weight: u64)
         requires lock { place.old.table_id ≡ self.now }
         requires free { (place.old.me.0.stage ≡ Stage.Free) × (0 < weight) }
@@ -184,8 +189,9 @@ impl<V: Grown> TurnLock<V> {
         unreachable!()
     }
 
-    /// A new seat, which has seen the same and has half of the seat's weight, rounded down. A seat
-    /// lies in no memory of the lock's, so that `Memory` never comes.
+    /// A new seat, which has seen the same and has half of the seat's weight, rounded down. The
+    /// half goes through the lock, so this may wait. `Memory` never comes, since a seat is plain
+    /// data.
     pub fn split<R: Wait>(&self, rt: &R, seat: &mut Seat<V>) -> Result<Seat<V>, Memory>
         requires lock { seat.old.lock ≡ self.now }
         requires free { seat.old.taken ≡ None }
@@ -206,11 +212,16 @@ impl<V: Grown> TurnLock<V> {
         })
     }
 
-    /// Takes in another seat. The seat has then seen the longer of both lists.
+    /// Takes in another seat. The seat has then seen the longer of both lists, and has the places
+    /// and the weight of both.
     pub fn join(&self, seat: &mut Seat<V>, other: Seat<V>)
         requires lock { (seat.old.lock ≡ self.now) × (other.lock ≡ self.now) }
         requires free { (seat.old.taken ≡ None) × (other.taken ≡ None) }
-        ensures seat { seat.new ≡ record seat.old { seen = longer seat.old.seen other.seen; own = seat.old.own ++ other.own; weight = seat.old.weight + other.weight } }
+        ensures seat { seat.new ≡ record seat.old {
+          seen = longer seat.old.seen other.seen;
+          own = seat.old.own ++ other.own;
+          weight = seat.old.weight + other.weight;
+        } }
         ensures prefixes { IsPrefix seat.old.seen seat.new.seen × IsPrefix other.seen seat.new.seen }
         ensures apart { AreDistinct seat.new.own }
     {
@@ -226,7 +237,7 @@ impl<V: Grown> TurnLock<V> {
         seat.weight += weight;
     }
 
-    /// Ends the lock by its only seat, and hands out the value.
+    /// Ends the lock by the seat that all others were joined to, and hands out the value.
     pub fn close(self, seat: Seat<V>) -> V
         requires lock { seat.lock ≡ self }
         requires free { seat.taken ≡ None }

@@ -1,4 +1,4 @@
-use Rattle.std.proofs.Common.{rules, arith, ap, ◌∙◌, sym, refl, ℕ, List, ◌∷◌, ◌++◌, Option, Some, None, ◌≡◌}
+use Rattle.std.proofs.Common.{rules, arith, ap, ◌∙◌, sym, refl, ℕ, List, ◌∷◌, ◌++◌, Option, None}
 use Rattle.atomic_table.specs.Table.{rest}
 use Rattle.turn_lock.specs.Seats.{added_places}
 use Rattle.turn_lock.proofs.Turning.{counts, serves}
