@@ -7,7 +7,7 @@ use mathlib.Core.List.{IsPrefix}
 use lib.ListN.{get_elem?}
 use lib.Seq.{set-get_or}
 use Rattle.atomic_table.proofs.Lists.{at_set, set_again, set_else}
-use Rattle.atomic_table.specs.Table.{State, keeps, stepped}
+use Rattle.atomic_table.specs.Table.{State, Me, Act, keeps, stepped, Valid, carried_after}
 use Rattle.turn_lock.specs.declared.view.View.{View}
 use Rattle.turn_lock.specs.declared.view.Stage.{Stage}
 use Rattle.turn_lock.specs.declared.view.Stage.TheVariants.{Free, Waiting, Turn, Joining}
@@ -57,6 +57,13 @@ module _ {T E B : Type 0} (entries : T → List E) (base : T → B) where
 
   abbrev Rule : St → Type 0
   Rule = IsOrderly entries base
+
+  abbrev M : Type 0
+  M = Me (Option T) W
+
+  -- a seat has a new view and an act that keep the rule, where the word becomes n
+  abbrev pub Picks : St → ℕ → ℕ → M → (M → Type 0) → ℕ → Type 0
+  Picks s word id m then n = (w : W) × (a : Act (Option T)) × Valid s.homes m.1 a × Rule (stepped s word n id m.1 w a) × then (w, carried_after m.1 a)
 
   pub views_stay : (P : ℕ → W → Type 0) (vs : List W) (me : ℕ) (w : W) → P me w → ((j : ℕ) (u : W) → j ≢ me → get_elem? vs j ≡ some u → P j u)
       → (j : ℕ) (u : W) → get_elem? (set vs me w) j ≡ some u → P j u

@@ -6,13 +6,13 @@ use lib.ListN.{get_elem?}
 use lib.Seq.{set-get_or}
 use prog.Atomic.{either}
 use Rattle.atomic_table.proofs.Lists.{set_else, at_longer, at_snoc, exchanged}
-use Rattle.atomic_table.specs.Table.{State, Me, Act, step, keeps, stepped, Valid, carried_after, Allows, Splits, Joins}
+use Rattle.atomic_table.specs.Table.{State, Me, step, keeps, Allows, Splits, Joins}
 use Rattle.turn_lock.specs.declared.view.View.{View}
 use Rattle.turn_lock.specs.declared.view.Stage.TheVariants.{Free, Joining}
 use Rattle.turn_lock.specs.Places.{total, times, longer}
 use Rattle.turn_lock.specs.Turns.{HasTurn, ViewHolds, IsHome, IsOut, IsOrderly, split_view, joined_view, spent_view}
 use Rattle.turn_lock.specs.Steps.{with_stage, with_weight, Settles, Lends, Fetches}
-use Rattle.turn_lock.proofs.Keeping.{views_stay, rekept, slot_stays, unmoved, stage_at, no_turn}
+use Rattle.turn_lock.proofs.Keeping.{Picks, views_stay, rekept, slot_stays, unmoved, stage_at, no_turn}
 use Rattle.turn_lock.proofs.Prefixes.{prefix_self, both_begin, longer_begins}
 use Rattle.turn_lock.proofs.Sums.{total-append, total-set, total_one, times-append, once_below-le-one}
 
@@ -28,10 +28,6 @@ module _ {T E B : Type 0} (entries : T → List E) (base : T → B) where
 
   abbrev Rule : St → Type 0
   Rule = IsOrderly entries base
-
-  -- a seat picks its new view and an act, where the word becomes k
-  abbrev Picks : St → ℕ → ℕ → M → (M → Type 0) → ℕ → Type 0
-  Picks s word id m then k = (w : W) × (a : Act (Option T)) × Valid s.homes m.1 a × Rule (stepped s word k id m.1 w a) × then (w, carried_after m.1 a)
 
   total_pair : (f : W → ℕ) (vs : List W) (id : ℕ) (v left right : W) → get_elem? vs id ≡ some v → total f (set vs id left ++ right ∷ []) + f v ≡ total f vs + f left + f right
   total_pair f vs id v left right at = let longer_one = total-append f (set vs id left) (right ∷ []) in let changed = total-set f vs id v left at in omega arith
@@ -162,7 +158,7 @@ module _ {T E B : Type 0} (entries : T → List E) (base : T → B) where
       let mine = r.each_view id v at in
       let found : get_or s.words 3 0 ≡ r.bank = ap (λ ws. get_or ws 3 0) r.words in
       let no = no_turn entries base v Free free (λ h. h) in
-      exchanged (get_or s.words 3 0) old new (Picks s 3 id m (Fetches (step slots 3 old new none) m (get_or s.words 3 0)))
+      exchanged (get_or s.words 3 0) old new (Picks entries base s 3 id m (Fetches (step slots 3 old new none) m (get_or s.words 3 0)))
       (λ hit. (
         with_weight v (v.weight + (old - new)),
         keeps,

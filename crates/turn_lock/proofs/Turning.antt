@@ -8,14 +8,14 @@ use lib.ListN.{get_elem?}
 use lib.Seq.{set-get_or}
 use prog.Atomic.{either}
 use Rattle.atomic_table.proofs.Lists.{set_here, exchanged}
-use Rattle.atomic_table.specs.Table.{State, Me, Act, step, keeps, takes, gives, stepped, Valid, carried_after, Allows, put_back}
+use Rattle.atomic_table.specs.Table.{State, Me, step, keeps, takes, gives, Allows, put_back}
 use Rattle.turn_lock.specs.declared.view.View.{View}
 use Rattle.turn_lock.specs.declared.view.Stage.{Stage}
 use Rattle.turn_lock.specs.declared.view.Stage.TheVariants.{Free, Waiting, Turn}
 use Rattle.turn_lock.specs.Places.{times, once_below, places_behind}
 use Rattle.turn_lock.specs.Turns.{Carries, HasNoTicket, HasTurn, IsHome, IsOut, IsOrderly}
 use Rattle.turn_lock.specs.Steps.{with_stage, with_counted, Draws, Looks, Counts, Serves}
-use Rattle.turn_lock.proofs.Keeping.{here_length, turn_holder, views_stay, rekept, same_view, slot_stays, unmoved, stage_at, away_at, no_turn}
+use Rattle.turn_lock.proofs.Keeping.{Picks, here_length, turn_holder, views_stay, rekept, same_view, slot_stays, unmoved, stage_at, away_at, no_turn}
 use Rattle.turn_lock.proofs.Prefixes.{prefix_self, prefix_length}
 use Rattle.turn_lock.proofs.Sums.{times-append, times-places_from}
 
@@ -32,10 +32,6 @@ module _ {T E B : Type 0} (entries : T → List E) (base : T → B) where
   abbrev Rule : St → Type 0
   Rule = IsOrderly entries base
 
-  -- a seat picks its new view and an act, where the word becomes k
-  abbrev Picks : St → ℕ → ℕ → M → (M → Type 0) → ℕ → Type 0
-  Picks s word id m then k = (w : W) × (a : Act (Option T)) × Valid s.homes m.1 a × Rule (stepped s word k id m.1 w a) × then (w, carried_after m.1 a)
-
   -- a ticket is drawn
   pub draws : (slots id : ℕ) (m : M) (old : ℕ) → m.0.stage ≡ Free → 0 < m.0.weight → old + 1 < 2 ^ 64
       → Allows Rule slots id m 0 (λ n. either (eqb n old) (old + 1) n) (Draws (step slots 0 old (old + 1) none) m)
@@ -43,7 +39,7 @@ module _ {T E B : Type 0} (entries : T → List E) (base : T → B) where
       let v : W = m.0 in
       let found : get_or s.words 0 0 ≡ r.ticket = ap (λ ws. get_or ws 0 0) r.words in
       let mine = r.each_view id v at in
-      exchanged (get_or s.words 0 0) old (old + 1) (Picks s 0 id m (Draws (step slots 0 old (old + 1) none) m (get_or s.words 0 0)))
+      exchanged (get_or s.words 0 0) old (old + 1) (Picks entries base s 0 id m (Draws (step slots 0 old (old + 1) none) m (get_or s.words 0 0)))
       (λ hit.
       let w : W = with_stage v (Waiting old) in
       let holder : ℕ → ℕ = λ k. cond (eqb k old) id (r.holder k) in
@@ -108,7 +104,7 @@ module _ {T E B : Type 0} (entries : T → List E) (base : T → B) where
       let more : length l ≤ length ys = prefix_length l ys grows in
       let far : length l + (length ys - length l) ≡ length ys = omega arith in
       let same : length l ≡ length r.history = ap length holds.3 in
-      exchanged (get_or s.words 2 0) old new (Picks s 2 id m (Counts entries (step slots 2 old new (some (Some x))) m (get_or s.words 2 0)))
+      exchanged (get_or s.words 2 0) old new (Picks entries base s 2 id m (Counts entries (step slots 2 old new (some (Some x))) m (get_or s.words 2 0)))
       (λ hit. (
         w,
         keeps,

@@ -59,7 +59,7 @@ module _ {E : Type 0} (ticket serving : ℕ) (history : List E) (holder : ℕ �
   StageHolds (Turn t taken) = (serving ≡ t) × (t < ticket) × (holder t ≡ seat) × (taken ≡ history)
   StageHolds (Joining xs ys) = IsPrefix xs history × IsPrefix ys history
 
--- what each view is, whether the value is at home or out
+-- What holds of each view, whether the value is at home or out: what was seen begins the history, and a view of weight 0 has no ticket and owns nothing.
 pub record ViewHolds {E B : Type 0} (ticket serving : ℕ) (history : List E) (root : B) (holder : ℕ → ℕ) (seat : ℕ) (v : View E B) : Type 0 where
   pub begins : IsPrefix v.seen history
   pub carries : Carries root v.base
@@ -83,19 +83,22 @@ module _ {T E B : Type 0} (entries : T → List E) (base : T → B) where
     pub turn : HasTurn view.stage
     pub away : get_elem? s.homes 0 ≡ some none
 
-  -- There is one history, of as many entries as are counted, and one base.
-  -- Own places are all places of the history, each in one view. All weight lies in the views and in the bank.
+  -- The rule. There is one history, of as many entries as are counted, and one base.
   pub record IsOrderly (s : State (Option T) (View E B)) : Type 0 where
     pub ticket : ℕ
     pub serving : ℕ
     pub history : List E
     pub root : B
+    -- the seat that drew each ticket
     pub holder : ℕ → ℕ
     pub bank : ℕ
     pub words : s.words ≡ ticket ∷ serving ∷ length history ∷ bank ∷ []
     pub bounded : ticket < 2 ^ 64
     pub ordered : serving ≤ ticket
     pub each_view : (seat : ℕ) (v : View E B) → get_elem? s.views seat ≡ some v → ViewHolds ticket serving history root holder seat v
+    -- each place of the history is own to one view, where it stands once
     pub owned : (place : ℕ) → total (λ v. times place v.own) s.views ≡ once_below place (length history)
+    -- all weight is in the views and in the bank
     pub weighed : total (λ v. v.weight) s.views + bank ≡ whole_weight
+    -- the slot is out exactly while a view has the turn
     pub slot : IsHome history root s ⊎ IsOut s
