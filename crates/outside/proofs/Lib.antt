@@ -1,0 +1,5 @@
+pub mod Pieces
+pub mod Told
+pub mod Files
+pub mod Distinct
+pub mod Places

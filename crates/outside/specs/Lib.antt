@@ -1,0 +1,15 @@
+pub mod Clock
+pub mod Dialer
+pub mod Faults
+pub mod Folder
+pub mod Listener
+pub mod Stream
+pub mod Failing
+pub mod MemSink
+pub mod MemSource
+pub mod Script
+pub mod ScriptClock
+pub mod MemListener
+pub mod ScriptDialer
+pub mod MemFolder
+pub mod MemFolderParts

@@ -1,0 +1,39 @@
+//! The outside world as the program sees it.
+//!
+//! A trait stands for each thing outside: `Source` and `Sink` for streams of bytes, `Link` for both
+//! ends of a connection, `Folder` for files by name, `Listener` for where connections come from,
+//! `Dialer` for one request and its reply, `Clock` for the time. Each trait has a written meaning
+//! that an object may tell or not, and a count of faults that never falls: a call answers `Failed`
+//! only where the count rose in this call.
+//!
+//! `memory` has a fake of each, which tells all that its trait leaves optional and fails at the
+//! calls that it was told to fail at. `standard`, `directory` and `network` have the real things,
+//! which tell nothing of content. `read_link`, `write_link` and `write_whole` are what the crates
+//! above read and write by.
+#![tactic(auto)]
+
+mod clock;
+mod dialer;
+mod faults;
+mod folder;
+mod link;
+mod listener;
+mod memory;
+mod names;
+mod network;
+mod standard;
+mod transfer;
+
+pub use clock::Clock;
+pub use dialer::{Dialer, Exchange};
+pub use faults::{Failed, OutFault};
+pub use folder::{Folder, FolderRead};
+pub use link::{Link, Sink, Source};
+pub use listener::{Accepted, Listener};
+pub use memory::{
+    Failing, Lent, MemFolder, MemListener, MemSink, MemSource, Pair, ScriptClock, ScriptDialer,
+};
+pub use names::Names;
+pub use network::{TcpLink, TcpListen};
+pub use standard::{StdSink, StdSource, SystemClock};
+pub use transfer::{read_link, write_link, write_whole};
