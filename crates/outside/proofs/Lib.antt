@@ -3,3 +3,4 @@ pub mod Told
 pub mod Files
 pub mod Distinct
 pub mod Places
+pub mod Sorted

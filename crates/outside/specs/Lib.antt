@@ -10,6 +10,7 @@ pub mod MemSource
 pub mod Script
 pub mod ScriptClock
 pub mod MemListener
+pub mod Replies
 pub mod ScriptDialer
 pub mod MemFolder
 pub mod MemFolderParts

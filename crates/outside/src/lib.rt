@@ -14,6 +14,7 @@
 
 mod clock;
 mod dialer;
+mod directory;
 mod faults;
 mod folder;
 mod link;
@@ -26,6 +27,7 @@ mod transfer;
 
 pub use clock::Clock;
 pub use dialer::{Dialer, Exchange};
+pub use directory::DirFolder;
 pub use faults::{Failed, OutFault};
 pub use folder::{Folder, FolderRead};
 pub use link::{Link, Sink, Source};

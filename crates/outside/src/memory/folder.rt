@@ -1,12 +1,15 @@
-ghost use Rattle.std.specs.Prelude.{◌≡◌, ◌≢◌, ℕ, List, map, string_bytes, Some, None, IsTrue, IfOk, MatchOption, OnOk, OnErr};
-ghost use Rattle.outside.specs.Folder.{all_differ};
+//! A folder in memory.
+ghost use Rattle.std.specs.Prelude.{◌≡◌, ◌≢◌, ◌≤◌, ◌↔◌, ◌/◌, ℕ, List, length, take, map, string_bytes, option_map, Some, None, IsTrue, IfOk, IsErr, IsErrOf, MatchOption, OnOk, OnErr};
+ghost use Rattle.outside.specs.Failing.{FailsNext, CountsOne, IsFresh};
+ghost use Rattle.outside.specs.Faults.{Rose};
+ghost use Rattle.outside.specs.Folder.{all_differ, Lists, Reads, Keeps, Replaces, OpensOnly, Removes};
 ghost use Rattle.outside.specs.MemFolder.{names_of, contents_of, IsPlace};
 
 use crate::{Failed, Failing, Folder, FolderRead, Names, OutFault};
 use std::alloc::Global;
 use wopi_text::{Bytes, Memory};
 
-/// Files in memory.
+/// Files in memory. Any string names a file here.
 #[derive(Drop)]
 pub struct MemFolder {
     alloc: Global,
@@ -18,12 +21,11 @@ pub struct MemFolder {
 impl MemFolder {
     ghost use Rattle.outside.specs.MemFolderParts.{files_in, script};
 
+    /// `failing` has the numbers of the calls that fail, counted from 1 over all four calls.
     pub fn new(alloc: Global, files: Vec<(String, Bytes)>, failing: Vec<u64>) -> MemFolder
         requires { IsTrue (all_differ (names_of files.items)) }
         ensures files { files_in result ≡ files.items }
-        ensures numbers { (script result).numbers ≡ failing }
-        ensures calls { (script result).calls ≡ 0 }
-        ensures faults { (script result).faults ≡ 0 }
+        ensures script { IsFresh (script result) failing.items }
     {
         MemFolder {
             alloc,
@@ -31,23 +33,51 @@ impl MemFolder {
             failing: Failing::new(failing),
         }
     }
+
+    /// The bytes under a name. This is no call of the folder, and never fails.
+    pub fn contents(&self, name: &str) -> Option<&[u8]>
+        ensures { option_map (λ bytes. bytes.now) result ≡ contents_of (files_in self.now) name.now }
+    {
+        match place_of(&self.files, name) {
+            Some(place) => Some(self.files[place].1.as_slice()),
+            None => None,
+        }
+    }
 }
 
 impl Folder for MemFolder {
-    ghost use Rattle.outside.specs.MemFolderParts.{files_in, script};
+    ghost use Rattle.outside.specs.MemFolderParts.{files_in, script, map_of};
 
-    ghost files = { λ f. Some (contents_of (files_in f)) };
+    ghost files = { map_of };
 
     ghost faults = { λ f. (script f).faults };
 
-    fn list(&mut self) -> Result<Names, OutFault> {
+    fn list(&mut self) -> Result<Names, OutFault>
+        ensures names { IfOk result (Lists (map_of self.old)) }
+        ensures same { Keeps (map_of self.old) (map_of self.new) }
+        ensures never_falls { (script self.old).faults ≤ (script self.new).faults }
+        ensures failed { IsErrOf result OutFault.Failed → Rose (script self.old).faults (script self.new).faults }
+
+        // It fails at the given calls alone.
+        ensures fails { IsErrOf result OutFault.Failed ↔ FailsNext (script self.old) }
+        ensures counts { CountsOne (script self.old) (script self.new) }
+    {
         if self.failing.next_fails() {
             return Err(OutFault::Failed);
         }
         Ok(names_in(self.alloc, &self.files)?)
     }
 
-    fn read(&mut self, name: &str, most: usize) -> Result<FolderRead, OutFault> {
+    fn read(&mut self, name: &str, most: usize) -> Result<FolderRead, OutFault>
+        ensures read { IfOk result (Reads (map_of self.old) name.now most) }
+        ensures same { Keeps (map_of self.old) (map_of self.new) }
+        ensures never_falls { (script self.old).faults ≤ (script self.new).faults }
+        ensures failed { IsErrOf result OutFault.Failed → Rose (script self.old).faults (script self.new).faults }
+
+        // It fails at the given calls alone.
+        ensures fails { IsErrOf result OutFault.Failed ↔ FailsNext (script self.old) }
+        ensures counts { CountsOne (script self.old) (script self.new) }
+    {
         if self.failing.next_fails() {
             return Err(OutFault::Failed);
         }
@@ -64,21 +94,40 @@ impl Folder for MemFolder {
         }
     }
 
-    fn replace(&mut self, name: &str, contents: &[u8]) -> Result<(), OutFault> {
+    fn replace(&mut self, name: &str, contents: &[u8]) -> Result<(), OutFault>
+        ensures replaced { OnOk result (Replaces (map_of self.old) (map_of self.new) name.now contents.now) }
+        ensures torn { OpensOnly (map_of self.old) (map_of self.new) name.now }
+        ensures memory { result ≡ Err OutFault.Memory → Keeps (map_of self.old) (map_of self.new) }
+        ensures never_falls { (script self.old).faults ≤ (script self.new).faults }
+        ensures failed { IsErrOf result OutFault.Failed → Rose (script self.old).faults (script self.new).faults }
+
+        // It fails at the given calls alone, and then leaves the first half of the new contents.
+        ensures fails { IsErrOf result OutFault.Failed → FailsNext (script self.old) }
+        ensures succeeds { OnOk result (¬ FailsNext (script self.old)) }
+        ensures half { IsErrOf result OutFault.Failed
+            → contents_of (files_in self.new) name.now ≡ Some (take (length contents.now / 2) contents.now) }
+        ensures counts { CountsOne (script self.old) (script self.new) }
+    {
         if self.failing.next_fails() {
-            put(
-                self.alloc,
-                &mut self.files,
-                name,
-                &contents[..contents.len() / 2],
-            )?;
+            let half = &contents[..contents.len() / 2];
+            put(self.alloc, &mut self.files, name, half)?;
             return Err(OutFault::Failed);
         }
         put(self.alloc, &mut self.files, name, contents)?;
         Ok(())
     }
 
-    fn remove(&mut self, name: &str) -> Result<(), Failed> {
+    fn remove(&mut self, name: &str) -> Result<(), Failed>
+        ensures removed { OnOk result (Removes (map_of self.old) (map_of self.new) name.now) }
+        ensures torn { OpensOnly (map_of self.old) (map_of self.new) name.now }
+        ensures never_falls { (script self.old).faults ≤ (script self.new).faults }
+        ensures failed { OnErr result (Rose (script self.old).faults (script self.new).faults) }
+
+        // It fails at the given calls alone, and then leaves the file.
+        ensures fails { IsErr result ↔ FailsNext (script self.old) }
+        ensures left { OnErr result (files_in self.new ≡ files_in self.old) }
+        ensures counts { CountsOne (script self.old) (script self.new) }
+    {
         if self.failing.next_fails() {
             return Err(Failed);
         }

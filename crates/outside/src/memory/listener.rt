@@ -1,4 +1,6 @@
-ghost use Rattle.std.specs.Prelude.{◌≡◌, ◌≤◌, ◌+◌, [], ℕ, List, IfOk, Some, length, vec_capacity};
+//! A listener in memory.
+ghost use Rattle.std.specs.Prelude.{◌≡◌, ◌≤◌, ◌+◌, ◌↔◌, [], ℕ, List, IfOk, IsErr, IsErrOf, Some, length, vec_capacity};
+ghost use Rattle.outside.specs.Failing.{FailsNext, CountsOne, IsFresh};
 
 use crate::{Accepted, Failing, Link, Listener, OutFault};
 use std::alloc::Global;
@@ -18,11 +20,12 @@ pub struct MemListener<L> {
 impl<L: Drop> MemListener<L> {
     ghost use Rattle.outside.specs.MemListener.{to_come, put_back, script};
 
-    /// The place of the finished links is reserved here.
+    /// The place of the finished links is reserved here; `failing` has the numbers of the accepts
+    /// that fail, counted from 1.
     pub fn new(alloc: Global, links: Vec<L>, failing: Vec<u64>) -> Result<MemListener<L>, Memory>
         ensures links { IfOk result (λ l. to_come l ≡ links.items) }
         ensures done { IfOk result (λ l. put_back l ≡ []) }
-        ensures numbers { IfOk result (λ l. (script l).numbers ≡ failing) }
+        ensures script { IfOk result (λ l. IsFresh (script l) failing.items) }
     {
         let done = Vec::with_capacity(alloc, links.len())?;
         Ok(MemListener {
@@ -33,6 +36,7 @@ impl<L: Drop> MemListener<L> {
         })
     }
 
+    /// The links that were handed back, in that order.
     pub fn finished_links(&self) -> &[L]
         ensures { result.now ≡ put_back self.now }
     {
@@ -43,6 +47,8 @@ impl<L: Drop> MemListener<L> {
 impl<L: Link + Send + Drop> Listener for MemListener<L> {
     type Link = L;
 
+    ghost use Rattle.outside.specs.Faults.{Rose};
+    ghost use Rattle.outside.specs.Listener.{Accepts, AcceptsNumber, KeepsLinks};
     ghost use Rattle.outside.specs.MemListener.{to_come, put_back, script};
 
     ghost links_left = { λ l. Some (to_come l) };
@@ -57,7 +63,19 @@ impl<L: Link + Send + Drop> Listener for MemListener<L> {
 
     ghost in_hand = { λ l. l.in_hand };
 
-    fn accept(&mut self) -> Result<Accepted<L>, OutFault> {
+    fn accept(&mut self) -> Result<Accepted<L>, OutFault>
+        ensures link { Accepts (Some (to_come self.old)) (Some (to_come self.new)) result }
+        ensures number { AcceptsNumber self.old.accepted self.new.accepted result }
+        ensures finished { length (put_back self.new) ≡ length (put_back self.old) }
+        ensures finished_links { KeepsLinks (Some (put_back self.old)) (Some (put_back self.new)) }
+        ensures never_falls { (script self.old).faults ≤ (script self.new).faults }
+        ensures failed { IsErrOf result OutFault.Failed → Rose (script self.old).faults (script self.new).faults }
+
+        // It fails at the given calls alone.
+        ensures fails { IsErrOf result OutFault.Failed ↔ FailsNext (script self.old) }
+        ensures only { IsErr result → IsErrOf result OutFault.Failed }
+        ensures counts { CountsOne (script self.old) (script self.new) }
+    {
         if self.failing.next_fails() {
             return Err(OutFault::Failed);
         }

@@ -1,13 +1,14 @@
-ghost use Rattle.std.specs.Prelude.{◌≡◌, ◌≤◌, ◌<◌, ◌-◌, ◌↔◌, ◌⊎◌, ℕ, List, [], length, vec_capacity, min, Some, IfOk, IsErr, OnErr, Contains};
+//! A sink in memory.
+ghost use Rattle.std.specs.Prelude.{◌≡◌, ◌≤◌, ◌<◌, ◌-◌, ◌↔◌, ◌⊎◌, ℕ, List, [], length, vec_capacity, min, Some, IfOk, IsErr, OnErr};
 ghost use Rattle.std.specs.Io.KnownBytes.{WriteAppends};
 ghost use Rattle.outside.specs.Faults.{Rose};
-ghost use Rattle.outside.specs.Failing.{next_call};
+ghost use Rattle.outside.specs.Failing.{FailsNext, CountsOne, IsFresh};
 
 use crate::{Failed, Failing, Sink};
 use std::alloc::Global;
 use wopi_text::Memory;
 
-/// Takes bytes while there is room.
+/// Gathers bytes while there is room.
 #[derive(Drop)]
 pub struct MemSink {
     bytes: Vec<u8>,
@@ -20,13 +21,12 @@ pub struct MemSink {
 impl MemSink {
     ghost use Rattle.outside.specs.MemSink.{bytes_held, room_of, script};
 
-    /// The room is reserved here.
+    /// Room for so many bytes is reserved here; `failing` has the numbers of the writes that fail,
+    /// counted from 1.
     pub fn new(alloc: Global, room: usize, failing: Vec<u64>) -> Result<MemSink, Memory>
         ensures held { IfOk result (λ s. bytes_held s ≡ []) }
         ensures room { IfOk result (λ s. room_of s ≡ room) }
-        ensures numbers { IfOk result (λ s. (script s).numbers ≡ failing) }
-        ensures calls { IfOk result (λ s. (script s).calls ≡ 0) }
-        ensures faults { IfOk result (λ s. (script s).faults ≡ 0) }
+        ensures script { IfOk result (λ s. IsFresh (script s) failing.items) }
     {
         Ok(MemSink {
             bytes: Vec::with_capacity(alloc, room)?,
@@ -35,6 +35,7 @@ impl MemSink {
         })
     }
 
+    /// What was written.
     pub fn as_slice(&self) -> &[u8]
         ensures { result.now ≡ bytes_held self.now }
     {
@@ -57,11 +58,10 @@ impl Sink for MemSink {
         ensures failed { OnErr result (Rose (script self.old).faults (script self.new).faults) }
 
         // It fails at the given calls, and where a piece finds no room, and takes as much as it can.
-        ensures fails { IsErr result ↔ (Contains (script self.old).numbers.items (next_call (script self.old).calls)
+        ensures fails { IsErr result ↔ (FailsNext (script self.old)
             ⊎ ((0 < length piece.now) × (room_of self.old ≡ length (bytes_held self.old)))) }
         ensures number { IfOk result (λ n. n ≡ min (length piece.now) (room_of self.old - length (bytes_held self.old))) }
-        ensures calls { (script self.new).calls ≡ next_call (script self.old).calls }
-        ensures numbers { (script self.new).numbers ≡ (script self.old).numbers }
+        ensures counts { CountsOne (script self.old) (script self.new) }
         ensures room { room_of self.new ≡ room_of self.old }
     {
         if self.failing.next_fails() {

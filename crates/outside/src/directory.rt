@@ -1,0 +1,297 @@
+//! A folder of the file system.
+ghost use Rattle.std.specs.Prelude.{◌≡◌, ◌≤◌, ◌+◌, IsTrue, IfOk, None, length, string_len, string_capacity};
+ghost use Rattle.outside.specs.Faults.{Rose};
+ghost use Rattle.outside.specs.Folder.{all_differ};
+
+use crate::{Failed, Folder, FolderRead, Names, OutFault};
+use std::alloc::Global;
+use std::collections::BTreeSet;
+use std::fs::{self, File, Metadata, OpenFile};
+use std::io::{self, ErrorKind, Read, Write};
+use std::rt::Files;
+use wopi_text::{Bytes, Memory};
+
+// The most bytes of a file's name: beside it `.{name}.tmp` has to be a name too, and the systems'
+// limit is 255.
+const LONGEST_NAME: usize = 250;
+
+// How much a buffer grows by where a file is longer than its metadata said.
+const PIECE: usize = 65_536;
+
+/// The plain files of one folder of the file system. It tells nothing of content.
+///
+/// A file is replaced whole: the new contents go to `.{name}.tmp` beside it, are synced, and are
+/// renamed over the name, and then the folder is synced. So the name holds the old contents or the
+/// new ones at each moment, also after a crash. A file that is replaced keeps its permissions.
+///
+/// No file of the folder is what isn't a plain file (a folder, a link, a pipe), nor a name of more
+/// than 250 bytes, with a slash or a NUL, or of the form `.{name}.tmp`: such a name isn't listed, is
+/// read as absent, stays where it is removed, and can't be replaced.
+#[derive(Drop)]
+pub struct DirFolder<'a, R> {
+    rt: &'a R,
+    alloc: Global,
+    folder: String,
+    // Where the paths of a call are put together, with room for the longest.
+    path: String,
+    temporary: String,
+    faults: u64,
+    ghost path_fits: { string_len folder + 256 ≤ string_capacity path },
+    ghost temporary_fits: { string_len folder + 256 ≤ string_capacity temporary },
+}
+
+impl<'a, R: Files> DirFolder<'a, R> {
+    /// `folder` is its path. Room for the paths of files is reserved here.
+    pub fn new(alloc: Global, rt: &'a R, folder: &str) -> Result<DirFolder<'a, R>, Memory> {
+        let room = folder.len().saturating_add(256);
+        Ok(DirFolder {
+            rt,
+            alloc,
+            folder: String::from_str(alloc, folder)?,
+            path: String::with_capacity(alloc, room)?,
+            temporary: String::with_capacity(alloc, room)?,
+            faults: 0,
+        })
+    }
+
+    // Counts a fault.
+    fn fault(&mut self, error: io::Error) -> OutFault
+        ensures rose { Rose self.old.faults self.new.faults }
+        ensures never_falls { self.old.faults ≤ self.new.faults }
+    {
+        self.faults = self.faults.saturating_add(1);
+        if error.kind() == ErrorKind::OutOfMemory {
+            OutFault::Memory
+        } else {
+            OutFault::Failed
+        }
+    }
+
+    fn read_file(&mut self, name: &str, most: usize) -> io::Result<FolderRead>
+        ensures { self.new.faults ≡ self.old.faults }
+    {
+        if !is_name(name) {
+            return Ok(FolderRead::Absent);
+        }
+        join(&mut self.path, &self.folder, "", name, "");
+        contents_of(self.rt, self.alloc, &self.path, most)
+    }
+
+    fn replace_file(&mut self, name: &str, contents: &[u8]) -> io::Result<()>
+        ensures { self.new.faults ≡ self.old.faults }
+    {
+        if !is_name(name) {
+            return Err(io::Error::from(ErrorKind::InvalidFilename));
+        }
+        join(&mut self.path, &self.folder, "", name, "");
+        join(&mut self.temporary, &self.folder, ".", name, ".tmp");
+        store(self.rt, &self.path, &self.temporary, contents)?;
+        sync_folder(self.rt, &self.folder)
+    }
+
+    fn remove_file(&mut self, name: &str) -> io::Result<()>
+        ensures { self.new.faults ≡ self.old.faults }
+    {
+        if !is_name(name) {
+            return Ok(());
+        }
+        join(&mut self.path, &self.folder, "", name, "");
+        if let Some(_) = plain_file(self.rt, &self.path)? {
+            fs::remove_file(self.rt, &self.path)?;
+            sync_folder(self.rt, &self.folder)?;
+        }
+        Ok(())
+    }
+}
+
+impl<'a, R: Files> Folder for DirFolder<'a, R> {
+    ghost files = { λ _. None };
+
+    ghost faults = { λ f. f.faults };
+
+    fn list(&mut self) -> Result<Names, OutFault> {
+        match names_in(self.rt, self.alloc, &self.folder) {
+            Ok(names) => Ok(names),
+            Err(error) => Err(self.fault(error)),
+        }
+    }
+
+    fn read(&mut self, name: &str, most: usize) -> Result<FolderRead, OutFault> {
+        match self.read_file(name, most) {
+            Ok(read) => Ok(read),
+            Err(error) => Err(self.fault(error)),
+        }
+    }
+
+    fn replace(&mut self, name: &str, contents: &[u8]) -> Result<(), OutFault> {
+        match self.replace_file(name, contents) {
+            Ok(()) => Ok(()),
+            Err(error) => Err(self.fault(error)),
+        }
+    }
+
+    fn remove(&mut self, name: &str) -> Result<(), Failed> {
+        match self.remove_file(name) {
+            Ok(()) => Ok(()),
+            Err(error) => {
+                let _fault = self.fault(error);
+                Err(Failed)
+            }
+        }
+    }
+}
+
+// Whether a file of the folder may have this name.
+fn is_name(name: &str) -> bool
+    ensures { IsTrue result → length name.now ≤ 250 }
+{
+    let is_temporary = name.starts_with('.') && name.ends_with(".tmp");
+    !name.is_empty()
+        && name != "."
+        && name != ".."
+        && name.len() <= LONGEST_NAME
+        && !is_temporary
+        && !name.contains('/')
+        && !name.contains('\0')
+}
+
+// Puts a path together in the room that it has.
+fn join(path: &mut String, folder: &str, before: &str, name: &str, after: &str)
+    requires { length folder.now + (1 + (length before.now + (length name.now + length after.now))) ≤ string_capacity path.old }
+    ensures { string_capacity path.old ≤ string_capacity path.new }
+{
+    path.clear();
+    append(path, folder);
+    append(path, "/");
+    append(path, before);
+    append(path, name);
+    append(path, after);
+}
+
+fn append(path: &mut String, part: &str)
+    requires { string_len path.old + length part.now ≤ string_capacity path.old }
+    ensures len { string_len path.new ≡ string_len path.old + length part.now }
+    ensures capacity { string_capacity path.old ≤ string_capacity path.new }
+{
+    match path.push_str(part) {
+        Ok(()) => {}
+        Err(_) => unreachable!(),
+    }
+}
+
+// What the system says of a plain file; none where there is no plain file.
+fn plain_file<R: Files>(rt: &R, path: &str) -> io::Result<Option<Metadata>> {
+    match fs::symlink_metadata(rt, path) {
+        Ok(found) if found.is_file() => Ok(Some(found)),
+        Ok(_) => Ok(None),
+        Err(error) if error.kind() == ErrorKind::NotFound => Ok(None),
+        Err(error) => Err(error),
+    }
+}
+
+// The names of the plain files. A name that isn't UTF-8 is an error.
+fn names_in<R: Files>(rt: &R, alloc: Global, folder: &str) -> io::Result<Names>
+    ensures { IfOk result (λ names. IsTrue (all_differ names)) }
+{
+    let mut found = BTreeSet::new(alloc);
+    for entry in fs::read_dir(&(rt, alloc), folder)? {
+        let entry = entry?;
+        if is_name(entry.file_name()) && plain_file(rt, entry.path().as_str())?.is_some() {
+            found.insert(String::from_str(alloc, entry.file_name())?)?;
+        }
+    }
+    match in_order(alloc, found) {
+        Ok(names) => Ok(names),
+        Err(Memory) => Err(io::Error::from(ErrorKind::OutOfMemory)),
+    }
+}
+
+fn in_order(alloc: Global, found: BTreeSet<String>) -> Result<Names, Memory>
+    ensures { IfOk result (λ names. IsTrue (all_differ names)) }
+{
+    let mut names = Names::new(alloc);
+    for name in found {
+        names.push(name)?;
+    }
+    Ok(names)
+}
+
+// The bytes of a plain file.
+fn contents_of<R: Files>(rt: &R, alloc: Global, path: &str, most: usize) -> io::Result<FolderRead> {
+    let Some(found) = plain_file(rt, path)? else {
+        return Ok(FolderRead::Absent);
+    };
+    if found.len() > most as u64 {
+        return Ok(FolderRead::TooLong);
+    }
+    let mut file = File::open(rt, path)?;
+    match read_up_to(alloc, &mut file, found.len() as usize, most)? {
+        Some(bytes) => Ok(FolderRead::Whole(Bytes::from_vec(bytes))),
+        None => Ok(FolderRead::TooLong),
+    }
+}
+
+// What a reader gives up to its end; none where that is more than `most` bytes. `expected` is how
+// many they may be.
+fn read_up_to<F: Read>(
+    alloc: Global,
+    reader: &mut F,
+    expected: usize,
+    most: usize,
+) -> io::Result<Option<Vec<u8>>> {
+    let mut bytes = Vec::new(alloc);
+    bytes.resize(expected.saturating_add(1), 0u8)?;
+    let mut filled = 0;
+    while filled <= most {
+        if filled == bytes.len() {
+            bytes.resize(filled.saturating_add(PIECE), 0u8)?;
+        }
+        let count = reader.read(&mut bytes[filled..])?;
+        if count == 0 {
+            bytes.truncate(filled);
+            return Ok(Some(bytes));
+        }
+        filled += count;
+    }
+    Ok(None)
+}
+
+// Replaces a plain file, or makes one. Where this fails before the rename, nothing is left of it.
+fn store<R: Files>(rt: &R, path: &str, temporary: &str, contents: &[u8]) -> io::Result<()> {
+    let old = plain_file(rt, path)?;
+    if old.is_none() && fs::symlink_metadata(rt, path).is_ok() {
+        return Err(io::Error::from(ErrorKind::AlreadyExists));
+    }
+    let _leftover = fs::remove_file(rt, temporary);
+    let mut renamed = write_synced(rt, temporary, old, contents);
+    if renamed.is_ok() {
+        renamed = fs::rename(rt, temporary, path);
+    }
+    if renamed.is_err() {
+        let _leftover = fs::remove_file(rt, temporary);
+    }
+    renamed
+}
+
+// A new file with these contents, and with the permissions of the old one. A link isn't followed.
+fn write_synced<R: Files>(
+    rt: &R,
+    path: &str,
+    old: Option<Metadata>,
+    contents: &[u8],
+) -> io::Result<()> {
+    let mut file = File::create_new(rt, path)?;
+    if let Some(old) = old {
+        file.set_permissions(old.permissions())?;
+    }
+    file.write_all(contents)?;
+    file.sync_all()
+}
+
+// Makes a rename or a removal last. A file system that can't do that is no error.
+fn sync_folder<R: Files>(rt: &R, folder: &str) -> io::Result<()> {
+    match File::open(rt, folder)?.sync_all() {
+        Err(error) if error.kind() == ErrorKind::InvalidInput => Ok(()),
+        synced => synced,
+    }
+}
