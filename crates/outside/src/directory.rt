@@ -3,20 +3,18 @@ ghost use Rattle.std.specs.Prelude.{◌≡◌, ◌≤◌, ◌+◌, IsTrue, IfOk,
 ghost use Rattle.outside.specs.Faults.{Rose};
 ghost use Rattle.outside.specs.Folder.{all_differ};
 
+use crate::reading::read_up_to;
 use crate::{Failed, Folder, FolderRead, Names, OutFault};
 use std::alloc::Global;
 use std::collections::BTreeSet;
 use std::fs::{self, File, Metadata, OpenFile};
-use std::io::{self, ErrorKind, Read, Write};
+use std::io::{self, ErrorKind, Write};
 use std::rt::Files;
 use wopi_text::{Bytes, Memory};
 
 // The most bytes of a file's name: beside it `.{name}.tmp` has to be a name too, and the systems'
 // limit is 255.
 const LONGEST_NAME: usize = 250;
-
-// How much a buffer grows by where a file is longer than its metadata said.
-const PIECE: usize = 65_536;
 
 /// The plain files of one folder of the file system. It tells nothing of content.
 ///
@@ -229,31 +227,6 @@ fn contents_of<R: Files>(rt: &R, alloc: Global, path: &str, most: usize) -> io::
         Some(bytes) => Ok(FolderRead::Whole(Bytes::from_vec(bytes))),
         None => Ok(FolderRead::TooLong),
     }
-}
-
-// What a reader gives up to its end; none where that is more than `most` bytes. `expected` is how
-// many they may be.
-fn read_up_to<F: Read>(
-    alloc: Global,
-    reader: &mut F,
-    expected: usize,
-    most: usize,
-) -> io::Result<Option<Vec<u8>>> {
-    let mut bytes = Vec::new(alloc);
-    bytes.resize(expected.saturating_add(1), 0u8)?;
-    let mut filled = 0;
-    while filled <= most {
-        if filled == bytes.len() {
-            bytes.resize(filled.saturating_add(PIECE), 0u8)?;
-        }
-        let count = reader.read(&mut bytes[filled..])?;
-        if count == 0 {
-            bytes.truncate(filled);
-            return Ok(Some(bytes));
-        }
-        filled += count;
-    }
-    Ok(None)
 }
 
 // Replaces a plain file, or makes one. Where this fails before the rename, nothing is left of it.

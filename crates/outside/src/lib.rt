@@ -22,6 +22,7 @@ mod listener;
 mod memory;
 mod names;
 mod network;
+mod reading;
 mod standard;
 mod transfer;
 
@@ -36,6 +37,6 @@ pub use memory::{
     Failing, Lent, MemFolder, MemListener, MemSink, MemSource, Pair, ScriptClock, ScriptDialer,
 };
 pub use names::Names;
-pub use network::{TcpLink, TcpListen};
+pub use network::{TcpDialer, TcpLink, TcpListen};
 pub use standard::{StdSink, StdSource, SystemClock};
 pub use transfer::{read_link, write_link, write_whole};
