@@ -40,3 +40,6 @@ pub use names::Names;
 pub use network::{TcpDialer, TcpLink, TcpListen};
 pub use standard::{StdSink, StdSource, SystemClock};
 pub use transfer::{read_link, write_link, write_whole};
+
+#[cfg(test)]
+mod tests;

@@ -1,0 +1,4 @@
+mod adapters;
+mod fakes;
+mod files;
+mod stopping;
