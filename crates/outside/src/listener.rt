@@ -13,6 +13,7 @@ pub enum Accepted<L> {
 
 /// Where links come from, and where they go when they are done.
 pub trait Listener: Drop {
+    /// It is served in a worker's thread, hence `Send`.
     type Link: Link + Send;
 
     /// The links that will be accepted, where the object tells them.
@@ -30,6 +31,7 @@ pub trait Listener: Drop {
     /// How often an accept has failed.
     ghost faults: { Self → ℕ };
 
+    /// Waits for the next link. `Closed` says that none will come any more.
     fn accept(&mut self) -> Result<Accepted<Self::Link>, OutFault>
         ensures link { Accepts (links_left self.old) (links_left self.new) result }
         ensures number { AcceptsNumber (accepted self.old) (accepted self.new) result }
@@ -38,6 +40,7 @@ pub trait Listener: Drop {
         ensures never_falls { faults self.old ≤ faults self.new }
         ensures failed { IsErrOf result OutFault.Failed → Rose (faults self.old) (faults self.new) };
 
+    /// Hands back a link that was accepted. It takes no memory and never fails.
     fn finish(&mut self, link: Self::Link)
         requires { finished self.old < accepted self.old }
         ensures finished { finished self.new ≡ finished self.old + 1 }
