@@ -1,5 +1,5 @@
 -- The bytes between two places of a list.
-use Rattle.std.proofs.Common.{◌≡◌, ℕ, ◌+◌, ◌-◌, ◌<◌, ◌≤◌, List, [], ◌++◌, length, take, drop, Option, None, Some, sym, ap, ◌∙◌, arith, append_assoc, append-nil}
+use Rattle.std.proofs.Common.{◌≡◌, ℕ, ◌+◌, ◌-◌, ◌≤◌, List, ◌++◌, length, take, drop, Option, None, Some, sym, ap, ◌∙◌, arith, append_assoc, append-nil}
 use Rattle.std.specs.Io.KnownBytes.{Consumes, Keeps, prepend_known}
 use Rattle.std.proofs.lemmas.List.{length-take, drop-drop, drop-take}
 use Rattle.std.proofs.Math.Seq.{take-add}

@@ -1,4 +1,4 @@
-use Rattle.std.proofs.Common.{◌≡◌, ◌≤◌, ◌+◌, ◌-◌, length, take, ◌∙◌, subst, arith}
+use Rattle.std.proofs.Common.{◌≡◌, ◌+◌, ◌-◌, take, ◌∙◌, subst, arith}
 use Rattle.wopi_http.specs.Waits.{Takes}
 use Rattle.wopi_http.proofs.LookLemmas.{takes_then, takes_behind}
 use Rattle.wopi_http.proofs.body.read_to_end.Goals as goal
@@ -8,7 +8,10 @@ reading-preserved g c =
     let l = c.reading in
     let new = c.read_behind.new.space in
     let n = c.in-Ok.count in
-    let more = takes_behind _ _ l.body.items new.items l.done n c.in-Ok.ensures.front (omega (arith, c.in-Ok.ensures.fits, new.ok.0)) c.in-Ok.ensures.bytes in
+    let a = g.S.Source.left l.source in
+    let b = g.S.Source.left c.read_behind.new.source in
+    let more : Takes a b (take l.done l.body.items) (take (l.done + n) new.items) n =
+    takes_behind a b l.body.items new.items l.done n c.in-Ok.ensures.front (omega (arith, c.in-Ok.ensures.fits, new.ok.0)) c.in-Ok.ensures.bytes in
     let sum : l.done - c.args.filled + n ≡ l.done + n - c.args.filled = omega (arith, l.invariant.from) in
     record {
       from = omega (arith, l.invariant.from);

@@ -1,4 +1,4 @@
-use Rattle.std.proofs.Common.{◌≡◌, ◌≤◌, ◌<◌, ◌+◌, ◌-◌, ◌⊎◌, Bool, List, ℕ, Option, ◌++◌, drop, length, vec_len, sym, refl, subst, arith, ⊎_elim}
+use Rattle.std.proofs.Common.{◌≤◌, ◌<◌, ◌+◌, Bool, List, ℕ, ◌++◌, drop, vec_len, sym, refl, subst, arith, ⊎_elim}
 use Rattle.std.proofs.lemmas.Result.{IfOk-weaker}
 use Rattle.std.specs.Io.KnownBytes.{Consumes, prepend_known}
 use Rattle.wopi_http.specs.declared.chunked.ChunkRead.{ChunkRead}

@@ -1,7 +1,6 @@
-use Rattle.std.proofs.Common.{ap, List, ℕ, ◌++◌, ◌∙◌, subst}
+use Rattle.std.proofs.Common.{ap, List, ℕ, subst}
 use Rattle.std.specs.Io.KnownBytes.{Appends}
-use Rattle.outside.specs.Copy.{GrewByPrefix}
-use Rattle.wopi_http.proofs.WriteLemmas.{front_longer, Puts-flushed}
+use Rattle.wopi_http.proofs.WriteLemmas.{Puts-flushed}
 use Rattle.wopi_http.proofs.writing.put.Goals as goal
 
 pub returns-in-Ok-flush-clause-bytes : goal.returns-in-Ok-flush-clause-bytes

@@ -1,4 +1,4 @@
-use Rattle.std.proofs.Common.{ℕ, ◌+◌, ◌<◌, ◌≤◌, List, [], ◌++◌, ◌∙◌, length, take, get_or, subst, arith}
+use Rattle.std.proofs.Common.{ℕ, List, ◌++◌, ◌∙◌, take, get_or, subst, arith}
 use Rattle.std.specs.List.{flat_map}
 use Rattle.outside.specs.Copy.{GrewByPrefix}
 use Rattle.wopi_http.specs.declared.message.Field.{Field}

@@ -1,4 +1,4 @@
-use Rattle.std.proofs.Common.{ap, List, ℕ, ◌++◌, ◌∙◌}
+use Rattle.std.proofs.Common.{ap, ◌++◌, ◌∙◌}
 use Rattle.wopi_http.proofs.WriteLemmas.{Puts-written, Gathers-first}
 use Rattle.wopi_http.proofs.writing.put_first.Goals as goal
 

@@ -1,4 +1,4 @@
-use Rattle.std.proofs.Common.{ℕ, ◌+◌, ◌<◌, ◌≤◌, List, [], ◌++◌, ◌∙◌, length, take, get_or, Bor, subst, arith}
+use Rattle.std.proofs.Common.{ℕ, List, [], ◌++◌, ◌∙◌, take, get_or, Bor, subst, arith}
 use Rattle.std.specs.List.{flat_map}
 use Rattle.wopi_http.specs.Replies.{Gathers}
 use Rattle.wopi_http.proofs.WriteLemmas.{Gathers-then, part_then, part_more, text_more}

@@ -1,4 +1,4 @@
-use Rattle.std.proofs.Common.{◌≡◌, ◌+◌, ◌-◌, ◌++◌, ◌∙◌, ap, drop, take}
+use Rattle.std.proofs.Common.{◌++◌, ◌∙◌, ap, drop, take}
 use Rattle.wopi_http.proofs.BufferLemmas.{view_grown, keeps_grown, none_more}
 use Rattle.wopi_http.proofs.buffer.Buffer.fill.Goals as goal
 

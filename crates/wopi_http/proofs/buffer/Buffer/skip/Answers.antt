@@ -1,4 +1,4 @@
-use Rattle.std.proofs.Common.{◌≤◌, ◌∙◌, ap, drop, length, subst, sym, arith}
+use Rattle.std.proofs.Common.{◌≤◌, ◌∙◌, ap, drop, length, subst, sym}
 use Rattle.wopi_http.proofs.BufferLemmas.{view_skip}
 use Rattle.wopi_http.proofs.buffer.Buffer.skip.Goals as goal
 
