@@ -1,6 +1,6 @@
 use Rattle.std.proofs.Common.{ℕ, List, ◌++◌, ◌∙◌, take, get_or, subst, arith}
 use Rattle.std.specs.List.{flat_map}
-use Rattle.outside.specs.Copy.{GrewByPrefix}
+use Rattle.outside.specs.Stream.{GrewByPrefix}
 use Rattle.wopi_http.specs.declared.message.Field.{Field}
 use Rattle.wopi_http.specs.Replies.{Gathers, field_text}
 use Rattle.wopi_http.proofs.WriteLemmas.{Gathers-then, part_then, part_more, text_more}

@@ -1,7 +1,7 @@
 use Rattle.std.proofs.Common.{◌≡◌, ◌++◌, [], List, ℕ, subst, ap, ◌∙◌, append-nil}
 use Rattle.std.specs.Prelude.{codes}
 use Rattle.std.specs.List.{flat_map}
-use Rattle.outside.specs.Copy.{GrewByPrefix}
+use Rattle.outside.specs.Stream.{GrewByPrefix}
 use Rattle.wopi_http.specs.declared.message.Field.{Field}
 use Rattle.wopi_http.specs.Replies.{Puts, Gathers, field_text, status_line}
 use Rattle.wopi_http.proofs.WriteLemmas.{Puts-after, part_longer, part_after}
