@@ -1,0 +1,5 @@
+pub mod Counts
+pub mod OneReading
+pub mod PathLemmas
+pub mod Places
+pub mod Sizes

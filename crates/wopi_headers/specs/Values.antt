@@ -1,0 +1,12 @@
+-- What was found under a name.
+use Rattle.std.specs.Prelude.{ℕ, ◌≡◌, ◌<◌, List}
+use Rattle.wopi_http.specs.declared.message.Field.{Field}
+use Rattle.wopi_http.specs.Fields.{count_named}
+use Rattle.wopi_headers.specs.declared.reading.Value.{Value}
+use Rattle.wopi_headers.specs.declared.reading.Value.TheVariants.{Missing, Once, Several}
+use Rattle.wopi_headers.specs.Readings.{IsOnce}
+
+abbrev pub IsValue : List ℕ → List Field → Value → Type 0
+IsValue name fields Missing = count_named name fields ≡ 0
+IsValue name fields (Once value) = IsOnce name fields value.now
+IsValue name fields Several = 1 < count_named name fields
