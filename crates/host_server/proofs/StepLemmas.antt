@@ -1,0 +1,234 @@
+-- One message of a connection.
+use Rattle.std.proofs.Common.{◌≡◌, ℕ, Bool, true, false, List, [], ◌∷◌, ◌++◌, Option, None, Some, Result, Ok, Err, refl, sym, ap, ◌∙◌, subst, append_assoc, append-nil}
+use Rattle.std.specs.Io.KnownBytes.{Consumes, Appends}
+use Rattle.std.proofs.KnownBytes.{Appends-trans}
+use Rattle.outside.specs.declared.faults.Failed.{Failed}
+use Rattle.outside.specs.Clock.{GivesAll}
+use Rattle.outside.specs.Stream.{Are}
+use Rattle.wopi_http.specs.declared.message.Request.{Request}
+use Rattle.wopi_http.specs.declared.reading.Got.TheVariants.{Message, End as NoMore, Refused, ReadFault, WriteFault, Memory}
+use Rattle.wopi_http.specs.Answers.{hundred_text, Reads, Looked, IsRefused}
+use Rattle.wopi_http.specs.Replies.{Writes}
+use Rattle.wopi_headers.specs.declared.answer.Answer.{Answer}
+use Rattle.host_server.specs.Texts.{bare_reply}
+use Rattle.host_server.specs.Turns.{said_text, Turn, IsTurn}
+use Rattle.host_server.specs.Connection.{is_last, closed, empty, refused, wanted, line, reply, last, IsLine}
+use Rattle.host_server.specs.Steps.{Replies, StepsOn, StepsOver, Breaks}
+use Rattle.host_server.proofs.MoreLemmas.{GivesAll-nil}
+
+-- the told input, in two parts
+rest_of : (a b : Option (List ℕ)) (bytes : List ℕ) → Consumes a b bytes → (rest : List ℕ) × Are a (bytes ++ rest)
+rest_of None b bytes reads = ([], tt)
+rest_of (Some x) None bytes reads = absurd reads
+rest_of (Some x) (Some y) bytes reads = (y, reads)
+
+looked_of : (a : Option (List ℕ)) (bytes more : List ℕ) (hundred : Bool) → Looked a bytes more hundred → Looked (Some (bytes ++ more)) bytes more hundred
+looked_of a bytes more hundred looked = record { begins = refl; asks = looked.asks }
+
+refused_of : (a : Option (List ℕ)) (hundred : Bool) (s at : ℕ) (r : IsRefused a hundred s at) → IsRefused (Some (r.bytes ++ r.more)) hundred s at
+refused_of a hundred s at r = record {
+  bytes = r.bytes;
+  more = r.more;
+  ended = r.ended;
+  looked = looked_of a r.bytes r.more hundred r.looked;
+  bad = r.bad;
+  whole = r.whole;
+  count = r.count;
+}
+
+-- nothing came to the history, and no moment was given
+same_history : {E : Type 0} (history : List E) → history ≡ history ++ []
+same_history history = sym (append-nil history)
+
+module _ {E : Type 0} (Answered : Request → ℕ → List E → Answer → Type 0) (count : ℕ) (q : Request) (clock clock' : Option (List ℕ)) (history history' : List E) where
+  turn_of : (left left' held mid held' : Option (List ℕ)) (close : Bool) (result : Result (Unit {0}) Failed) → Reads left left' held mid (Message q)
+      → Replies Answered q close clock clock' history history' mid held' result → (t : Turn E) × IsTurn Answered t × (t.request ≡ q)
+      × Consumes left left' t.bytes × GivesAll clock clock' (t.moment ∷ []) × (history' ≡ history ++ t.part)
+      × Appends held mid (hundred_text t.hundred) × Writes mid held' result (said_text t.said close)
+  turn_of left left' held mid held' close result reads made = (
+    record { bytes = reads.answer.0; request = q; hundred = reads.hundred; moment = made.moment; part = made.part; said = made.said },
+    record { message = reads.answer.1; in_time = made.in_time; said = made.is_said },
+    refl,
+    reads.answer.2,
+    made.times,
+    made.makes,
+    reads.asked,
+    made.writes,
+  )
+
+  pub step_on : (left left' held mid held' : Option (List ℕ)) (done : Unit {0}) → Reads left left' held mid (Message q)
+      → Replies Answered q false clock clock' history history' mid held' (Ok done) → is_last count q ≡ false
+      → StepsOn Answered count left left' clock clock' history history' held held'
+  step_on left left' held mid held' done reads made stays =
+      let (t, is, same, used, times, makes, asked, said) = turn_of left left' held mid held' false (Ok done) reads made in
+      record {
+        turn = t;
+        is_turn = is;
+        stays = subst (λ r. is_last count r ≡ false) (sym same) stays;
+        reads = used;
+        times = times;
+        makes = makes;
+        writes = Appends-trans held mid held' _ _ asked said;
+      }
+
+  pub step_closed : (left left' held mid held' : Option (List ℕ)) (done : Unit {0}) → Reads left left' held mid (Message q)
+      → Replies Answered q true clock clock' history history' mid held' (Ok done) → is_last count q ≡ true
+      → StepsOver Answered count left clock clock' history history' held held'
+  step_closed left left' held mid held' done reads made closes =
+      let (t, is, same, used, times, makes, asked, said) = turn_of left left' held mid held' true (Ok done) reads made in
+      let (after, whole) = rest_of left left' t.bytes used in
+      record {
+        end = closed t;
+        rest = t.bytes ++ after;
+        reads = whole;
+        ends = (is, subst (λ r. is_last count r ≡ true) (sym same) closes, (after, refl));
+        times = times;
+        makes = makes;
+        writes = Appends-trans held mid held' _ _ asked said;
+      }
+
+  pub step_broken : (left left' held mid held' : Option (List ℕ)) (close : Bool) (fault : Failed) → Reads left left' held mid (Message q)
+      → Replies Answered q close clock clock' history history' mid held' (Err fault) → is_last count q ≡ close
+      → Breaks Answered count left clock clock' history history' held held'
+  step_broken left left' held mid held' false fault reads made stays =
+      let (t, is, same, used, times, makes, asked, said) = turn_of left left' held mid held' false (Err fault) reads made in
+      let (after, whole) = rest_of left left' t.bytes used in
+      let (front, back, parts, written) = said in
+      record {
+        next = reply t;
+        rest = t.bytes ++ after;
+        reads = whole;
+        is_next = (is, subst (λ r. is_last count r ≡ false) (sym same) stays, (after, refl));
+        times = times;
+        makes = makes;
+        front = hundred_text t.hundred ++ front;
+        back = back;
+        parts = ap (λ z. hundred_text t.hundred ++ z) parts ∙ sym (append_assoc (hundred_text t.hundred) front back);
+        writes = Appends-trans held mid held' _ _ asked written;
+      }
+  step_broken left left' held mid held' true fault reads made closes =
+      let (t, is, same, used, times, makes, asked, said) = turn_of left left' held mid held' true (Err fault) reads made in
+      let (after, whole) = rest_of left left' t.bytes used in
+      let (front, back, parts, written) = said in
+      record {
+        next = last (closed t);
+        rest = t.bytes ++ after;
+        reads = whole;
+        is_next = (is, subst (λ r. is_last count r ≡ true) (sym same) closes, (after, refl));
+        times = times;
+        makes = makes;
+        front = hundred_text t.hundred ++ front;
+        back = back;
+        parts = ap (λ z. hundred_text t.hundred ++ z) parts ∙ sym (append_assoc (hundred_text t.hundred) front back);
+        writes = Appends-trans held mid held' _ _ asked written;
+      }
+
+module _ {E : Type 0} (Answered : Request → ℕ → List E → Answer → Type 0) (count : ℕ) (left left' clock : Option (List ℕ)) (history : List E)
+    (held mid held' : Option (List ℕ)) where
+  pub step_refused : (s at : ℕ) (done : Unit {0}) → Reads left left' held mid (Refused s at) → Writes {T = Unit {0}} {E = Failed} mid held' (Ok done) (bare_reply s true)
+      → StepsOver Answered count left clock clock history history held held'
+  step_refused s at done reads said = record {
+    end = refused s reads.hundred;
+    rest = reads.answer.bytes ++ reads.answer.more;
+    reads = reads.answer.looked.begins;
+    ends = (at, refused_of left reads.hundred s at reads.answer);
+    times = GivesAll-nil clock;
+    makes = same_history history;
+    writes = Appends-trans held mid held' _ _ reads.asked said;
+  }
+
+  pub refusal_broken : (s at : ℕ) (fault : Failed) → Reads left left' held mid (Refused s at) → Writes {T = Unit {0}} {E = Failed} mid held' (Err fault) (bare_reply s true)
+      → Breaks Answered count left clock clock history history held held'
+  refusal_broken s at fault reads (front, back, parts, written) = record {
+    next = last (refused s reads.hundred);
+    rest = reads.answer.bytes ++ reads.answer.more;
+    reads = reads.answer.looked.begins;
+    is_next = (at, refused_of left reads.hundred s at reads.answer);
+    times = GivesAll-nil clock;
+    makes = same_history history;
+    front = hundred_text reads.hundred ++ front;
+    back = back;
+    parts = ap (λ z. hundred_text reads.hundred ++ z) parts ∙ sym (append_assoc (hundred_text reads.hundred) front back);
+    writes = Appends-trans held mid held' _ _ reads.asked written;
+  }
+
+  pub step_wanted : (done : Unit {0}) → Reads left left' held mid Memory → Writes {T = Unit {0}} {E = Failed} mid held' (Ok done) (bare_reply 503 true)
+      → StepsOver Answered count left clock clock history history held held'
+  step_wanted done reads said =
+      let (bytes, more, looked) = reads.answer in
+      record {
+        end = wanted reads.hundred;
+        rest = bytes ++ more;
+        reads = looked.begins;
+        ends = (bytes, more, looked_of left bytes more reads.hundred looked);
+        times = GivesAll-nil clock;
+        makes = same_history history;
+        writes = Appends-trans held mid held' _ _ reads.asked said;
+      }
+
+  pub want_broken : (fault : Failed) → Reads left left' held mid Memory → Writes {T = Unit {0}} {E = Failed} mid held' (Err fault) (bare_reply 503 true)
+      → Breaks Answered count left clock clock history history held held'
+  want_broken fault reads (front, back, parts, written) =
+      let (bytes, more, looked) = reads.answer in
+      record {
+        next = last (wanted reads.hundred);
+        rest = bytes ++ more;
+        reads = looked.begins;
+        is_next = (bytes, more, looked_of left bytes more reads.hundred looked);
+        times = GivesAll-nil clock;
+        makes = same_history history;
+        front = hundred_text reads.hundred ++ front;
+        back = back;
+        parts = ap (λ z. hundred_text reads.hundred ++ z) parts ∙ sym (append_assoc (hundred_text reads.hundred) front back);
+        writes = Appends-trans held mid held' _ _ reads.asked written;
+      }
+
+module _ {E : Type 0} (Answered : Request → ℕ → List E → Answer → Type 0) (count : ℕ) (left left' clock : Option (List ℕ)) (history : List E)
+    (held held' : Option (List ℕ)) where
+  pub step_end : Reads left left' held held' NoMore → StepsOver Answered count left clock clock history history held held'
+  step_end reads = record {
+    end = empty;
+    rest = [];
+    reads = reads.answer.0;
+    ends = refl;
+    times = GivesAll-nil clock;
+    makes = same_history history;
+    writes = subst (λ h. Appends held held' (hundred_text h)) reads.answer.1 reads.asked;
+  }
+
+  pub reading_broken : Reads left left' held held' ReadFault
+      → (breaks : Breaks Answered count left clock clock history history held held') × IsLine breaks.next × (breaks.back ≡ [])
+  reading_broken reads =
+      let (bytes, more, looked) = reads.answer in (
+        record {
+          next = line reads.hundred;
+          rest = bytes ++ more;
+          reads = looked.begins;
+          is_next = (bytes, more, looked_of left bytes more reads.hundred looked);
+          times = GivesAll-nil clock;
+          makes = same_history history;
+          front = hundred_text reads.hundred;
+          back = [];
+          parts = sym (append-nil (hundred_text reads.hundred));
+          writes = reads.asked;
+        },
+        tt,
+        refl,
+      )
+
+  pub asking_broken : Reads left left' held held' WriteFault → Breaks Answered count left clock clock history history held held'
+  asking_broken reads =
+      let (bytes, more, looked) = reads.answer in
+      let (asks, (front, back, parts, written)) = reads.asked in
+      record {
+        next = line true;
+        rest = bytes ++ more;
+        reads = looked.begins;
+        is_next = (bytes, more, looked_of left bytes more true (subst (Looked left bytes more) asks looked));
+        times = GivesAll-nil clock;
+        makes = same_history history;
+        front = front;
+        back = back;
+        parts = parts;
+        writes = written;
+      }

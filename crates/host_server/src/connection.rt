@@ -1,0 +1,170 @@
+//! A connection served to its end.
+ghost use Rattle.std.specs.Prelude.{◌≡◌, ◌≤◌, ◌<◌, ◌+◌, ◌==◌, OnErr};
+ghost use Rattle.std.specs.Io.KnownBytes.{prepend_known};
+ghost use Rattle.outside.specs.Faults.{Rose};
+ghost use Rattle.host_server.specs.Connection.{message_limit, is_last, Serves};
+ghost use Rattle.host_server.specs.Steps.{Makes, Replies, Steps};
+
+use crate::answering::Answerer;
+use crate::sending::{send, send_bare};
+use outside::{Clock, Failed, Link};
+use std::alloc::Global;
+use wopi_headers::reply_of;
+use wopi_http::{Buffer, Got, Reply, Request, closes, read_request};
+use wopi_text::Memory;
+
+/// The most messages of a connection.
+pub const MESSAGE_LIMIT: usize = 10_000;
+
+/// How a connection ended.
+#[derive(Clone, Copy, Debug, PartialEq, Eq)]
+pub enum ConnEnd {
+    /// The input was read to its end, or a refusal or a closing reply was written.
+    Done,
+    ReadFault,
+    WriteFault,
+    /// There was no memory to begin.
+    Memory,
+}
+
+/// Whether a connection goes on after a message.
+#[derive(Clone, Copy, Debug, PartialEq, Eq)]
+pub enum Progress {
+    On,
+    Over(ConnEnd),
+}
+
+/// Whether the message behind so many others closes.
+fn is_last(count: usize, request: &Request) -> bool
+    requires { count < message_limit }
+    ensures { result ≡ is_last count request.now }
+{
+    closes(request) || count + 1 == MESSAGE_LIMIT
+}
+
+/// The reply to a message, or none where there is no memory for one.
+fn reply_to<A: Answerer>(
+    alloc: Global,
+    answerer: &mut A,
+    request: Request,
+    moment: u64,
+    close: bool,
+) -> Option<Reply>
+    requires { moment < 253402300800000 }
+    ensures lent { A.references answerer.new ≡ A.references answerer.old }
+    ensures terms { A.terms answerer.new ≡ A.terms answerer.old }
+    ensures makes { Makes (A.answered (A.terms answerer.old)) request moment close (A.history answerer.old) (A.history answerer.new) result }
+{
+    match answerer.answer(request, moment) {
+        Ok(answer) => match reply_of(alloc, answer, close) {
+            Ok(reply) => Some(reply),
+            Err(Memory) => None,
+        },
+        Err(Memory) => None,
+    }
+}
+
+/// Answers a message.
+fn answer_message<A: Answerer, L: Link, C: Clock>(
+    alloc: Global,
+    answerer: &mut A,
+    link: &mut L,
+    clock: &mut C,
+    request: Request,
+    close: bool,
+) -> Result<(), Failed>
+    ensures lent { A.references answerer.new ≡ A.references answerer.old }
+    ensures terms { A.terms answerer.new ≡ A.terms answerer.old }
+    ensures replies { Replies (A.answered (A.terms answerer.old)) request close (C.moments clock.old) (C.moments clock.new)
+        (A.history answerer.old) (A.history answerer.new) (L.held link.old) (L.held link.new) result }
+    ensures left { L.left link.new ≡ L.left link.old }
+    ensures read_faults { L.read_faults link.new ≡ L.read_faults link.old }
+    ensures references { L.references link.new ≡ L.references link.old }
+    ensures never_falls { L.write_faults link.old ≤ L.write_faults link.new }
+    ensures failed { OnErr result (Rose (L.write_faults link.old) (L.write_faults link.new)) }
+{
+    let moment = clock.now();
+    let reply = reply_to(alloc, answerer, request, moment, close);
+    send(link, reply, close)
+}
+
+/// Reads a message behind so many others, and answers it.
+fn serve_one<A: Answerer, L: Link, C: Clock>(
+    alloc: Global,
+    answerer: &mut A,
+    link: &mut L,
+    clock: &mut C,
+    buffer: &mut Buffer,
+    count: usize,
+) -> Progress
+    requires { count < message_limit }
+    ensures lent { A.references answerer.new ≡ A.references answerer.old }
+    ensures terms { A.terms answerer.new ≡ A.terms answerer.old }
+    ensures steps { Steps (A.answered (A.terms answerer.old)) count (prepend_known buffer.old (L.left link.old)) (prepend_known buffer.new (L.left link.new))
+        (C.moments clock.old) (C.moments clock.new) (A.history answerer.old) (A.history answerer.new) (L.held link.old) (L.held link.new) result }
+    ensures references { L.references link.new ≡ L.references link.old }
+    ensures reads_count { L.read_faults link.old ≤ L.read_faults link.new }
+    ensures writes_count { L.write_faults link.old ≤ L.write_faults link.new }
+    ensures read_fault { result ≡ Progress.Over ConnEnd.ReadFault → Rose (L.read_faults link.old) (L.read_faults link.new) }
+    ensures write_fault { result ≡ Progress.Over ConnEnd.WriteFault → Rose (L.write_faults link.old) (L.write_faults link.new) }
+{
+    match read_request(link, buffer) {
+        Got::Message(request) => {
+            let close = is_last(count, &request);
+            match answer_message(alloc, answerer, link, clock, request, close) {
+                Ok(()) => {
+                    if close {
+                        Progress::Over(ConnEnd::Done)
+                    } else {
+                        Progress::On
+                    }
+                }
+                Err(Failed) => Progress::Over(ConnEnd::WriteFault),
+            }
+        }
+        Got::End => Progress::Over(ConnEnd::Done),
+        Got::Refused { status, at: _ } => match send_bare(link, status, true) {
+            Ok(()) => Progress::Over(ConnEnd::Done),
+            Err(Failed) => Progress::Over(ConnEnd::WriteFault),
+        },
+        Got::ReadFault => Progress::Over(ConnEnd::ReadFault),
+        Got::WriteFault => Progress::Over(ConnEnd::WriteFault),
+        Got::Memory => match send_bare(link, 503, true) {
+            Ok(()) => Progress::Over(ConnEnd::Done),
+            Err(Failed) => Progress::Over(ConnEnd::WriteFault),
+        },
+    }
+}
+
+/// Answers the messages of a link in their order.
+pub fn serve_connection<A: Answerer, L: Link, C: Clock>(
+    alloc: Global,
+    answerer: &mut A,
+    link: &mut L,
+    clock: &mut C,
+) -> ConnEnd
+    // What was read, written and done is a connection that ended so.
+    ensures serves { Serves (A.answered (A.terms answerer.old)) result (L.left link.old) (C.moments clock.old) (C.moments clock.new)
+        (A.history answerer.old) (A.history answerer.new) (L.held link.old) (L.held link.new) }
+    ensures lent { A.references answerer.new ≡ A.references answerer.old }
+    ensures terms { A.terms answerer.new ≡ A.terms answerer.old }
+    ensures references { L.references link.new ≡ L.references link.old }
+    ensures reads_count { L.read_faults link.old ≤ L.read_faults link.new }
+    ensures writes_count { L.write_faults link.old ≤ L.write_faults link.new }
+
+    // The causes of the ends.
+    ensures read_fault { result ≡ ConnEnd.ReadFault → Rose (L.read_faults link.old) (L.read_faults link.new) }
+    ensures write_fault { result ≡ ConnEnd.WriteFault → Rose (L.write_faults link.old) (L.write_faults link.new) }
+    ensures nothing_read { result ≡ ConnEnd.Memory → L.left link.new ≡ L.left link.old }
+{
+    let Ok(mut buffer) = Buffer::new(alloc) else {
+        return ConnEnd::Memory;
+    };
+    'messages: for count in 0..MESSAGE_LIMIT {
+        match serve_one(alloc, answerer, link, clock, &mut buffer, count) {
+            Progress::On => {}
+            Progress::Over(end) => return end,
+        }
+    }
+    unreachable!()
+}

@@ -1,0 +1,5 @@
+pub mod Words
+pub mod Notes
+pub mod Locks
+pub mod Once
+pub mod Runs

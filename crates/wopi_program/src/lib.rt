@@ -1,0 +1,22 @@
+//! The program: what its words ask for, and what it does with the outside world.
+//!
+//! [`run`] is the whole program but for the making of the real streams, folders and clocks. It is
+//! generic in all that it meets, so that its contract speaks of the bytes that were read and
+//! written. The command `once` answers the requests of its input, one after another, on its output.
+#![tactic(auto)]
+
+mod command;
+mod dispatch;
+mod locks;
+mod notes;
+mod once;
+mod outside_world;
+mod telling;
+
+pub use command::{Command, read_words};
+pub use dispatch::run;
+pub use locks::{Entry, Locks};
+pub use notes::note;
+pub use once::run_once;
+pub use outside_world::Outside;
+pub use telling::{help, refuse, tell, version};

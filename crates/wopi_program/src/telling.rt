@@ -1,0 +1,71 @@
+//! The commands that only write a text, and words that are no command.
+ghost use Rattle.std.specs.Prelude.{◌≡◌, ◌⊎◌, ◌≤◌};
+ghost use Rattle.std.specs.Io.KnownBytes.{Appends};
+ghost use Rattle.outside.specs.Faults.{Rose};
+ghost use Rattle.outside.specs.Stream.{GrewByPrefix};
+ghost use Rattle.wopi_program.specs.Notes.{NotesFor};
+ghost use Rattle.wopi_program.specs.Runs.{TextEnds, UsageEnds, help_text, version_text};
+
+use crate::{Outside, note};
+use outside::{Clock, Dialer, Failed, Folder, Listener, Sink, Source, write_whole};
+
+/// Writes a text to the output, and gives the status.
+fn say<K: Sink>(output: &mut K, text: &[u8]) -> u8
+    ensures statuses { (result ≡ 0) ⊎ (result ≡ 4) }
+    ensures done { result ≡ 0 → Appends (K.held output.old) (K.held output.new) text.now }
+    ensures cut { result ≡ 4 → GrewByPrefix (K.held output.old) (K.held output.new) text.now }
+    ensures cause { result ≡ 4 → Rose (K.write_faults output.old) (K.write_faults output.new) }
+{
+    match write_whole(output, text) {
+        Ok(()) => 0,
+        Err(Failed) => 4,
+    }
+}
+
+/// Says on the notes that a write failed, where one did.
+fn note_status<K: Sink>(notes: &mut K, status: u8)
+    requires { (status ≡ 0) ⊎ (status ≡ 4) }
+    ensures { NotesFor K.held K.write_faults status notes.old notes.new }
+{
+    if status == 4 {
+        note(notes, b"write fault\n");
+    }
+}
+
+/// Writes a text to the output.
+pub fn tell<S: Source, K: Sink, F: Folder, N: Listener, D: Dialer, C: Clock>(
+    outside: &mut Outside<S, K, F, N, D, C>,
+    text: &[u8],
+) -> u8
+    ensures { TextEnds K.held K.write_faults text.now result outside.old outside.new }
+{
+    let status = say(&mut outside.output, text);
+    note_status(&mut outside.notes, status);
+    status
+}
+
+/// The words that the program knows.
+#[tactic(auto, unfolding(crate::specs::Runs::help_text))]
+pub fn help() -> &'static [u8]
+    ensures { result.now ≡ help_text }
+{
+    b"mokdrai once FOLDER KEY BASE   answers the requests of the input on the output\nmokdrai --help                 writes these lines\nmokdrai --version              writes the version\n"
+}
+
+/// The program's name and version.
+#[tactic(auto, unfolding(crate::specs::Runs::version_text))]
+pub fn version() -> &'static [u8]
+    ensures { result.now ≡ version_text }
+{
+    b"mokdrai 0.1.0\n"
+}
+
+/// Says that the words are no command.
+pub fn refuse<S: Source, K: Sink, F: Folder, N: Listener, D: Dialer, C: Clock>(
+    outside: &mut Outside<S, K, F, N, D, C>,
+) -> u8
+    ensures { UsageEnds K.held K.write_faults result outside.old outside.new }
+{
+    note(&mut outside.notes, b"usage\n");
+    2
+}
