@@ -19,12 +19,7 @@ pub fn run<
     N: Listener + Send,
     D: Dialer,
     C: Clock + Send,
->(
-    _rt: &R,
-    alloc: Global,
-    words: &[String],
-    outside: &mut Outside<S, K, F, N, D, C>,
-) -> u8
+>(_rt: &R, alloc: Global, words: &[String], outside: &mut Outside<S, K, F, N, D, C>) -> u8
     requires once { command_of (map string_bytes words.now) ≡ Some Command.Once
         → (length outside.old.folders.items ≡ 1) × (length outside.old.clocks.items ≡ 1) }
 

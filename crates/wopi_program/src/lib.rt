@@ -20,3 +20,6 @@ pub use notes::note;
 pub use once::run_once;
 pub use outside_world::Outside;
 pub use telling::{help, refuse, tell, version};
+
+#[cfg(test)]
+mod tests;

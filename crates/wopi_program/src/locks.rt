@@ -109,7 +109,12 @@ fn lock_answer(alloc: Global, id: &LockId, standing: LockId) -> Answer
 }
 
 /// Takes the lock, or tells which one stands.
-fn lock(alloc: Global, entries: &mut Vec<Entry>, file: FileName, id: LockId) -> Result<Answer, Memory>
+fn lock(
+    alloc: Global,
+    entries: &mut Vec<Entry>,
+    file: FileName,
+    id: LockId,
+) -> Result<Answer, Memory>
     ensures ruled { IfOk result (λ a. (standing : List ℕ) × (standing ≡ unwrap_or (holder entries.old.items file) id)
         × (entries.new.items ≡ entries.old.items ++ record { file = file; id = id; standing = standing } ∷ []) × (a ≡ lock_answer id standing)) }
     ensures same { OnErr result (entries.new.items ≡ entries.old.items) }

@@ -1,0 +1,126 @@
+//! The program over fakes in memory: each request and its reply to the byte.
+mod faults;
+mod refusals;
+mod replies;
+
+ghost use Rattle.std.specs.Prelude.{◌≡◌, IfOk, length};
+
+use crate::{Outside, run};
+use outside::{MemFolder, MemListener, MemSink, MemSource, Pair, ScriptClock, ScriptDialer};
+use std::alloc::Global;
+use std::sync::Wait;
+use std::thread::Threads;
+use wopi_text::{Bytes, Memory};
+
+type Links = MemListener<Pair<MemSource, MemSink>>;
+
+type Fakes = Outside<MemSource, MemSink, MemFolder, Links, ScriptDialer, ScriptClock>;
+
+/// The words of a run.
+pub const ONCE: [&str; 4] = ["once", ".", "4a656665", "http://localhost:8880"];
+
+/// An input, and how its streams fail.
+#[derive(Drop)]
+pub struct Given<'a> {
+    pub input: &'a [u8],
+    pub piece: usize,
+    pub failing_reads: &'a [u64],
+    pub failing_writes: &'a [u64],
+}
+
+/// What a run left.
+#[derive(Drop)]
+pub struct Left {
+    pub status: u8,
+    pub output: MemSink,
+    pub notes: MemSink,
+}
+
+fn words(alloc: Global, list: &[&str]) -> Result<Vec<String>, Memory> {
+    let mut words = Vec::new(alloc);
+    for word in list {
+        words.push(String::from_str(alloc, word)?)?;
+    }
+    Ok(words)
+}
+
+fn folders(alloc: Global) -> Result<Vec<MemFolder>, Memory>
+    ensures { IfOk result (λ folders. length folders.items ≡ 1) }
+{
+    let mut folders = Vec::new(alloc);
+    folders.push(MemFolder::new(alloc, Vec::new(alloc), Vec::new(alloc)))?;
+    Ok(folders)
+}
+
+fn clocks(alloc: Global) -> Result<Vec<ScriptClock>, Memory>
+    ensures { IfOk result (λ clocks. length clocks.items ≡ 1) }
+{
+    let mut clocks = Vec::new(alloc);
+    clocks.push(ScriptClock::new(0, Vec::new(alloc)))?;
+    Ok(clocks)
+}
+
+fn fakes(alloc: Global, given: &Given) -> Result<Fakes, Memory>
+    ensures { IfOk result (λ outside. (length outside.folders.items ≡ 1) × (length outside.clocks.items ≡ 1)) }
+{
+    let input = Bytes::from_slice(alloc, given.input)?;
+    let reads = given.failing_reads.to_vec(alloc)?;
+    let writes = given.failing_writes.to_vec(alloc)?;
+    Ok(Outside {
+        input: MemSource::new(input, given.piece.max(1), reads),
+        output: MemSink::new(alloc, 2_000_000, writes)?,
+        notes: MemSink::new(alloc, 100, Vec::new(alloc))?,
+        folders: folders(alloc)?,
+        listeners: Vec::new(alloc),
+        dialer: ScriptDialer::new(alloc, Vec::new(alloc)),
+        clocks: clocks(alloc)?,
+    })
+}
+
+/// Runs the program with these words.
+pub fn run_with<R: Threads + Wait + Sync>(
+    rt: &R,
+    alloc: Global,
+    list: &[&str],
+    given: &Given,
+) -> Result<Left, Memory> {
+    let words = words(alloc, list)?;
+    let mut outside = fakes(alloc, given)?;
+    let status = run(rt, alloc, &words, &mut outside);
+    let Outside {
+        input: _,
+        output,
+        notes,
+        folders: _,
+        listeners: _,
+        dialer: _,
+        clocks: _,
+    } = outside;
+    Ok(Left {
+        status,
+        output,
+        notes,
+    })
+}
+
+/// Runs `once` on an input that comes in one piece.
+pub fn once<R: Threads + Wait + Sync>(rt: &R, alloc: Global, input: &[u8]) -> Result<Left, Memory> {
+    let given = Given {
+        input,
+        piece: 1_000_000,
+        failing_reads: &[],
+        failing_writes: &[],
+    };
+    run_with(rt, alloc, &ONCE, &given)
+}
+
+/// A Lock request on `a.csv` with this id, and a token that is there.
+pub fn lock_request(alloc: Global, id: &str) -> Result<Vec<u8>, Memory> {
+    let mut text = Vec::new(alloc);
+    text.extend_from_slice(
+        b"POST /wopi/files/612e637376?access_token=t HTTP/1.1\r\nHost: h\r\nX-WOPI-Override: LOCK\r\nX-WOPI-Lock: ",
+    )?;
+    text.extend_from_slice(id.as_bytes())?;
+    text.extend_from_slice(b"\r\nContent-Length: 0\r\n\r\n")?;
+    Ok(text)
+}
