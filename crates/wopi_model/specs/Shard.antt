@@ -1,0 +1,105 @@
+-- The files of one shard, and what happens to them.
+use Rattle.std.specs.Prelude.{⊤, ◌↔◌, ℕ, ◌<◌, max, List, [], ◌∷◌, map, if◌then◌else◌}
+use Rattle.std.specs.Str.{bytes_eq}
+use Rattle.std.specs.List.{Contains}
+use Rattle.std.specs.List.Sorted.{IsStrictlySortedBy}
+use Rattle.std.specs.Ordering.{nat_cmp}
+use Rattle.std.specs.Cmp.Lexicographic.{slice_cmp}
+use Rattle.wopi_model.specs.File.{File, never_met, opened_with}
+use Rattle.wopi_model.specs.Settle.{settled}
+use Rattle.wopi_model.specs.declared.calls.Call.{Call}
+use Rattle.wopi_model.specs.declared.calls.Ruling.{Ruling}
+use Rattle.wopi_model.specs.Step.{IsOutcome, after_step}
+
+-- `files` has a file for each name, also for one that was never met
+pub record Shard : Type 0 where
+  pub opened : ℕ
+  pub now : ℕ
+  pub files : List ℕ → File
+
+-- names and contents, each name once
+abbrev pub Opening : Type 0
+Opening = List (List ℕ × List ℕ)
+
+abbrev pub opening_file : Opening → List ℕ → File
+opening_file [] name = never_met
+opening_file ((first, contents) ∷ rest) name =
+    if bytes_eq first name then opened_with contents else opening_file rest name
+
+abbrev pub opened_shard : Opening → ℕ → Shard
+opened_shard opening opened = record { opened = opened; now = opened; files = opening_file opening }
+
+-- the names with a version, in the order of their bytes
+pub record AreNames (shard : Shard) (names : List (List ℕ)) : Type 0 where
+  pub ordered : IsStrictlySortedBy (slice_cmp nat_cmp) names
+  pub exact : (name : List ℕ) → Contains names name ↔ (0 < (shard.files name).version)
+
+pub record Entry : Type 0 where
+  pub stamp : ℕ
+  pub pass : ℕ
+  pub moment : ℕ
+  pub call : Call
+  pub ruling : Ruling
+
+pub data Item : Type 0 where
+  Tick : (moment : ℕ) → Item
+  Step : (entry : Entry) → Item
+
+-- time goes on to that moment, unless it is later already
+abbrev pub at_moment : Shard → ℕ → Shard
+at_moment shard moment =
+    let now = max shard.now moment in
+    record { opened = shard.opened; now = now; files = λ name. settled (shard.files name) now }
+
+abbrev pub with_file : Shard → List ℕ → File → Shard
+with_file shard name file =
+    record shard { files = λ other. if bytes_eq name other then file else shard.files other }
+
+-- the shard after an entry, and what comes of the entry's file: at is the shard at the entry's moment
+abbrev pub after_entry : Shard → Entry → Shard
+after_entry at entry =
+    with_file at entry.call.name (after_step (at.files entry.call.name) entry.call at.opened at.now entry.ruling)
+
+abbrev pub happens : Shard → Item → Shard
+happens shard (Tick moment) = at_moment shard moment
+happens shard (Step entry) = after_entry (at_moment shard entry.moment) entry
+
+-- the shard after the items, in order
+abbrev pub after : Shard → List Item → Shard
+after shard [] = shard
+after shard (item ∷ items) = after (happens shard item) items
+
+-- the item's ruling is an outcome of the step at its place
+abbrev pub IsAllowed : Shard → Item → Type 0
+IsAllowed shard (Tick moment) = ⊤
+IsAllowed shard (Step entry) =
+    let at = at_moment shard entry.moment in
+    IsOutcome (at.files entry.call.name) entry.call at.opened at.now entry.ruling
+
+-- P holds of each item at its place, after the items before it
+abbrev pub Along : (Shard → Item → Type 0) → Shard → List Item → Type 0
+Along P shard [] = ⊤
+Along P shard (item ∷ items) = P shard item × Along P (happens shard item) items
+
+abbrev pub entries : List Item → List Entry
+entries [] = []
+entries (Tick moment ∷ items) = entries items
+entries (Step entry ∷ items) = entry ∷ entries items
+
+abbrev pub stamps : List Entry → List ℕ
+stamps entries = map (λ entry. entry.stamp) entries
+
+-- each stamp is above the one before, the first above that number
+abbrev pub RisesFrom : ℕ → List ℕ → Type 0
+RisesFrom low [] = ⊤
+RisesFrom low (stamp ∷ rest) = (low < stamp) × RisesFrom stamp rest
+
+-- the last stamp, or that number where there is none
+abbrev pub last_from : ℕ → List ℕ → ℕ
+last_from low [] = low
+last_from low (stamp ∷ rest) = last_from stamp rest
+
+-- a history that one shard may have
+pub record Legal (opening : Opening) (opened : ℕ) (history : List Item) : Type 0 where
+  pub allowed : Along IsAllowed (opened_shard opening opened) history
+  pub stamps : RisesFrom 0 (stamps (entries history))

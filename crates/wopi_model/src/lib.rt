@@ -1,0 +1,25 @@
+//! What the host does, as definitions that the contracts of the other crates cite, and the plain
+//! data that these definitions speak of.
+//!
+//! The definitions stand in `specs/`: a file as the host keeps it (`File`), what the passing of time
+//! does to it (`Settle`), which acts a lock lets through (`LockTable`), what one act on one file is
+//! answered and leaves (`Step`), the files of one shard and the histories that it may have
+//! (`Shard`), sixteen shards with one journal, and when a shard is full (`Host`). What no history
+//! may do stands in `Safety`. The laws that tie them are the functions of [`laws`].
+//!
+//! A moment is a number of milliseconds. What happens to a lock follows MS-WOPI's pages on the
+//! operations Lock, RefreshLock, Unlock, UnlockAndRelock, PutFile, PutRelativeFile and DeleteFile;
+//! that an id which has ended is refused for a while, and what a token has to be, are this
+//! project's own rules.
+#![tactic(auto)]
+
+mod calls;
+pub mod laws;
+mod locks;
+mod token;
+mod user;
+
+pub use calls::{Act, Call, Ruling};
+pub use locks::{Judged, Lock, LockAct, Spent, Verdict};
+pub use token::Token;
+pub use user::User;
