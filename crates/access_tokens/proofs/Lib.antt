@@ -1,0 +1,5 @@
+mod Blocks
+mod Bytes
+mod Decimals
+mod Parts
+mod Readings

@@ -1,0 +1,20 @@
+use Rattle.std.proofs.Common.{◌≡◌, ℕ, ◌<◌, length, get_or, refl, ap, arith, below_more}
+use Rattle.std.proofs.lemmas.Bool.{eqb-true, eq-eqb}
+use Rattle.std.proofs.lemmas.Grind.{same_number_lists}
+use Rattle.access_tokens.proofs.Blocks.{no_difference, same_so_far}
+use Rattle.access_tokens.proofs.reading.are_equal.Goals as goal
+
+pub loop-i-preserved : goal.loop-i-preserved
+loop-i-preserved c = (
+  λ none.
+      let so_far = no_difference c.loop-i.differences _ _ none in
+      below_more _ _ (c.loop-i.invariant.0 so_far.0) so_far.1,
+  λ same.
+      same_so_far c.loop-i.differences _ _ (c.loop-i.invariant.1 (λ k h. same k (omega arith))) (same c.loop-i.i (omega arith)),
+)
+
+pub returns : goal.returns
+returns c = (
+  λ none. same_number_lists _ _ c.requires (λ k h. c.loop-i.invariant.0 (eqb-true _ _ none) k (omega arith)),
+  λ same. eq-eqb _ _ (c.loop-i.invariant.1 (λ k h. ap (λ xs. get_or xs k 0) same)),
+)

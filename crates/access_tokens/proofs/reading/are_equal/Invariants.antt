@@ -1,0 +1,8 @@
+use Rattle.std.proofs.Common.{◌≡◌, ℕ, ◌<◌, get_or}
+use Rattle.access_tokens.proofs.reading.are_equal.Given as goal
+
+-- there is no difference so far just where each byte so far is the same
+abbrev pub invariant-loop-i : goal.invariant-loop-i
+invariant-loop-i l =
+    (l.differences ≡ 0 → (k : ℕ) → k < l.i → get_or l.first k 0 ≡ get_or l.second k 0)
+    × (((k : ℕ) → k < l.i → get_or l.first k 0 ≡ get_or l.second k 0) → l.differences ≡ 0)

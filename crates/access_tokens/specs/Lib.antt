@@ -1,0 +1,4 @@
+pub mod Fields
+pub mod Hmac
+pub mod Key
+pub mod TokenText
