@@ -65,8 +65,8 @@ IsBytes-hmac key text = IsBytes-sha256 _
 pub IsMac-mac_of : (key text : List ℕ) → IsMac (mac_of key text)
 IsMac-mac_of key text = record {
   sized =
-    let len = length-hmac key text in
-    let twice = length-encode_with lower_digits (hmac key text) in
-    twice ∙ ap (λ n. 2 * n) len;
+      let len = length-hmac key text in
+      let twice = length-encode_with lower_digits (hmac key text) in
+      twice ∙ ap (λ n. 2 * n) len;
   lower = lower-encode (hmac key text) (IsBytes-hmac key text);
 }

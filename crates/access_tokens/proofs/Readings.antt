@@ -38,15 +38,28 @@ Lacks-decimal n h = Lacks-list_all is_ascii_digit (decimal n) refl (digits_decim
 -- no field of a token has a period
 fields-lack : (token : Token) (mac : List ℕ) → IsWritable token → IsMac mac → EachLacks (fields_of token mac)
 unfolding EachLacks
-fields-lack token mac form digits =
-    (Lacks-list_all (λ byte. is_user_byte byte) (codes "v1") refl refl,
-    (Lacks-list_all is_user_byte token.user refl form.user.letters,
-    (Lacks-list_all is_lower_digit (id_of token.file) refl (lower-encode token.file (IsBytes-IsUtf8 token.file form.file.utf8)),
-    (Lacks-rights token.write,
-    (Lacks-decimal token.serial form.serial,
-    (Lacks-decimal token.issued (omega (arith, form.issued)),
-    (Lacks-decimal token.expires (omega (arith, form.expires)),
-    (Lacks-list_all is_lower_digit mac refl digits.lower, tt))))))))
+fields-lack token mac form digits = (
+  Lacks-list_all (λ byte. is_user_byte byte) (codes "v1") refl refl,
+  (
+    Lacks-list_all is_user_byte token.user refl form.user.letters,
+    (
+      Lacks-list_all is_lower_digit (id_of token.file) refl (lower-encode token.file (IsBytes-IsUtf8 token.file form.file.utf8)),
+      (
+        Lacks-rights token.write,
+        (
+          Lacks-decimal token.serial form.serial,
+          (
+            Lacks-decimal token.issued (omega (arith, form.issued)),
+            (
+              Lacks-decimal token.expires (omega (arith, form.expires)),
+              (Lacks-list_all is_lower_digit mac refl digits.lower, tt),
+            ),
+          ),
+        ),
+      ),
+    ),
+  ),
+)
 
 -- a reading shows the parts of the text
 pub parts_of-reading : (text : List ℕ) (token : Token) (mac : List ℕ) → IsReading text token mac → parts_of text ≡ fields_of token mac
@@ -113,9 +126,9 @@ one_reading text token other mac code first second =
     let a = first.form in
     let b = second.form in (
       same_token token other (at 1) (id_of-injective token.file other.file a.file b.file (at 2)) (same_rights _ _ (at 3))
-      (decimal_injective token.serial other.serial a.serial b.serial (at 4))
-      (decimal_injective token.issued other.issued (omega (arith, a.issued)) (omega (arith, b.issued)) (at 5))
-      (decimal_injective token.expires other.expires (omega (arith, a.expires)) (omega (arith, b.expires)) (at 6)),
+          (decimal_injective token.serial other.serial a.serial b.serial (at 4))
+          (decimal_injective token.issued other.issued (omega (arith, a.issued)) (omega (arith, b.issued)) (at 5))
+          (decimal_injective token.expires other.expires (omega (arith, a.expires)) (omega (arith, b.expires)) (at 6)),
       at 7,
     )
 
