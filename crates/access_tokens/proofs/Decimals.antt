@@ -1,13 +1,12 @@
 -- Each number has one canonical decimal, the one that `decimal` writes.
-use Rattle.std.proofs.Common.{◌≡◌, ℕ, ◌+◌, ◌<◌, ◌≤◌, ◌^◌, Bool, true, false, cond, not, ◌&&◌, ◌||◌, ◌⊎◌, nat_lt, ◌==◌, List, [], ◌∷◌, length, get_or, Option, Some, None, refl, sym, ap, ◌∙◌, arith, rules, inl, inr}
+use Rattle.std.proofs.Common.{◌≡◌, ℕ, ◌<◌, ◌^◌, Bool, true, false, cond, ◌&&◌, ◌⊎◌, nat_lt, List, length, get_or, Option, Some, None, refl, sym, ap, ◌∙◌, arith, rules, inl, inr}
 use Rattle.std.specs.List.{list_all}
 use Rattle.std.specs.Char.{is_ascii_digit}
 use Rattle.std.specs.Fmt.{decimal}
 use Rattle.std.specs.Str.Parse.{digits_value}
-use Rattle.std.proofs.lemmas.Bool.{and_parts, cases_lt, ltb-true, lt-ltb, eqb-true}
+use Rattle.std.proofs.lemmas.Bool.{and_parts, cases_lt, ltb-true, lt-ltb}
 use Rattle.std.proofs.lemmas.Str.Parse.{IsNumeralModel, numerals_by_value}
 use Rattle.std.proofs.lemmas.Fmt.{decimal-digits_value, decimal_nonempty, decimal_digit, digits_decimal, digits_value-decimal, first_decimal}
-use Rattle.std.proofs.lemmas.Grind.{common_steps}
 use Rattle.wopi_text.specs.Decimals.{are_digits, decimal_of, digits_of, has_no_leading_zero}
 
 unfoldable pub AreDigits : List ℕ → Type 0

@@ -1,12 +1,11 @@
 -- The parts of a text between its periods.
-use Rattle.std.proofs.Common.{◌≢◌, ◌≡◌, ℕ, ◌<◌, Bool, true, false, not, ◌==◌, List, [], ◌∷◌, ◌++◌, length, get_or, take, drop, ◌+◌, ◌≤◌, cond, nat_lt, Option, Some, None, refl, sym, ap, ◌∙◌, arith}
-use Rattle.std.specs.Prelude.{All, position, count_by, is_some}
+use Rattle.std.proofs.Common.{◌≢◌, ◌≡◌, ℕ, Bool, true, false, ◌==◌, List, [], ◌∷◌, length, get_or, take, drop, ◌+◌, ◌≤◌, cond, nat_lt, Option, Some, None, refl, ap, ◌∙◌, arith}
+use Rattle.std.specs.Prelude.{All, position, is_some}
 use Rattle.std.specs.Bool.{⊤}
-use Rattle.std.specs.List.{slice_split, list_all, join_with_byte, position_or_len}
-use Rattle.std.specs.Char.{is_ascii_digit}
+use Rattle.std.specs.List.{list_all, join_with_byte, position_or_len}
 use Rattle.std.proofs.lemmas.Bool.{eqb-true, ltb-true, lt-ltb}
 use Rattle.std.proofs.lemmas.List.Sums.{AllPass-from_list_all, fails_before_first}
-use Rattle.std.proofs.lemmas.List.Splits.{length-slice_split, slice_split_none, slice_split_at, slice_split_first, join_with_byte-slice_split}
+use Rattle.std.proofs.lemmas.List.Splits.{length-slice_split, slice_split_none, slice_split_at, slice_split_first}
 use Rattle.access_tokens.specs.Fields.{parts_of}
 
 -- no byte is a period

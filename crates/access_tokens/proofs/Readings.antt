@@ -1,17 +1,16 @@
 -- The readings of a text.
-use Rattle.std.proofs.Common.{◌≡◌, ℕ, ◌+◌, ◌-◌, ◌<◌, ◌≤◌, ◌^◌, Bool, true, false, List, [], ◌∷◌, ◌++◌, length, get_or, take, Result, Ok, Err, ◌≢◌, refl, sym, ap, subst, ◌∙◌, append_assoc, arith, length-append}
+use Rattle.std.proofs.Common.{◌≡◌, ℕ, ◌-◌, ◌<◌, ◌≤◌, ◌^◌, Bool, true, false, List, [], ◌∷◌, ◌++◌, length, get_or, take, Result, Ok, Err, ◌≢◌, refl, sym, ap, subst, ◌∙◌, append_assoc, arith, length-append}
 use Rattle.std.specs.Prelude.{codes, ◌↔◌}
-use Rattle.std.specs.List.{join_with_byte, slice_split}
+use Rattle.std.specs.List.{join_with_byte}
 use Rattle.std.specs.Char.{is_ascii_digit}
 use Rattle.std.specs.Fmt.{decimal}
 use Rattle.std.proofs.lemmas.Fmt.{decimal_injective, digits_decimal}
 use Rattle.std.proofs.lemmas.List.Splits.{join_with_byte-slice_split}
 use Rattle.std.proofs.Math.Seq.{take-append_seam}
-use Rattle.wopi_text.specs.FileName.{IsFileName}
 use Rattle.wopi_text.specs.Ids.{id_of}
 use Rattle.wopi_text.proofs.IdLemmas.{id_of-injective}
 use Rattle.wopi_text.proofs.Utf8Bytes.{IsBytes-IsUtf8}
-use Rattle.wopi_model.specs.User.{IsUser, is_user_byte}
+use Rattle.wopi_model.specs.User.{is_user_byte}
 use Rattle.wopi_model.specs.declared.token.Token.{Token}
 use Rattle.access_tokens.specs.Fields.{fields_of, list_of, parts_of}
 use Rattle.access_tokens.specs.declared.fields.Fields.{Fields}

@@ -1,4 +1,4 @@
-use Rattle.std.proofs.Common.{sym, ◌∙◌, arith}
+use Rattle.std.proofs.Common.{sym, ◌∙◌}
 use Rattle.std.proofs.lemmas.List.{take_rest}
 use Rattle.access_tokens.proofs.Parts.{parts_of-some, parts_of-none}
 use Rattle.access_tokens.proofs.fields.split_field.Goals as goal

@@ -1,4 +1,4 @@
-use Rattle.std.proofs.Common.{◌≡◌, ℕ, ◌<◌, ◌≤◌, length, get_or, refl, arith}
+use Rattle.std.proofs.Common.{refl, arith}
 use Rattle.std.proofs.lemmas.Grind.{common_steps}
 use Rattle.access_tokens.proofs.Blocks.{filled_by_places, zero_at}
 use Rattle.access_tokens.proofs.mac.filled.Goals as goal

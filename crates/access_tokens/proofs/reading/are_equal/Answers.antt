@@ -1,4 +1,4 @@
-use Rattle.std.proofs.Common.{◌≡◌, ℕ, ◌<◌, length, get_or, refl, ap, arith, below_more}
+use Rattle.std.proofs.Common.{get_or, ap, arith, below_more}
 use Rattle.std.proofs.lemmas.Bool.{eqb-true, eq-eqb}
 use Rattle.std.proofs.lemmas.Grind.{same_number_lists}
 use Rattle.access_tokens.proofs.Blocks.{no_difference, same_so_far}

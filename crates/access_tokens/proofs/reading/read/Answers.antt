@@ -1,7 +1,7 @@
-use Rattle.std.proofs.Common.{◌≡◌, ℕ, List, length, Ok, Err, refl, sym, ap, subst, ◌∙◌, arith}
-use Rattle.access_tokens.specs.Fields.{fields_of, list_of, parts_of}
+use Rattle.std.proofs.Common.{length, Ok, Err, refl, sym, ap, subst, ◌∙◌}
+use Rattle.access_tokens.specs.Fields.{fields_of}
 use Rattle.access_tokens.specs.declared.reading.TokenFault.TheVariants.{BadMac}
-use Rattle.access_tokens.specs.TokenText.{HasReading, IsMac, IsReading, signed_text, mac_of}
+use Rattle.access_tokens.specs.TokenText.{HasReading, IsMac, IsReading, mac_of}
 use Rattle.access_tokens.proofs.Readings.{IsAnswer, IsAnswer-unread, IsAnswer-signed, IsAnswer-forged, parts_of-reading, IsReading-fields, signed_part, last_field}
 use Rattle.access_tokens.proofs.reading.read.Goals as goal
 

@@ -1,4 +1,4 @@
-use Rattle.std.proofs.Common.{◌≡◌, ◌∷◌, List, [], ℕ, refl, sym, ap, subst, rules, ◌∙◌, arith}
+use Rattle.std.proofs.Common.{◌≡◌, ◌∷◌, [], refl, sym, subst, rules}
 use Rattle.wopi_model.specs.User.{IsUser}
 use Rattle.access_tokens.proofs.Readings.{same_fields}
 use Rattle.access_tokens.proofs.reading.token_of.Goals as goal
