@@ -10,7 +10,7 @@ use std::alloc::Global;
 use wopi_model::Token;
 use wopi_text::{Bytes, Memory, id_text};
 
-/// The most bytes of a token's text.
+/// The most bytes of the text of a token whose moments are moments.
 const MOST: usize = 444;
 
 /// The text of the token under the key.
