@@ -1,0 +1,281 @@
+//! The edits, on rows as a grid holds them.
+ghost use Rattle.std.specs.Prelude.{◌≡◌, ◌-◌, ◌<◌, ◌≤◌, IsTrue, IfOk, IfErr, OnOk, OnErr, Ok, length, map, option_map};
+ghost use Rattle.std.specs.List.{list_any};
+ghost use Rattle.csv.specs.Records.{fields_of};
+ghost use Rattle.grid_sheet.specs.Rows.{IsGrid, cell_at, has_cell, has_row, is_column, row_at, rows_of, with_row};
+ghost use Rattle.grid_sheet.specs.Edits.{IsRefusal, after_delete_cell, after_delete_column, after_delete_row, after_insert_cell, after_insert_column, after_insert_row, after_set, is_full, reaches, with_column, without_column};
+
+use crate::cells::{
+    cell_at, empty_row, with_cell, with_cell_put_in, without_cell, without_cell_or_empty,
+};
+use crate::{GridFault, MOST_CELLS, MOST_ROWS};
+use csv::ByteRecord;
+use std::alloc::{AllocError, Global};
+
+pub fn set(
+    alloc: Global,
+    rows: &mut Vec<ByteRecord>,
+    row: usize,
+    column: usize,
+    text: &[u8],
+) -> Result<(), GridFault>
+    requires { IsGrid (rows_of rows.old.items) }
+    ensures grid { IsGrid (rows_of rows.new.items) }
+    ensures ok { OnOk result (after_set (rows_of rows.old.items) row column text.now ≡ Ok (rows_of rows.new.items)) }
+    ensures refused { IfErr result (IsRefusal (after_set (rows_of rows.old.items) row column text.now)) }
+    ensures kept { OnErr result (rows.new.items ≡ rows.old.items) }
+{
+    if !has_row(rows, row) || !is_column(column) {
+        return Err(GridFault::OutOfGrid);
+    }
+    let edited = with_cell(alloc, row_at(rows, row), column, text)?;
+    put_row(rows, row, edited);
+    Ok(())
+}
+
+pub fn insert_row(alloc: Global, rows: &mut Vec<ByteRecord>, row: usize) -> Result<(), GridFault>
+    requires { IsGrid (rows_of rows.old.items) }
+    ensures grid { IsGrid (rows_of rows.new.items) }
+    ensures ok { OnOk result (after_insert_row (rows_of rows.old.items) row ≡ Ok (rows_of rows.new.items)) }
+    ensures refused { IfErr result (IsRefusal (after_insert_row (rows_of rows.old.items) row)) }
+    ensures kept { OnErr result (rows.new.items ≡ rows.old.items) }
+{
+    if row == 0 || row - 1 > rows.len() {
+        return Err(GridFault::OutOfGrid);
+    }
+    if rows.len() >= MOST_ROWS {
+        return Err(GridFault::TooMany);
+    }
+    let added = empty_row(alloc)?;
+    rows.insert(row - 1, added)?;
+    Ok(())
+}
+
+pub fn delete_row(rows: &mut Vec<ByteRecord>, row: usize) -> Result<(), GridFault>
+    requires { IsGrid (rows_of rows.old.items) }
+    ensures grid { IsGrid (rows_of rows.new.items) }
+    ensures ok { OnOk result (after_delete_row (rows_of rows.old.items) row ≡ Ok (rows_of rows.new.items)) }
+    ensures refused { IfErr result (IsRefusal (after_delete_row (rows_of rows.old.items) row)) }
+    ensures kept { OnErr result (rows.new.items ≡ rows.old.items) }
+{
+    if !has_row(rows, row) {
+        return Err(GridFault::OutOfGrid);
+    }
+    let _deleted = rows.remove(row - 1);
+    Ok(())
+}
+
+pub fn insert_column(
+    alloc: Global,
+    rows: &mut Vec<ByteRecord>,
+    column: usize,
+) -> Result<(), GridFault>
+    requires { IsGrid (rows_of rows.old.items) }
+    ensures grid { IsGrid (rows_of rows.new.items) }
+    ensures ok { OnOk result (after_insert_column (rows_of rows.old.items) column ≡ Ok (rows_of rows.new.items)) }
+    ensures refused { IfErr result (IsRefusal (after_insert_column (rows_of rows.old.items) column)) }
+    ensures kept { OnErr result (rows.new.items ≡ rows.old.items) }
+{
+    if !is_column(column) {
+        return Err(GridFault::OutOfGrid);
+    }
+    if any_full(rows, column) {
+        return Err(GridFault::TooMany);
+    }
+    *rows = with_column(alloc, rows, column)?;
+    Ok(())
+}
+
+pub fn delete_column(
+    alloc: Global,
+    rows: &mut Vec<ByteRecord>,
+    column: usize,
+) -> Result<(), GridFault>
+    requires { IsGrid (rows_of rows.old.items) }
+    ensures grid { IsGrid (rows_of rows.new.items) }
+    ensures ok { OnOk result (after_delete_column (rows_of rows.old.items) column ≡ Ok (rows_of rows.new.items)) }
+    ensures refused { IfErr result (IsRefusal (after_delete_column (rows_of rows.old.items) column)) }
+    ensures kept { OnErr result (rows.new.items ≡ rows.old.items) }
+{
+    if !any_has_cell(rows, column) {
+        return Err(GridFault::OutOfGrid);
+    }
+    *rows = without_column(alloc, rows, column)?;
+    Ok(())
+}
+
+pub fn insert_cell(
+    alloc: Global,
+    rows: &mut Vec<ByteRecord>,
+    row: usize,
+    column: usize,
+    text: &[u8],
+) -> Result<(), GridFault>
+    requires { IsGrid (rows_of rows.old.items) }
+    ensures grid { IsGrid (rows_of rows.new.items) }
+    ensures ok { OnOk result (after_insert_cell (rows_of rows.old.items) row column text.now ≡ Ok (rows_of rows.new.items)) }
+    ensures refused { IfErr result (IsRefusal (after_insert_cell (rows_of rows.old.items) row column text.now)) }
+    ensures kept { OnErr result (rows.new.items ≡ rows.old.items) }
+{
+    if !has_row(rows, row) {
+        return Err(GridFault::OutOfGrid);
+    }
+    let cells = row_at(rows, row);
+    if column == 0 || !reaches(cells, column) {
+        return Err(GridFault::OutOfGrid);
+    }
+    if cells.len() >= MOST_CELLS {
+        return Err(GridFault::TooMany);
+    }
+    let edited = with_cell_put_in(alloc, cells, column - 1, text)?;
+    put_row(rows, row, edited);
+    Ok(())
+}
+
+pub fn delete_cell(
+    alloc: Global,
+    rows: &mut Vec<ByteRecord>,
+    row: usize,
+    column: usize,
+) -> Result<(), GridFault>
+    requires { IsGrid (rows_of rows.old.items) }
+    ensures grid { IsGrid (rows_of rows.new.items) }
+    ensures ok { OnOk result (after_delete_cell (rows_of rows.old.items) row column ≡ Ok (rows_of rows.new.items)) }
+    ensures refused { IfErr result (IsRefusal (after_delete_cell (rows_of rows.old.items) row column)) }
+    ensures kept { OnErr result (rows.new.items ≡ rows.old.items) }
+{
+    if !has_row(rows, row) {
+        return Err(GridFault::OutOfGrid);
+    }
+    let cells = row_at(rows, row);
+    if !has_cell(cells, column) || cells.len() <= 1 {
+        return Err(GridFault::OutOfGrid);
+    }
+    let edited = without_cell(alloc, cells, column - 1)?;
+    put_row(rows, row, edited);
+    Ok(())
+}
+
+pub fn cell(rows: &Vec<ByteRecord>, row: usize, column: usize) -> Option<&[u8]>
+    ensures { option_map (λ s. s.now) result ≡ cell_at (rows_of rows.now.items) row column }
+{
+    if !has_row(rows, row) {
+        return None;
+    }
+    let cells = row_at(rows, row);
+    if !has_cell(cells, column) {
+        return None;
+    }
+    Some(cell_at(cells, column - 1))
+}
+
+fn has_row(rows: &Vec<ByteRecord>, row: usize) -> bool
+    ensures { result ≡ has_row (rows_of rows.now.items) row }
+{
+    0 < row && row <= rows.len()
+}
+
+fn is_column(column: usize) -> bool
+    ensures { result ≡ is_column column }
+{
+    0 < column && column <= MOST_CELLS
+}
+
+fn has_cell(cells: &ByteRecord, column: usize) -> bool
+    ensures { result ≡ has_cell (fields_of cells.now) column }
+{
+    0 < column && column <= cells.len()
+}
+
+fn row_at(rows: &Vec<ByteRecord>, row: usize) -> &ByteRecord
+    requires { IsTrue (has_row (rows_of rows.now.items) row) }
+    ensures { fields_of result.now ≡ row_at (rows_of rows.now.items) row }
+{
+    &rows[row - 1]
+}
+
+fn put_row(rows: &mut Vec<ByteRecord>, row: usize, cells: ByteRecord)
+    requires { IsTrue (has_row (rows_of rows.old.items) row) }
+    ensures { rows_of rows.new.items ≡ with_row (rows_of rows.old.items) row (fields_of cells) }
+{
+    rows[row - 1] = cells;
+}
+
+// Whether the row ends just before the column, or behind it.
+fn reaches(cells: &ByteRecord, column: usize) -> bool
+    requires { 0 < column }
+    ensures { result ≡ reaches column (fields_of cells.now) }
+{
+    column - 1 <= cells.len()
+}
+
+fn any_full(rows: &Vec<ByteRecord>, column: usize) -> bool
+    requires { 0 < column }
+    ensures { result ≡ list_any (λ cells. is_full column (fields_of cells)) rows.now.items }
+{
+    rows.iter().any(|cells| reaches(cells, column) && cells.len() >= MOST_CELLS)
+}
+
+fn any_has_cell(rows: &Vec<ByteRecord>, column: usize) -> bool
+    ensures { result ≡ list_any (λ cells. has_cell (fields_of cells) column) rows.now.items }
+{
+    rows.iter().any(|cells| has_cell(cells, column))
+}
+
+// All rows anew, each that reaches the column with an empty cell there.
+fn with_column(
+    alloc: Global,
+    rows: &Vec<ByteRecord>,
+    column: usize,
+) -> Result<Vec<ByteRecord>, AllocError>
+    requires { 0 < column }
+    ensures { IfOk result (λ edited. rows_of edited.items ≡ map (with_column column) (rows_of rows.now.items)) }
+{
+    let mut edited = Vec::with_capacity(alloc, rows.len())?;
+    'rows: for cells in rows {
+        edited.push(cells_with_column(alloc, cells, column)?)?;
+    }
+    Ok(edited)
+}
+
+fn cells_with_column(
+    alloc: Global,
+    cells: &ByteRecord,
+    column: usize,
+) -> Result<ByteRecord, AllocError>
+    requires { 0 < column }
+    ensures { IfOk result (λ row. fields_of row ≡ with_column column (fields_of cells.now)) }
+{
+    if reaches(cells, column) {
+        return with_cell_put_in(alloc, cells, column - 1, b"");
+    }
+    cells.clone()
+}
+
+// All rows anew, each that has the column without its cell there.
+fn without_column(
+    alloc: Global,
+    rows: &Vec<ByteRecord>,
+    column: usize,
+) -> Result<Vec<ByteRecord>, AllocError>
+    ensures { IfOk result (λ edited. rows_of edited.items ≡ map (without_column column) (rows_of rows.now.items)) }
+{
+    let mut edited = Vec::with_capacity(alloc, rows.len())?;
+    'rows: for cells in rows {
+        edited.push(cells_without_column(alloc, cells, column)?)?;
+    }
+    Ok(edited)
+}
+
+fn cells_without_column(
+    alloc: Global,
+    cells: &ByteRecord,
+    column: usize,
+) -> Result<ByteRecord, AllocError>
+    ensures { IfOk result (λ row. fields_of row ≡ without_column column (fields_of cells.now)) }
+{
+    if has_cell(cells, column) {
+        return without_cell_or_empty(alloc, cells, column - 1);
+    }
+    cells.clone()
+}
