@@ -40,6 +40,7 @@ impl Grid {
     /// passed over.
     pub fn read(alloc: Global, contents: &[u8]) -> Result<Grid, GridFault>
         ensures rows { IfOk result (λ grid. grid ≡ read_of contents.now) }
+        ensures within { IfOk result IsGrid }
         ensures refused { IfErr result (IsUnreadable (read_of contents.now)) }
     {
         let rows = text::read(alloc, contents)?;
