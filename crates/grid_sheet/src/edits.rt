@@ -1,4 +1,5 @@
-//! The edits, on rows as a grid holds them.
+//! The edits, on rows as a grid holds them. Whatever may be refused is tested first, and memory is
+//! taken before anything changes.
 ghost use Rattle.std.specs.Prelude.{◌≡◌, ◌-◌, ◌<◌, ◌≤◌, IsTrue, IfOk, IfErr, OnOk, OnErr, Ok, length, map, option_map};
 ghost use Rattle.std.specs.List.{list_any};
 ghost use Rattle.csv.specs.Records.{fields_of};
@@ -12,6 +13,7 @@ use crate::{GridFault, MOST_CELLS, MOST_ROWS};
 use csv::ByteRecord;
 use std::alloc::{AllocError, Global};
 
+/// Puts a text into a cell.
 pub fn set(
     alloc: Global,
     rows: &mut Vec<ByteRecord>,
@@ -33,6 +35,7 @@ pub fn set(
     Ok(())
 }
 
+/// Puts a row of one empty cell before this one, or behind the last.
 pub fn insert_row(alloc: Global, rows: &mut Vec<ByteRecord>, row: usize) -> Result<(), GridFault>
     requires { IsGrid (rows_of rows.old.items) }
     ensures grid { IsGrid (rows_of rows.new.items) }
@@ -51,6 +54,7 @@ pub fn insert_row(alloc: Global, rows: &mut Vec<ByteRecord>, row: usize) -> Resu
     Ok(())
 }
 
+/// Takes a row out.
 pub fn delete_row(rows: &mut Vec<ByteRecord>, row: usize) -> Result<(), GridFault>
     requires { IsGrid (rows_of rows.old.items) }
     ensures grid { IsGrid (rows_of rows.new.items) }
@@ -65,6 +69,7 @@ pub fn delete_row(rows: &mut Vec<ByteRecord>, row: usize) -> Result<(), GridFaul
     Ok(())
 }
 
+/// Puts an empty cell before this column into each row that reaches it.
 pub fn insert_column(
     alloc: Global,
     rows: &mut Vec<ByteRecord>,
@@ -86,6 +91,7 @@ pub fn insert_column(
     Ok(())
 }
 
+/// Takes the cell in this column out of each row that has it.
 pub fn delete_column(
     alloc: Global,
     rows: &mut Vec<ByteRecord>,
@@ -104,6 +110,7 @@ pub fn delete_column(
     Ok(())
 }
 
+/// Puts a cell into this row, before this column or behind the last.
 pub fn insert_cell(
     alloc: Global,
     rows: &mut Vec<ByteRecord>,
@@ -132,6 +139,7 @@ pub fn insert_cell(
     Ok(())
 }
 
+/// Takes a cell out of this row, which has another.
 pub fn delete_cell(
     alloc: Global,
     rows: &mut Vec<ByteRecord>,
@@ -156,6 +164,7 @@ pub fn delete_cell(
     Ok(())
 }
 
+/// The cell at this row and column, if it is there.
 pub fn cell(rows: &Vec<ByteRecord>, row: usize, column: usize) -> Option<&[u8]>
     ensures { option_map (λ s. s.now) result ≡ cell_at (rows_of rows.now.items) row column }
 {

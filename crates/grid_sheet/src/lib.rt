@@ -8,8 +8,9 @@
 //! needs them, `\n` at the end of a row. A grid is read with no header row. Each edit is a function
 //! on lists, stated in `specs/Edits.antt`, and a refused edit leaves the grid as it was.
 //!
-//! A row is held as one text and the place where each of its cells ends. So a grid takes little
-//! more memory than its file, and an edit of one row costs with that row alone.
+//! A row is held as one text and the place where each of its cells ends, so that a grid takes a few
+//! times the memory of its file. An edit within a row makes that row anew and leaves all others
+//! where they are. An edit of a column makes all rows anew before the first is replaced.
 #![tactic(auto)]
 
 mod cells;

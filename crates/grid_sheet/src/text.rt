@@ -10,7 +10,7 @@ use csv::{ByteRecord, ReaderBuilder, WriterBuilder};
 use std::alloc::Global;
 use wopi_text::Memory;
 
-/// The records of a text that has no header row.
+/// The records of a text that has no header row. It stops at the first that passes a limit.
 pub fn read(alloc: Global, contents: &[u8]) -> Result<Vec<ByteRecord>, GridFault>
     ensures rows { IfOk result (λ rows. rows_of rows.items ≡ read_of contents.now) }
     ensures grid { IfOk result (λ rows. IsGrid (rows_of rows.items)) }
