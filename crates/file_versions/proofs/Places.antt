@@ -53,7 +53,7 @@ first_is test xs place first x e =
       ap test same ∙ first.here,
     )
 
-set_split : {A : Type 0} (test : A → Bool) (xs : List A) (place : ℕ) (first : IsFirst test xs place) (y : A) → set xs place y ≡ first.before ++ y ∷ first.after
+pub set_split : {A : Type 0} (test : A → Bool) (xs : List A) (place : ℕ) (first : IsFirst test xs place) (y : A) → set xs place y ≡ first.before ++ y ∷ first.after
 set_split test xs place first y =
     ap (λ all. set all place y) first.split ∙ ap (λ k. set (first.before ++ first.one ∷ first.after) k y) (sym first.long) ∙ set-append_seam first.before first.one first.after y
 

@@ -1,0 +1,244 @@
+-- A shard and its folder, as a step is taken or refused.
+use Rattle.std.proofs.Common.{◌≡◌, ◌≢◌, ℕ, ◌+◌, ◌≤◌, ◌==◌, max, Bool, true, false, ◌||◌, ◌&&◌, if◌then◌else◌, List, [], ◌∷◌, ◌++◌, length, Option, None, Some, refl, sym, ap, subst, ◌∙◌, arith}
+use Rattle.std.proofs.lemmas.Bool.Decides.{nat_tests}
+use Rattle.std.proofs.lemmas.List.Sums.{sum_by_push}
+use Rattle.std.proofs.lemmas.Slice.Eq.{bytes_eq-Decides}
+use Rattle.std.specs.Str.{bytes_eq}
+use Rattle.host_core.specs.Opening.{IsTaken}
+use Rattle.host_core.specs.Archive.{IsArchive, AreKept, AreWithin, IsKept, StaysKept, names_of}
+use Rattle.wopi_model.specs.Shard.{Opening}
+use Rattle.outside.specs.Folder.{Files}
+use Rattle.outside.specs.Folder as folder
+use Rattle.outside.specs.Faults.{Rose}
+use Rattle.wopi_model.specs.Moment.{IsMoment}
+use Rattle.wopi_model.specs.declared.calls.Call.{Call}
+use Rattle.wopi_model.specs.declared.calls.Ruling.{Ruling}
+use Rattle.wopi_model.specs.Act.{is_stored}
+use Rattle.wopi_model.specs.File.{File}
+use Rattle.wopi_model.specs.Settle.{settled}
+use Rattle.wopi_model.specs.Step.{after_step}
+use Rattle.host_core.specs.declared.file.KeptFile.{KeptFile}
+use Rattle.host_core.specs.Entries.{Made, items_of}
+use Rattle.wopi_model.proofs.Histories.{Legal-tick}
+use Rattle.host_core.specs.Files.{files_of, torn_in}
+use Rattle.host_core.specs.Store.{StoresAs, is_store_call, torn_after, brought}
+use Rattle.host_core.specs.Steps.{TakesStep, ShowsSame}
+use Rattle.host_core.specs.Value.{Book, Stands, IsLawful, state_of, is_torn, Keeps, Agrees, RoseBy, faults_in}
+use Rattle.host_core.specs.declared.ledger.Ledger.{Ledger}
+use Rattle.host_core.specs.Ledger.{Takes, Stays, made_by}
+use Rattle.host_core.proofs.History.{keeps-step, keeps-stays}
+use Rattle.file_versions.specs.declared.Version.{Version}
+use Rattle.file_versions.specs.Versions.{kept_in}
+use Rattle.host_core.proofs.Decisions.{contents-step}
+
+-- one more store call may have failed
+pub rose-step : (began count count' : ℕ) (made : List Made) (one : Made) → RoseBy began (faults_in made) count → count ≤ count'
+    → (one.step.ruling.status ≡ 500 → Rose count count') → RoseBy began (faults_in (made ++ one ∷ [])) count'
+rose-step began count count' made one rose le fault =
+    subst (λ (n : ℕ). RoseBy began n count') (sym (sum_by_push (λ (m : Made). if m.step.ruling.status == 500 then 1 else 0) made one))
+    (go (one.step.ruling.status == 500) (λ h. fault (same one.step.ruling.status h))) where
+      same : (status : ℕ) → status == 500 ≡ true → status ≡ 500
+      same status h = grind (arith, nat_tests)
+
+      go : (b : Bool) → (b ≡ true → Rose count count') → RoseBy began (faults_in made + (if b then 1 else 0)) count'
+      go true more = let up = more refl in omega (arith, up, rose, le)
+      go false more = omega (arith, rose, le)
+
+pub rose-stays : (began times count count' : ℕ) → RoseBy began times count → count ≤ count' → RoseBy began times count'
+rose-stays began times count count' rose le = omega (arith, rose, le)
+
+-- where nothing moves the folder agrees as before
+pub agrees-stays : (only : Option ℕ) (start now now' : Option Files) (files files' : List KeptFile) → Agrees only start now (files_of files) (torn_in files)
+    → ShowsSame files files' → folder.Keeps now now' → Agrees only start now' (files_of files') (torn_in files')
+agrees-stays only None None None files files' agrees same keeps = tt
+agrees-stays only None None (Some now') files files' agrees same keeps = absurd keeps
+agrees-stays only None (Some now) now' files files' agrees same keeps = absurd agrees
+agrees-stays only (Some start) None now' files files' agrees same keeps = absurd agrees
+agrees-stays only (Some start) (Some now) None files files' agrees same keeps = absurd keeps
+agrees-stays only (Some start) (Some now) (Some now') files files' agrees same keeps = (
+  λ name own whole. keeps name ∙ agrees.0 name own (sym (same.torn name) ∙ whole) ∙ sym (ap (λ (f : File). f.contents) (same.files name)),
+  λ name foreign. keeps name ∙ agrees.1 name foreign,
+)
+
+both : (b : Bool) → b ≡ true → b ≡ false → ⊥
+both b h e = cc
+
+or_parts : (b c : Bool) → (b || c) ≡ false → b ≡ false
+or_parts true c e = cc
+or_parts false c e = refl
+
+-- after a step the folder agrees with the files after it
+pub agrees-step : (only : Option ℕ) (start now now' : Option Files) (files files' : List KeptFile) (call : Call) (opened time : ℕ) (ruling : Ruling) → Agrees only start now (files_of files) (torn_in files)
+    → IsTaken only call.name → TakesStep files files' call opened time ruling → StoresAs now now' call ruling → Agrees only start now' (files_of files') (torn_in files')
+agrees-step only None None None files files' call opened time ruling agrees own takes stores = tt
+agrees-step only None None (Some now') files files' call opened time ruling agrees own takes stores = absurd stores.others
+agrees-step only None (Some now) now' files files' call opened time ruling agrees own takes stores = absurd agrees
+agrees-step only (Some start) None now' files files' call opened time ruling agrees own takes stores = absurd agrees
+agrees-step only (Some start) (Some now) None files files' call opened time ruling agrees own takes stores = absurd stores.others
+agrees-step only (Some start) (Some now) (Some now') files files' call opened time ruling agrees own takes stores = (
+  λ name named whole. tells name named (bytes_eq call.name name) refl (sym (takes.torn name) ∙ whole) ∙ sym (ap (λ (f : File). f.contents) (takes.files name)),
+  λ name foreign. stores.others name (λ e. foreign (subst (IsTaken only) (sym e) own)) ∙ agrees.1 name foreign,
+)
+  where
+    -- the file of the call
+    here : (b : Bool) → is_store_call call.act ruling ≡ b → torn_after (torn_in files call.name) call.act ruling ≡ false
+        → now' call.name ≡ (after_step (settled (files_of files call.name) time) call opened time ruling).contents
+    here true e whole =
+        let done : ruling.status == 500 ≡ false = sym (ap (λ (b : Bool). if b then ruling.status == 500 else torn_in files call.name) e) ∙ whole in
+        stores.holds e done ∙ sym (contents-step (settled (files_of files call.name) time) call opened time ruling takes.outcome done
+        ∙ ap (λ (b : Bool). if b then brought call.act else (files_of files call.name).contents) e)
+    here false e whole =
+        let done : ruling.status == 500 ≡ false = or_parts (ruling.status == 500) (ruling.status == 200 && is_stored call.act) e in
+        let before : torn_in files call.name ≡ false = sym (ap (λ (b : Bool). if b then ruling.status == 500 else torn_in files call.name) e) ∙ whole in
+        stores.stays e call.name ∙ agrees.0 call.name own before
+        ∙ sym (contents-step (settled (files_of files call.name) time) call opened time ruling takes.outcome done
+        ∙ ap (λ (b : Bool). if b then brought call.act else (files_of files call.name).contents) e)
+
+    tells : (name : List ℕ) → IsTaken only name → (b : Bool) → bytes_eq call.name name ≡ b
+        → (if bytes_eq call.name name then torn_after (torn_in files call.name) call.act ruling else torn_in files name) ≡ false
+        → now' name ≡ (if bytes_eq call.name name then after_step (settled (files_of files call.name) time) call opened time ruling else files_of files name).contents
+    tells name named true e whole =
+        let same : call.name ≡ name = (bytes_eq-Decides call.name name).0 e in
+        let whole' : torn_after (torn_in files call.name) call.act ruling ≡ false =
+        sym (ap (λ (b : Bool). if b then torn_after (torn_in files call.name) call.act ruling else torn_in files name) e) ∙ whole in
+        ap now' (sym same) ∙ here (is_store_call call.act ruling) refl whole'
+        ∙ sym (ap (λ (b : Bool). (if b then after_step (settled (files_of files call.name) time) call opened time ruling else files_of files name).contents) e)
+    tells name named false e whole =
+        let whole' : torn_in files name ≡ false =
+        sym (ap (λ (b : Bool). if b then torn_after (torn_in files call.name) call.act ruling else torn_in files name) e) ∙ whole in
+        let differ : name ≢ call.name = λ h. absurd (both (bytes_eq call.name name) ((bytes_eq-Decides call.name name).1 (sym h)) e) in
+        stores.others name differ ∙ agrees.0 name named whole'
+        ∙ sym (ap (λ (b : Bool). (if b then after_step (settled (files_of files call.name) time) call opened time ruling else files_of files name).contents) e)
+
+abbrev made_at : ℕ → ℕ → Call → ℕ → ℕ → ℕ → Ruling → Made
+made_at time last call pass floor moment ruling = record { time = max time moment; step = record { stamp = max last floor + 1; pass = pass; moment = moment; call = call; ruling = ruling } }
+
+made_long : (made : List Made) (one : Made) → length (made ++ one ∷ []) ≡ length made + 1
+made_long [] one = omega arith
+made_long (first ∷ made) one = let more = made_long made one in omega (arith, more)
+
+below_full : (n m capacity : ℕ) → m ≡ n + 1 → n ≤ capacity → n ≢ capacity → m ≤ capacity
+below_full n m capacity more le differ = grind (arith, nat_tests)
+
+kept_all : (made : List Made) (names names' : List (List ℕ)) (old new : List Version) → ((call : Call) (ruling : Ruling) → IsKept call ruling names old → IsKept call ruling names' new)
+    → AreKept made names old → AreKept made names' new
+kept_all [] names names' old new more kept = tt
+kept_all (one ∷ made) names names' old new more kept = (more one.step.call one.step.ruling kept.0, kept_all made names names' old new more kept.1)
+
+kept_push : (made : List Made) (one : Made) (names : List (List ℕ)) (versions : List Version) → AreKept made names versions → IsKept one.step.call one.step.ruling names versions → AreKept (made ++ one ∷ []) names versions
+kept_push [] one names versions kept last = (last, tt)
+kept_push (first ∷ made) one names versions kept last = (kept.0, kept_push made one names versions kept.1 last)
+
+-- what is kept of the contents, with a step more
+archive-step : (opening : Opening) (made : List Made) (one : Made) (before after : List KeptFile) (old new : List Version) → IsArchive opening made before old
+    → StaysKept before after old new → IsKept one.step.call one.step.ruling (names_of after) new → ((most : ℕ) → AreWithin most before → AreWithin (most + 1) after)
+    → IsArchive opening (made ++ one ∷ []) after new
+archive-step opening made one before after old new archive stays kept within =
+    let more : 1 + length made + 1 ≡ 1 + length (made ++ one ∷ []) = let long = made_long made one in omega (arith, long) in
+    record {
+      stocked = stays.stocked;
+      opened = stays.opened opening archive.opened;
+      kept = kept_push made one (names_of after) new (kept_all made (names_of before) (names_of after) old new stays.kept archive.kept) kept;
+      within = subst (λ (n : ℕ). AreWithin n after) more (within (1 + length made) archive.within);
+    }
+
+archive-stays : (opening : Opening) (made : List Made) (before after : List KeptFile) (old new : List Version) → IsArchive opening made before old
+    → StaysKept before after old new → ((most : ℕ) → AreWithin most before → AreWithin most after) → IsArchive opening made after new
+archive-stays opening made before after old new archive stays within = record {
+  stocked = stays.stocked;
+  opened = stays.opened opening archive.opened;
+  kept = kept_all made (names_of before) (names_of after) old new stays.kept archive.kept;
+  within = within (1 + length made) archive.within;
+}
+
+-- the shard after a step
+pub stands-step : {F : Type 0} (book : Book F) (before after : Ledger) (start now now' : Option Files) (began count count' : ℕ) (call : Call) (pass floor moment : ℕ) (ruling : Ruling) (folder' : F)
+    → Stands book before.last before.first_files before.files.items before.versions start now began count
+    → book.opened ≡ before.opened → book.time ≡ before.time → IsMoment moment → IsTaken book.only call.name → length book.made ≢ book.capacity
+    → Takes before after call pass floor moment ruling → StoresAs now now' call ruling → count ≤ count' → (ruling.status ≡ 500 → Rose count count')
+    → Stands (record book { made = book.made ++ made_by before call pass floor moment ruling ∷ []; time = max book.time moment; folder = folder' })
+    after.last after.first_files after.files.items after.versions start now' began count'
+stands-step book before after start now now' began count count' call pass floor moment ruling folder' stands opened time m own room takes stores le fault =
+    let steps : TakesStep before.files.items after.files.items call book.opened (max book.time moment) ruling =
+    subst (λ (o : ℕ). TakesStep before.files.items after.files.items call o (max book.time moment) ruling) (sym opened)
+    (subst (λ (t : ℕ). TakesStep before.files.items after.files.items call before.opened (max t moment) ruling) (sym time) takes.steps) in
+    let one : Made = record { time = max book.time moment; step = record { stamp = max before.last floor + 1; pass = pass; moment = moment; call = call; ruling = ruling } } in
+    let same : one ≡ made_by before call pass floor moment ruling = ap (λ (t : ℕ). made_at t before.last call pass floor moment ruling) time in
+    let made' = book.made ++ made_by before call pass floor moment ruling ∷ [] in
+    record {
+      keeps =
+          subst (λ (x : Made). Keeps book.opening book.opened book.capacity (book.made ++ x ∷ []) (max book.time moment) after.last (kept_in after.versions) after.files.items) same
+          (subst (λ (l : ℕ). Keeps book.opening book.opened book.capacity (book.made ++ one ∷ []) (max book.time moment) l (kept_in after.versions) after.files.items) (sym takes.last)
+          (subst (λ (b : ℕ). Keeps book.opening book.opened book.capacity (book.made ++ one ∷ []) (max book.time moment) (max before.last floor + 1) b after.files.items) (sym takes.kept)
+          (keeps-step book.opening book.opened book.capacity book.made book.time before.last (kept_in before.versions) before.files.items after.files.items stands.keeps call pass floor moment ruling m steps)));
+      folder = agrees-step book.only start now now' before.files.items after.files.items call before.opened (max before.time moment) ruling stands.folder own takes.steps stores;
+      faults = rose-step began count count' book.made (made_by before call pass floor moment ruling) stands.faults le fault;
+      archive = archive-step book.opening book.made (made_by before call pass floor moment ruling) before.files.items after.files.items before.versions after.versions stands.archive takes.stays takes.archived takes.within;
+      first = takes.first ∙ stands.first;
+      few = let more = made_long book.made (made_by before call pass floor moment ruling) in let old = stands.few in let grown = takes.few in omega (arith, more, old, grown);
+      places = let more = made_long book.made (made_by before call pass floor moment ruling) in let old = stands.places in below_full (length book.made) _ book.capacity more old room;
+    }
+
+-- and after one that was refused
+pub stands-stays : {F : Type 0} (book : Book F) (before after : Ledger) (start now now' : Option Files) (began count count' : ℕ) (folder' : F)
+    → Stands book before.last before.first_files before.files.items before.versions start now began count
+    → Stays before after → folder.Keeps now now' → count ≤ count'
+    → Stands (record book { folder = folder' }) after.last after.first_files after.files.items after.versions start now' began count'
+stands-stays book before after start now now' began count count' folder' stands stays keeps le = record {
+  keeps =
+      subst (λ (l : ℕ). Keeps book.opening book.opened book.capacity book.made book.time l (kept_in after.versions) after.files.items) (sym stays.last)
+      (subst (λ (v : List Version). Keeps book.opening book.opened book.capacity book.made book.time before.last (kept_in v) after.files.items) (sym stays.versions)
+      (keeps-stays book.opening book.opened book.capacity book.made book.time before.last (kept_in before.versions) before.files.items after.files.items stands.keeps stays.files));
+  folder = agrees-stays book.only start now now' before.files.items after.files.items stands.folder stays.files keeps;
+  faults = rose-stays began (faults_in book.made) count count' stands.faults le;
+  archive = archive-stays book.opening book.made before.files.items after.files.items before.versions after.versions stands.archive stays.stays stays.within;
+  first = stays.first ∙ stands.first;
+  few = let old = stands.few in let same = stays.few in omega (arith, old, same);
+  places = stands.places;
+}
+
+agrees-state : (only : Option ℕ) (start now : Option Files) (files state : List ℕ → File) (torn torn' : List ℕ → Bool) → ((name : List ℕ) → (state name).contents ≡ (files name).contents) → ((name : List ℕ) → torn name ≡ torn' name)
+    → Agrees only start now files torn → Agrees only start now state torn'
+agrees-state only None None files state torn torn' same tears agrees = tt
+agrees-state only None (Some now) files state torn torn' same tears agrees = absurd agrees
+agrees-state only (Some start) None files state torn torn' same tears agrees = absurd agrees
+agrees-state only (Some start) (Some now) files state torn torn' same tears agrees = (λ name named whole. agrees.0 name named (tears name ∙ whole) ∙ sym (same name), agrees.1)
+
+-- what holds of every shard
+pub lawful : {F : Type 0} (book : Book F) (last first : ℕ) (files : List KeptFile) (versions : List Version) (start now : Option Files) (began count : ℕ)
+    → Stands book last first files versions start now began count → IsLawful book start now began count
+lawful book last first files versions start now began count stands = record {
+  legal = Legal-tick book.opening book.opened (items_of book.made) book.time stands.keeps.legal;
+  folder = agrees-state book.only start now (files_of files) (state_of book.opening book.opened book.made book.time).files (torn_in files) (is_torn book.made)
+      (λ name. sym (ap (λ (f : File). f.contents) (stands.keeps.shows name))) stands.keeps.torn stands.folder;
+  faults = stands.faults;
+}
+
+-- the book with a step is that of the parts after it
+pub book_step : {F : Type 0} (book : Book F) (before after : Ledger) (call : Call) (pass floor moment : ℕ) (ruling : Ruling) (folder' : F)
+    → book.opened ≡ before.opened → book.capacity ≡ before.capacity → book.made ≡ before.entries.items → book.time ≡ before.time
+    → Takes before after call pass floor moment ruling
+    → (record book { made = book.made ++ made_by before call pass floor moment ruling ∷ []; time = max book.time moment; folder = folder' })
+    ≡ record { only = book.only; opening = book.opening; opened = after.opened; capacity = after.capacity; made = after.entries.items; time = after.time; ticked = book.ticked; start = book.start; folder = folder' }
+book_step book before after call pass floor moment ruling folder' opened capacity made time takes =
+    let opened' = opened ∙ sym takes.opened in
+    let capacity' = capacity ∙ sym takes.capacity in
+    let made' : book.made ++ made_by before call pass floor moment ruling ∷ [] ≡ after.entries.items =
+    ap (λ (m : List Made). m ++ made_by before call pass floor moment ruling ∷ []) made ∙ sym takes.entries in
+    let time' : max book.time moment ≡ after.time = ap (λ (t : ℕ). max t moment) time ∙ sym takes.time in
+    λ i. record { only = book.only; opening = book.opening; opened = opened' i; capacity = capacity' i; made = made' i; time = time' i; ticked = book.ticked; start = book.start; folder = folder' }
+
+pub book_stays : {F : Type 0} (book : Book F) (before after : Ledger) (folder' : F)
+    → book.opened ≡ before.opened → book.capacity ≡ before.capacity → book.made ≡ before.entries.items → book.time ≡ before.time
+    → Stays before after
+    → (record book { folder = folder' })
+    ≡ record { only = book.only; opening = book.opening; opened = after.opened; capacity = after.capacity; made = after.entries.items; time = after.time; ticked = book.ticked; start = book.start; folder = folder' }
+book_stays book before after folder' opened capacity made time stays =
+    let opened' = opened ∙ sym stays.opened in
+    let capacity' = capacity ∙ sym stays.capacity in
+    let made' = made ∙ sym stays.entries in
+    let time' = time ∙ sym stays.time in
+    λ i. record { only = book.only; opening = book.opening; opened = opened' i; capacity = capacity' i; made = made' i; time = time' i; ticked = book.ticked; start = book.start; folder = folder' }
+
+pub rose-begin : (began count : ℕ) → began ≤ count → RoseBy began (faults_in []) count
+rose-begin began count le = omega (arith, le)

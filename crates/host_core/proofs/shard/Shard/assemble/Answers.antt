@@ -1,0 +1,48 @@
+use Rattle.std.proofs.Common.{◌≡◌, ◌≤◌, ◌+◌, ◌^◌, ℕ, List, Option, [], length, sym, ap, subst, ◌∙◌, arith}
+use Rattle.file_versions.specs.Versions.{kept_in}
+use Rattle.host_core.specs.Archive.{IsArchive}
+use Rattle.host_core.specs.declared.opening.OpeningFile.{OpeningFile}
+use Rattle.host_core.specs.Entries.{Made}
+use Rattle.host_core.specs.Files.{files_of, torn_in}
+use Rattle.host_core.specs.ShardView.{opening_of}
+use Rattle.host_core.specs.Value.{Keeps, Agrees, RoseBy, faults_in}
+use Rattle.host_core.proofs.History.{keeps-start}
+use Rattle.host_core.proofs.Standing.{rose-begin, lawful}
+use Rattle.host_core.proofs.Beginning.{agrees_start, first_long}
+use Rattle.host_core.proofs.shard.Shard.assemble.Goals as goal
+
+pub invariant_of-result : goal.invariant_of-result
+invariant_of-result g c =
+    let files = g.F.Folder.files in
+    let faults = g.F.Folder.faults in
+    let stock = c.args.stock in
+    let kept = stock.files.items in
+    let opening = opening_of stock.opening.items in
+    let same : opening ≡ opening_of c.of-opening.result.value.items = sym (ap (λ v. opening_of v.items) c.of-opening.ensures) in
+    let start = c.args.start.value in
+    let none : length c.new.result.items ≡ 0 = ap (λ (m : List Made). length m) c.new.ensures.items in
+    let few = c.requires.stock.few in
+    let room = c.requires.capacity in
+    let count : length kept ≡ length opening = first_long stock c.requires.stock in
+    let long : length opening ≡ length (opening_of c.of-opening.result.value.items) = ap length same in
+    record {
+      keeps = subst (λ o. Keeps o c.args.opened c.args.capacity c.new.result.items c.args.opened 0 (kept_in stock.versions) kept) same
+          (subst (λ (m : List Made). Keeps opening c.args.opened c.args.capacity m c.args.opened 0 (kept_in stock.versions) kept) (sym c.new.ensures.items)
+          (keeps-start opening c.args.opened c.args.capacity (kept_in stock.versions) kept c.requires.moment c.requires.stock.files c.requires.stock.torn c.requires.stock.kept));
+      folder = subst (λ (only : Option ℕ). Agrees only (files start) (files c.args.folder) (files_of kept) (torn_in kept)) (sym c.of.ensures)
+          (agrees_start c.args.only (files start) (files c.args.folder) opening kept c.requires.opening c.requires.same c.requires.stock.files);
+      faults = subst (λ (m : List Made). RoseBy (faults start) (faults_in m) (faults c.args.folder)) (sym c.new.ensures.items) (rose-begin (faults start) (faults c.args.folder) c.requires.faults);
+      archive = subst (λ o. IsArchive o c.new.result.items kept stock.versions) same
+          (subst (λ (m : List Made). IsArchive opening m kept stock.versions) (sym c.new.ensures.items) c.requires.stock.archive);
+      first = omega (arith, stock.files.ok.0, c.len.ensures, count, long);
+      few = omega (arith, none, few, room);
+      places = omega (arith, none);
+    }
+
+pub returns-clause-lawful : goal.returns-clause-lawful
+returns-clause-lawful g c =
+    let files = g.F.Folder.files in
+    let faults = g.F.Folder.faults in
+    let start = c.args.start.value in
+    lawful _ 0 c.len.result c.args.stock.files.items c.args.stock.versions
+    (files start) (files c.args.folder) (faults start) (faults c.args.folder) (invariant_of-result g c)

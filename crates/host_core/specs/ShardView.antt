@@ -1,0 +1,34 @@
+-- A shard as the definitions see it.
+use Rattle.std.specs.Prelude.{◌≡◌, ◌≤◌, ◌^◌, List, length, map}
+use Rattle.wopi_model.specs.Shard.{Opening}
+use Rattle.host_core.specs.declared.opening.OpeningFile.{OpeningFile}
+use Rattle.host_core.specs.declared.shard.Shard.TheInside.{Inside}
+use Rattle.host_core.specs.declared.past.Past.TheInside as past
+use Rattle.host_core.specs.Archive.{IsArchive}
+use Rattle.host_core.specs.Value.{Book, Left}
+
+abbrev pub opening_of : List OpeningFile → Opening
+opening_of files = map (λ file. (file.name, file.contents)) files
+
+abbrev pub book_of : {F : Type 0} → Inside F → Book F
+book_of s = record {
+  only = s.only.value;
+  opening = opening_of s.opening.value.items;
+  opened = s.ledger.opened;
+  capacity = s.ledger.capacity;
+  made = s.ledger.entries.items;
+  time = s.ledger.time;
+  ticked = s.ticked;
+  start = s.start.value;
+  folder = s.folder;
+}
+
+abbrev pub left_of : {F : Type 0} → past.Inside F → Left F
+left_of p = record { opening = opening_of p.opening.value.items; made = p.entries.items; start = p.start.value }
+
+-- what a shard leaves has its contents among its versions
+pub record IsLeft {F : Type 0} (p : past.Inside F) : Type 0 where
+  pub archive : IsArchive (opening_of p.opening.value.items) p.entries.items p.files.items p.versions
+  pub first : p.first_files ≡ length (opening_of p.opening.value.items)
+  pub inside : p.first_files ≤ length p.files.items
+  pub few : length p.files.items ≤ 2 ^ 32

@@ -1,0 +1,232 @@
+//! The files that a shard begins with.
+ghost use Rattle.std.specs.Prelude.{◌≡◌, ◌⊎◌, ◌≤◌, ◌+◌, ◌^◌, ◌↔◌, ◌++◌, ◌∷◌, [], None, map, ℕ, List, length, true, false, sum_by, string_bytes, IsTrue, IfOk, IfErr, OnOk};
+ghost use Rattle.outside.specs.Faults.{Rose};
+ghost use Rattle.outside.specs.Folder.{Keeps};
+ghost use Rattle.wopi_model.specs.File.{opened_with};
+ghost use Rattle.host_core.specs.Archive.{place_in};
+ghost use Rattle.host_core.specs.Files.{file_of};
+ghost use Rattle.host_core.specs.ByBytes.{has};
+ghost use Rattle.host_core.specs.Stock.{IsStock};
+ghost use Rattle.host_core.specs.Opening.{IsTaken, IsOfShard, IsOpening, Fits, IsTooLarge, IfTooLarge, Gives, PassesAfter, Gathers, is_listed};
+ghost use Rattle.wopi_model.specs.Host.{most_kept};
+ghost use Rattle.host_core.specs.ShardView.{opening_of};
+
+use crate::by_bytes::ByBytes;
+use crate::extent::Extent;
+use crate::file::{KeptFile, unmet};
+use file_versions::Versions;
+use outside::{Folder, FolderRead, Names, OutFault};
+use std::alloc::Global;
+use std::collections::BTreeSet;
+use wopi_text::{Bytes, FileName, Memory};
+
+/// The most bytes of one file: 16 MiB.
+const MOST_CONTENTS: usize = 16_777_216;
+
+/// The most files, so that each has a number of 32 bits and there are numbers left for new ones.
+const MOST_FILES: usize = 4_000_000_000;
+
+/// The most bytes of all files: 256 MiB.
+const MOST_KEPT: u64 = 268_435_456;
+
+/// A file that stood in the folder when the shard opened. A contract sees its contents.
+#[derive(Drop)]
+pub struct OpeningFile {
+    pub name: FileName,
+    pub contents: Extent,
+}
+
+/// A file that was read.
+#[derive(Drop)]
+pub struct ReadFile {
+    pub name: FileName,
+    pub contents: Bytes,
+}
+
+/// Why no shard was opened.
+#[derive(Drop)]
+pub enum StartFault {
+    /// The folder failed.
+    FolderFault,
+    /// The first file, in the order of the names' bytes, that has more than 16 MiB or with which all files
+    /// have more than 256 MiB.
+    TooLarge { name: FileName },
+    Memory,
+}
+
+/// The opening, the files and the versions of a shard at its start.
+#[derive(Drop)]
+pub struct Stock {
+    pub opening: Vec<OpeningFile>,
+    pub files: Vec<KeptFile>,
+    pub versions: Versions,
+}
+
+/// The name belongs to the shard of that number, or to the only shard there is.
+fn is_of_shard(name: &FileName, only: Option<u8>) -> bool
+    ensures { IsTrue result ↔ IsOfShard only name.now }
+{
+    match only {
+        None => true,
+        Some(number) => name.shard() == number,
+    }
+}
+
+/// Adds a listed name, if the shard keeps files of this name.
+fn take_name(names: &mut BTreeSet<ByBytes>, text: &String, only: Option<u8>) -> Result<(), Memory>
+    ensures taken { OnOk result ((name : List ℕ) → has names.new name ≡ true → (has names.old name ≡ true) ⊎ ((name ≡ string_bytes text.now) × IsTaken only name)) }
+    ensures added { OnOk result (IsTaken only (string_bytes text.now) → has names.new (string_bytes text.now) ≡ true) }
+    ensures stays { OnOk result ((name : List ℕ) → has names.old name ≡ true → has names.new name ≡ true) }
+{
+    let Ok(name) = FileName::read(text.as_bytes()) else {
+        return Ok(());
+    };
+    if is_of_shard(&name, only) {
+        let _added = names.insert(ByBytes { name })?;
+    }
+    Ok(())
+}
+
+/// Reads the file of a name, after files of so many bytes.
+fn read_one<F: Folder>(
+    folder: &mut F,
+    name: FileName,
+    kept: u64,
+) -> Result<Option<ReadFile>, StartFault>
+    requires { kept ≤ most_kept }
+    ensures read { IfOk result (Gives (F.files folder.old) name kept) }
+    ensures too_large { IfErr result (λ fault. IfTooLarge fault (λ large. (large ≡ name) × PassesAfter (F.files folder.old) kept name)) }
+    ensures failed { IfErr result (λ fault. fault ≡ StartFault.FolderFault → Rose (F.faults folder.old) (F.faults folder.new)) }
+    ensures same { Keeps (F.files folder.old) (F.files folder.new) }
+    ensures never_falls { F.faults folder.old ≤ F.faults folder.new }
+{
+    match folder.read(name.as_str(), MOST_CONTENTS) {
+        Err(OutFault::Failed) => return Err(StartFault::FolderFault),
+        Err(OutFault::Memory) => return Err(StartFault::Memory),
+        Ok(FolderRead::Absent) => return Ok(None),
+        Ok(FolderRead::TooLong) => return Err(StartFault::TooLarge { name }),
+        Ok(FolderRead::Whole(contents)) => {
+            let len = contents.as_slice().len();
+            if len > MOST_CONTENTS || len as u64 > MOST_KEPT - kept {
+                return Err(StartFault::TooLarge { name });
+            }
+            return Ok(Some(ReadFile { name, contents }));
+        }
+    }
+}
+
+/// Adds a file that was read, at version 1 and unlocked.
+fn stock_one(alloc: Global, stock: &mut Stock, file: ReadFile) -> Result<(), Memory>
+    requires stock { IsStock stock.old }
+    requires fresh { place_in (map (λ one. one.0) (opening_of stock.old.opening.items)) file.name ≡ None }
+    ensures stock { OnOk result (IsStock stock.new) }
+    ensures opening { OnOk result (opening_of stock.new.opening.items ≡ opening_of stock.old.opening.items ++ (file.name, file.contents) ∷ []) }
+{
+    let count = stock.files.len();
+    if count >= MOST_FILES {
+        return Err(Memory);
+    }
+    let ReadFile { name, contents } = file;
+    let kept = opened(alloc, &name, &contents);
+    let first = OpeningFile {
+        name,
+        contents: Extent::of(&contents),
+    };
+    stock.opening.push(first)?;
+    stock.files.push(kept)?;
+    match stock.versions.add(count as u32, 1, contents) {
+        Ok(()) => return Ok(()),
+        Err(_) => return Err(Memory),
+    }
+}
+
+/// The file of a name that stood there at the opening.
+fn opened(alloc: Global, name: &FileName, contents: &Bytes) -> KeptFile
+    ensures file { file_of result ≡ opened_with contents.now }
+    ensures name { result.name ≡ name.now }
+    ensures torn { result.torn ≡ false }
+{
+    let mut file = unmet(alloc, name);
+    file.contents = Some(Extent::of(contents));
+    file.version = 1;
+    file
+}
+
+/// The listed names that the shard takes.
+fn taken_names(alloc: Global, listed: &Names, only: Option<u8>) -> Result<BTreeSet<ByBytes>, Memory>
+    ensures taken { IfOk result (λ names. (name : List ℕ) → has names name ≡ true → IsTaken only name × (is_listed listed.now name ≡ true)) }
+    ensures all { IfOk result (λ names. (name : List ℕ) → IsTaken only name → is_listed listed.now name ≡ true → has names name ≡ true) }
+{
+    let mut names = BTreeSet::new(alloc);
+    let texts = listed.as_slice();
+    let mut place = 0;
+    'texts: while place < texts.len() {
+        take_name(&mut names, &texts[place], only)?;
+        place += 1;
+    }
+    Ok(names)
+}
+
+/// Reads the files of the names, in the order of their bytes.
+fn read_names<F: Folder>(
+    alloc: Global,
+    folder: &mut F,
+    only: Option<u8>,
+    names: &mut BTreeSet<ByBytes>,
+    stock: &mut Stock,
+) -> Result<(), StartFault>
+    requires stock { IsStock stock.old }
+    requires gathers { Gathers only (F.files folder.old) (has names.old) (opening_of stock.old.opening.items) }
+    ensures stock { OnOk result (IsStock stock.new) }
+    ensures gathers { OnOk result (Gathers only (F.files folder.old) (λ name. false) (opening_of stock.new.opening.items)) }
+    ensures too_large { IfErr result (λ fault. IfTooLarge fault (IsTooLarge only (F.files folder.old))) }
+    ensures failed { IfErr result (λ fault. fault ≡ StartFault.FolderFault → Rose (F.faults folder.old) (F.faults folder.new)) }
+    ensures same { Keeps (F.files folder.old) (F.files folder.new) }
+    ensures never_falls { F.faults folder.old ≤ F.faults folder.new }
+{
+    'names: while let Some(next) = names.pop_first() {
+        match read_one(folder, next.name, stock.versions.kept()) {
+            Err(fault) => return Err(fault),
+            Ok(None) => {}
+            Ok(Some(file)) => match stock_one(alloc, stock, file) {
+                Ok(()) => {}
+                Err(_) => return Err(StartFault::Memory),
+            },
+        }
+    }
+    Ok(())
+}
+
+/// Reads the files that the shard takes from the folder.
+pub fn gather<F: Folder>(
+    alloc: Global,
+    folder: &mut F,
+    only: Option<u8>,
+) -> Result<Stock, StartFault>
+    ensures opening { IfOk result (λ stock. IsOpening only (F.files folder.old) (opening_of stock.opening.items)) }
+    ensures fits { IfOk result (λ stock. Fits (opening_of stock.opening.items)) }
+    ensures stock { IfOk result IsStock }
+    ensures too_large { IfErr result (λ fault. IfTooLarge fault (IsTooLarge only (F.files folder.old))) }
+    ensures failed { IfErr result (λ fault. fault ≡ StartFault.FolderFault → Rose (F.faults folder.old) (F.faults folder.new)) }
+    ensures same { Keeps (F.files folder.old) (F.files folder.new) }
+    ensures never_falls { F.faults folder.old ≤ F.faults folder.new }
+{
+    let listed = match folder.list() {
+        Ok(listed) => listed,
+        Err(OutFault::Failed) => return Err(StartFault::FolderFault),
+        Err(OutFault::Memory) => return Err(StartFault::Memory),
+    };
+    let mut names = match taken_names(alloc, &listed, only) {
+        Ok(names) => names,
+        Err(_) => return Err(StartFault::Memory),
+    };
+    let mut stock = Stock {
+        opening: Vec::new(alloc),
+        files: Vec::new(alloc),
+        versions: Versions::new(alloc),
+    };
+    match read_names(alloc, folder, only, &mut names, &mut stock) {
+        Ok(()) => return Ok(stock),
+        Err(fault) => return Err(fault),
+    }
+}

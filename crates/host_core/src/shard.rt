@@ -1,0 +1,274 @@
+//! A shard of the host over a folder.
+ghost use Rattle.std.specs.Prelude.{◌≡◌, ◌≢◌, ◌≤◌, ◌<◌, ◌+◌, ◌^◌, ◌++◌, ◌∷◌, [], length, max, IfOk, IfErr, IfSome, OnOk, OnErr, true, false, option_map, slice_get, MatchOption, sum_by, List, ℕ};
+ghost use Rattle.outside.specs.Folder.{Keeps};
+ghost use Rattle.outside.specs.Faults.{Rose};
+ghost use Rattle.wopi_model.specs.Moment.{IsMoment};
+ghost use Rattle.wopi_model.specs.Host.{FullAt};
+ghost use Rattle.wopi_model.specs.Shard.{last_from, stamps, entries, opening_file};
+ghost use Rattle.file_versions.specs.Versions.{kept_in};
+ghost use Rattle.host_core.specs.Stock.{IsStock};
+ghost use Rattle.host_core.specs.Entries.{history_of, back_of};
+ghost use Rattle.host_core.specs.Files.{files_of, torn_in};
+ghost use Rattle.host_core.specs.Ledger.{IsFull, handed_back};
+ghost use Rattle.host_core.specs.Opening.{IsOfShard, IsOpening, Fits, IsTooLarge, IfTooLarge};
+
+use crate::entry::Entry;
+use crate::file::KeptFile;
+use crate::files::place_of;
+use crate::ledger::{Ledger, StepFault, take_step};
+use crate::opening::{OpeningFile, StartFault, Stock, gather};
+use crate::past::Past;
+use crate::view::{FileView, view_of};
+use file_versions::Versions;
+use outside::Folder;
+use std::alloc::Global;
+use std::marker::Model;
+use std::snapshot::Snapshot;
+use wopi_model::{Call, Ruling};
+use wopi_text::{Bytes, FileName, Memory};
+
+/// The files of one shard, their history, and the folder that keeps their contents.
+#[derive(Drop)]
+pub struct Shard<F: Folder> {
+    ledger: Ledger,
+    folder: F,
+    ticked: bool,
+    only: Snapshot<Option<u8>>,
+    start: Snapshot<F>,
+    opening: Snapshot<Vec<OpeningFile>>,
+}
+
+impl<F: Folder> Model for Shard<F> {
+    ghost use Rattle.host_core.specs.Value.{Book, Stands};
+
+    ghost Value = { Book F };
+
+    ghost use Rattle.host_core.specs.ShardView.{book_of, opening_of};
+
+    ghost view = { book_of };
+
+    ghost invariant = { λ s. Stands (book_of s) s.ledger.last s.ledger.first_files s.ledger.files.items s.ledger.versions (F.files s.start.value) (F.files s.folder) (F.faults s.start.value) (F.faults s.folder) };
+}
+
+impl<F: Folder> Shard<F> {
+    ghost use Rattle.host_core.specs.Value.{IsLawful, Agrees, state_of, is_torn};
+    ghost use Rattle.host_core.specs.ShardView.{opening_of};
+    ghost use Rattle.host_core.specs.View.{IsViewOf};
+
+    /// Opens a shard over a folder: its files whose names are file names, of shard `only` where a number is
+    /// given, each at version 1 and unlocked. Other names are left alone. A refusal hands the folder back.
+    pub fn start(
+        alloc: Global,
+        folder: F,
+        only: Option<u8>,
+        capacity: u32,
+        opened: u64,
+    ) -> Result<Shard<F>, (F, StartFault)>
+        requires capacity { (1 ≤ capacity) × (capacity ≤ 32768) }
+        requires only { IfSome only (λ number. number < 16) }
+        requires opened { IsMoment opened }
+        ensures opened { IfOk result (λ shard. shard ≡ record {
+          only = only;
+          opening = shard.opening;
+          opened = opened;
+          capacity = capacity;
+          made = [];
+          time = opened;
+          ticked = false;
+          start = folder;
+          folder = shard.folder;
+        }) }
+        ensures opening { IfOk result (λ shard. IsOpening only (F.files folder) shard.opening) }
+        ensures fits { IfOk result (λ shard. Fits shard.opening) }
+        ensures same { IfOk result (λ shard. Keeps (F.files folder) (F.files shard.folder)) }
+        ensures never_falls { IfOk result (λ shard. F.faults folder ≤ F.faults shard.folder) }
+        ensures lawful { IfOk result (λ shard. IsLawful shard (F.files shard.start) (F.files shard.folder) (F.faults shard.start) (F.faults shard.folder)) }
+        ensures too_large { IfErr result (λ refused. IfTooLarge refused.1 (IsTooLarge only (F.files folder))) }
+        ensures failed { IfErr result (λ refused. refused.1 ≡ StartFault.FolderFault → Rose (F.faults folder) (F.faults refused.0)) }
+        ensures handed { IfErr result (λ refused. Keeps (F.files folder) (F.files refused.0)) }
+        ensures counts { IfErr result (λ refused. F.faults folder ≤ F.faults refused.0) }
+    {
+        let mut folder = folder;
+        let start = Snapshot::of(&folder);
+        match gather(alloc, &mut folder, only) {
+            Ok(stock) => {
+                let shard = Shard::assemble(alloc, folder, only, start, stock, capacity, opened);
+                return Ok(shard);
+            }
+            Err(fault) => return Err((folder, fault)),
+        }
+    }
+
+    /// The shard's time, in milliseconds.
+    pub fn now(&self) -> u64
+        ensures time { result ≡ self.now.time }
+        ensures lawful { IsLawful self.now (F.files self.now.start) (F.files self.now.folder) (F.faults self.now.start) (F.faults self.now.folder) }
+    {
+        self.ledger.time
+    }
+
+    /// One act on one file at a moment, in milliseconds: the call is judged, stored and recorded. It gives the
+    /// entry's stamp, which is above the last one and the floor, the ruling, and the contents of a Put or Create
+    /// that weren't accepted. An `Err` leaves all as it was, and hands the call back.
+    pub fn step(
+        &mut self,
+        call: Call,
+        pass: u32,
+        floor: u64,
+        moment: u64,
+    ) -> Result<(u64, Ruling, Option<Bytes>), StepFault>
+        requires moment { IsMoment moment }
+        requires only { IsOfShard self.old.only call.name }
+        ensures entry { IfOk result (λ step. self.new ≡ record self.old {
+          made = self.old.made ++ record {
+            time = max self.old.time moment;
+            step = record { stamp = step.0; pass = pass; moment = moment; call = call; ruling = step.1 };
+          } ∷ [];
+          time = max self.old.time moment;
+          folder = self.new.folder;
+        }) }
+        ensures stamp { IfOk result (λ step. step.0 ≡ max (last_from 0 (stamps (entries (history_of self.old.made self.old.time)))) floor + 1) }
+        ensures back { IfOk result (λ step. step.2 ≡ back_of call.act step.1) }
+        ensures room { OnOk result (FullAt self.old.opening self.old.opened self.old.capacity (history_of self.old.made self.old.time) floor call moment → ⊥) }
+        ensures full { IfErr result (λ fault. IsFull fault
+            → FullAt self.old.opening self.old.opened self.old.capacity (history_of self.old.made self.old.time) floor call moment) }
+        ensures err { OnErr result (self.new ≡ record self.old { folder = self.new.folder }) }
+        ensures call { IfErr result (λ fault. handed_back fault ≡ call) }
+        ensures keeps { OnErr result (Keeps (F.files self.old.folder) (F.files self.new.folder)) }
+        ensures never_falls { F.faults self.old.folder ≤ F.faults self.new.folder }
+        ensures fault { IfOk result (λ step. step.1.status ≡ 500 → Rose (F.faults self.old.folder) (F.faults self.new.folder)) }
+        ensures lawful { IsLawful self.new (F.files self.new.start) (F.files self.new.folder) (F.faults self.new.start) (F.faults self.new.folder) }
+    {
+        let _name = call.name.as_slice();
+        match take_step(
+            &mut self.ledger,
+            &mut self.folder,
+            call,
+            pass,
+            floor,
+            moment,
+        ) {
+            Ok(step) => return Ok((step.stamp, step.ruling, step.back)),
+            Err(fault) => return Err(fault),
+        }
+    }
+
+    /// Raises the shard's time to a moment, and gives it. It takes no memory: a lock that is due stays where it stood
+    /// until its file is looked at.
+    pub fn settle_to(&mut self, moment: u64) -> u64
+        requires { IsMoment moment }
+        ensures after { self.new ≡ record self.old { time = max self.old.time moment; ticked = true } }
+        ensures time { result ≡ max self.old.time moment }
+        ensures lawful { IsLawful self.new (F.files self.new.start) (F.files self.new.folder) (F.faults self.new.start) (F.faults self.new.folder) }
+    {
+        self.ledger.time = self.ledger.time.max(moment);
+        self.ticked = true;
+        self.ledger.time
+    }
+
+    /// The entry at a place, counted from 0.
+    pub fn entry(&self, place: u64) -> Option<&Entry>
+        ensures { option_map (λ entry. entry.now) result ≡ slice_get self.now.made place }
+    {
+        self.ledger.entries.get(place as usize)
+    }
+
+    /// How many entries there are.
+    pub fn len(&self) -> u64
+        ensures { result ≡ length self.now.made }
+    {
+        self.ledger.entries.len() as u64
+    }
+
+    /// A file as it stands, where its name has a version.
+    pub fn file(&self, name: &FileName) -> Option<FileView<'_>>
+        ensures { MatchOption result (((state_of self.now.opening self.now.opened self.now.made self.now.time).files name.now).version ≡ 0)
+            (λ view. IsViewOf view ((state_of self.now.opening self.now.opened self.now.made self.now.time).files name.now) (is_torn self.now.made name.now)) }
+    {
+        match place_of(&self.ledger.files, name) {
+            None => None,
+            Some(place) => {
+                let file = &self.ledger.files[place];
+                if file.version == 0 {
+                    None
+                } else {
+                    Some(view_of(&self.ledger.versions, place as u32, file, self.ledger.time))
+                }
+            }
+        }
+    }
+
+    /// The shard over a folder and what was read from it.
+    fn assemble(
+        alloc: Global,
+        folder: F,
+        only: Option<u8>,
+        start: Snapshot<F>,
+        stock: Stock,
+        capacity: u32,
+        opened: u64,
+    ) -> Shard<F>
+        requires moment { IsMoment opened }
+        requires capacity { capacity ≤ 32768 }
+        requires stock { IsStock stock }
+        requires opening { IsOpening only (F.files start.value) (opening_of stock.opening.items) }
+        requires same { Keeps (F.files start.value) (F.files folder) }
+        requires faults { F.faults start.value ≤ F.faults folder }
+        ensures value { result ≡ record {
+          only = only;
+          opening = opening_of stock.opening.items;
+          opened = opened;
+          capacity = capacity;
+          made = [];
+          time = opened;
+          ticked = false;
+          start = start.value;
+          folder = folder;
+        } }
+        ensures lawful { IsLawful result (F.files result.start) (F.files result.folder) (F.faults result.start) (F.faults result.folder) }
+    {
+        let opening = Snapshot::of(&stock.opening);
+        Shard {
+            ledger: Ledger {
+                alloc,
+                opened,
+                capacity,
+                time: opened,
+                last: 0,
+                first_files: stock.files.len(),
+                files: stock.files,
+                versions: stock.versions,
+                entries: Vec::new(alloc),
+            },
+            folder,
+            ticked: false,
+            only: Snapshot::of(&only),
+            start,
+            opening,
+        }
+    }
+
+    /// Gives the folder as the last step left it, and what the shard leaves. It takes no memory.
+    pub fn end(self) -> (F, Past<F>)
+        ensures folder { result.0 ≡ self.folder }
+        ensures past { result.1 ≡ record { opening = self.opening; made = self.made; start = self.start } }
+        ensures lawful { IsLawful self (F.files self.start) (F.files self.folder) (F.faults self.start) (F.faults self.folder) }
+    {
+        let Shard {
+            ledger,
+            folder,
+            start,
+            opening,
+            ..
+        } = self;
+        let past = Past {
+            first_files: ledger.first_files,
+            files: ledger.files,
+            versions: ledger.versions,
+            entries: ledger.entries,
+            opening,
+            start,
+        };
+        (folder, past)
+    }
+}

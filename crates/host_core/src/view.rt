@@ -1,0 +1,72 @@
+//! A file as a caller sees it.
+ghost use Rattle.std.specs.Prelude.{◌≡◌, [], option_map, unwrap_or};
+ghost use Rattle.wopi_model.specs.Settle.{settled, standing};
+ghost use Rattle.host_core.specs.Files.{file_of, BeganAtMoment, IsHeld};
+ghost use Rattle.host_core.specs.View.{IsViewOf};
+
+use crate::carry::contents_of;
+use crate::file::KeptFile;
+use file_versions::Versions;
+use wopi_model::Lock;
+
+/// How long a lock stands, in milliseconds: 30 minutes.
+const LOCK_LIFE: u64 = 1_800_000;
+
+/// A file at the shard's time. `contents` is empty where the file doesn't exist, and `torn` says that
+/// the last store call on it failed.
+#[derive(Drop)]
+pub struct FileView<'a> {
+    pub exists: bool,
+    pub version: u64,
+    pub lock: Option<&'a Lock>,
+    pub contents: &'a [u8],
+    pub torn: bool,
+}
+
+/// The lock, where it still stands.
+fn standing_lock(lock: &Option<Lock>, now: u64) -> Option<&Lock>
+    requires { BeganAtMoment lock.now }
+    ensures { option_map (λ held. held.now) result ≡ standing lock.now now }
+{
+    match lock {
+        None => None,
+        Some(held) => {
+            if held.since + LOCK_LIFE <= now {
+                None
+            } else {
+                Some(held)
+            }
+        }
+    }
+}
+
+/// The bytes of a file, none where it doesn't exist.
+fn bytes_of<'a>(versions: &'a Versions, number: u32, file: &KeptFile) -> &'a [u8]
+    requires { IsHeld number file.now versions.now }
+    ensures { result.now ≡ unwrap_or file.now.contents [] }
+{
+    match contents_of(versions, number, file) {
+        None => &[],
+        Some(contents) => contents.as_slice(),
+    }
+}
+
+/// The kept file, as it is once it is settled.
+pub fn view_of<'a>(
+    versions: &'a Versions,
+    number: u32,
+    file: &'a KeptFile,
+    now: u64,
+) -> FileView<'a>
+    requires moment { BeganAtMoment file.now.lock }
+    requires held { IsHeld number file.now versions.now }
+    ensures { IsViewOf result (settled (file_of file.now) now) file.now.torn }
+{
+    FileView {
+        exists: file.contents.is_some(),
+        version: file.version,
+        lock: standing_lock(&file.lock, now),
+        contents: bytes_of(versions, number, file),
+        torn: file.torn,
+    }
+}
