@@ -51,7 +51,7 @@ impl<F: Folder> Single<F> {
 
 impl<F: Folder> Caller for Single<F> {
     ghost use Rattle.std.proofs.Common.{inl, refl};
-    ghost use Rattle.host_core.specs.Single.{sight_of};
+    ghost use Rattle.host_core.specs.Single.{sight_of, SeesItsOwn, sees_its_own};
 
     /// The folder as it was handed in, and whether the shard's time was ever set apart from a step.
     type Basis = (F, bool);
@@ -60,7 +60,11 @@ impl<F: Folder> Caller for Single<F> {
 
     ghost sight = { λ single. sight_of single.shard };
 
+    ghost always = { SeesItsOwn };
+
     ghost has_floor = { λ single. inl refl };
+
+    ghost is_always = { λ single. sees_its_own single.shard };
 
     fn call(&mut self, call: Call, moment: u64) -> Result<Receipt, CallFault> {
         let place = self.shard.len();

@@ -7,6 +7,11 @@ use Rattle.wopi_http.specs.Replies.{reply_text}
 use Rattle.wopi_headers.specs.Replies.{reply_of}
 use Rattle.wopi_headers.specs.declared.answer.Answer.{Answer}
 use Rattle.host_server.specs.Texts.{answer_text}
+use Rattle.host_core.specs.Caller.{Sight}
+use Rattle.host_server.specs.declared.desk.Desk.{Desk}
+use Rattle.host_server.specs.Deeds.{Deed, Does}
+use Rattle.host_server.specs.Answering.{Answered}
+use Rattle.host_server.proofs.DeedLemmas.{Does-nil, Does-join}
 use Rattle.host_server.specs.Turns.{answer, no_memory, Answers}
 use Rattle.host_server.specs.Steps.{Makes}
 
@@ -14,19 +19,19 @@ pub text_is : (r : Reply) (a : Answer) (close : Bool) → r ≡ reply_of a close
 unfolding answer_text
 text_is r a close is = ap reply_text is
 
-module _ {E : Type 0} (Answered : Request → ℕ → List E → Answer → Type 0) (q : Request) (moment : ℕ) (close : Bool) (history history' : List E) where
-  pub makes_reply : (a : Answer) (r : Reply) → Answers Answered q moment history history' (Ok a) → reply_text r ≡ answer_text a close
-      → Makes Answered q moment close history history' (Some r)
+module _ (desk : Desk) (always : Sight → Type 0) (q : Request) (moment : ℕ) (close : Bool) (history history' : Sight) where
+  pub makes_reply : (a : Answer) (r : Reply) → Answers desk q moment always history history' (Ok a) → reply_text r ≡ answer_text a close
+      → Makes desk always q moment close history history' (Some r)
   makes_reply a r (part, grew, is) text = record { part = part; said = answer a; is_said = is; makes = grew; text = text }
 
-  pub makes_none : (a : Answer) → Answers Answered q moment history history' (Ok a) → Makes Answered q moment close history history' None
+  pub makes_none : (a : Answer) → Answers desk q moment always history history' (Ok a) → Makes desk always q moment close history history' None
   makes_none a (part, grew, is) = record {
     part = part;
     said = no_memory;
-    is_said = inr ([], a, subst (λ p. Answered q moment p a) (sym (append-nil part)) is);
+    is_said = inr ([], a, subst (λ p. Answered desk q moment p a) (sym (append-nil part)) is);
     makes = grew;
     text = refl;
   }
 
-  pub makes_nothing : (fault : Memory) → Answers Answered q moment history history' (Err fault) → Makes Answered q moment close history history' None
+  pub makes_nothing : (fault : Memory) → Answers desk q moment always history history' (Err fault) → Makes desk always q moment close history history' None
   makes_nothing fault (part, grew, is) = record { part = part; said = no_memory; is_said = is; makes = grew; text = refl }

@@ -8,6 +8,7 @@ use Rattle.outside.specs.Stream.{Are}
 use Rattle.wopi_http.specs.declared.message.Request.{Request}
 use Rattle.wopi_http.specs.Closing.{closes}
 use Rattle.wopi_headers.specs.declared.answer.Answer.{Answer}
+use Rattle.host_server.specs.declared.desk.Desk.{Desk}
 use Rattle.host_server.specs.Turns.{Turn, IsTurn, GoOn}
 
 -- these bytes, and then those that are left
@@ -36,7 +37,7 @@ pub map-one : {X Y : Type 0} (f : X → Y) (xs : List X) (x : X) → map f (xs +
 map-one f [] x = refl
 map-one f (y ∷ xs) x = ap (λ z. f y ∷ z) (map-one f xs x)
 
-pub GoOn-one : {E : Type 0} (Answered : Request → ℕ → List E → Answer → Type 0) (turns : List (Turn E)) (t : Turn E) → GoOn Answered turns
-    → IsTurn Answered t → closes t.request ≡ false → GoOn Answered (turns ++ t ∷ [])
-GoOn-one Answered [] t all is stays = (is, stays, tt)
-GoOn-one Answered (x ∷ turns) t all is stays = (all.0, all.1, GoOn-one Answered turns t all.2 is stays)
+pub GoOn-one : (desk : Desk) (turns : List Turn) (t : Turn) → GoOn desk turns
+    → IsTurn desk t → closes t.request ≡ false → GoOn desk (turns ++ t ∷ [])
+GoOn-one desk [] t all is stays = (is, stays, tt)
+GoOn-one desk (x ∷ turns) t all is stays = (all.0, all.1, GoOn-one desk turns t all.2 is stays)

@@ -10,6 +10,11 @@ use Rattle.wopi_headers.specs.declared.answer.Answer.{Answer}
 use Rattle.host_server.specs.declared.connection.ConnEnd.{ConnEnd}
 use Rattle.host_server.specs.declared.connection.ConnEnd.TheVariants.{Done, ReadFault, WriteFault, Memory}
 use Rattle.host_server.specs.declared.connection.Progress.TheVariants.{Over}
+use Rattle.host_core.specs.Caller.{Sight}
+use Rattle.host_server.specs.declared.desk.Desk.{Desk}
+use Rattle.host_server.specs.Deeds.{Deed, Does}
+use Rattle.host_server.specs.Answering.{Answered}
+use Rattle.host_server.proofs.DeedLemmas.{Does-nil, Does-join}
 use Rattle.host_server.specs.Turns.{bytes_of, moments_of, parts_of, texts_of, turn_text}
 use Rattle.host_server.specs.Connection.{message_limit, is_last, Cut, IsEnd, IsNext, IsLine, Serves, end_text, end_moments, end_part, next_moments, next_part}
 use Rattle.host_server.specs.Steps.{StepsOn, StepsOver, Breaks, Steps, Running}
@@ -22,40 +27,40 @@ stays_open count q stays = grind (arith, stays)
 pub has_room : (count : ℕ) (q : Request) → is_last count q ≡ false → count < message_limit → count + 1 < message_limit
 has_room count q stays few = grind (arith, stays, few)
 
-module _ {E : Type 0} (Answered : Request → ℕ → List E → Answer → Type 0) (left clock : Option (List ℕ)) (history : List E) (held : Option (List ℕ)) where
-  pub runs_first : (buffer : List ℕ) → buffer ≡ [] → Running Answered 0 left (prepend_known buffer left) clock clock history history held held
+module _ (desk : Desk) (always : Sight → Type 0) (left clock : Option (List ℕ)) (history : Sight) (held : Option (List ℕ)) where
+  pub runs_first : (buffer : List ℕ) → buffer ≡ [] → Running desk always 0 left (prepend_known buffer left) clock clock history history held held
   runs_first buffer none = record {
     turns = [];
     go_on = tt;
     count_is = refl;
     reads = subst (λ b. Consumes left (prepend_known b left) []) (sym none) (subst (λ l. Consumes left l []) (sym (prepend_known-nil left)) (Consumes-nil left));
     times = GivesAll-nil clock;
-    makes = sym (append-nil history);
+    makes = Does-nil always history;
     writes = Appends-nil held;
   }
 
-  module _ (count : ℕ) (left' clock' : Option (List ℕ)) (history' : List E) (held' : Option (List ℕ))
-      (running : Running Answered count left left' clock clock' history history' held held') where
-    pub runs_on : (left'' clock'' : Option (List ℕ)) (history'' : List E) (held'' : Option (List ℕ))
-        → StepsOn Answered count left' left'' clock' clock'' history' history'' held' held''
-        → Running Answered (count + 1) left left'' clock clock'' history history'' held held''
+  module _ (count : ℕ) (left' clock' : Option (List ℕ)) (history' : Sight) (held' : Option (List ℕ))
+      (running : Running desk always count left left' clock clock' history history' held held') where
+    pub runs_on : (left'' clock'' : Option (List ℕ)) (history'' : Sight) (held'' : Option (List ℕ))
+        → StepsOn desk always count left' left'' clock' clock'' history' history'' held' held''
+        → Running desk always (count + 1) left left'' clock clock'' history history'' held held''
     runs_on left'' clock'' history'' held'' step =
         let turns = running.turns in
         let t = step.turn in
         record {
           turns = turns ++ t ∷ [];
-          go_on = GoOn-one Answered turns t running.go_on step.is_turn (stays_open count t.request step.stays);
+          go_on = GoOn-one desk turns t running.go_on step.is_turn (stays_open count t.request step.stays);
           count_is = length-append turns (t ∷ []) ∙ ap (λ n. n + 1) running.count_is;
           reads = subst (Consumes left left'') (sym (flat_map-one (λ x. x.bytes) turns t)) (Consumes-trans left left' left'' _ _ running.reads step.reads);
           times = subst (GivesAll clock clock'') (sym (map-one (λ x. x.moment) turns t)) (GivesAll-trans clock clock' clock'' _ _ running.times step.times);
-          makes = step.makes ∙ ap (λ h. h ++ t.part) running.makes ∙ append_assoc history (parts_of turns) t.part
-              ∙ ap (λ p. history ++ p) (sym (flat_map-one (λ x. x.part) turns t));
+          makes = subst (Does always history history'') (sym (flat_map-one (λ x. x.part) turns t))
+              (Does-join always history history' history'' (parts_of turns) t.part running.makes step.makes);
           writes = subst (Appends held held'') (sym (flat_map-one (λ x. turn_text x false) turns t)) (Appends-trans held held' held'' _ _ running.writes step.writes);
         }
 
-    pub serves_over : (clock'' : Option (List ℕ)) (history'' : List E) (held'' : Option (List ℕ)) → count < message_limit
-        → StepsOver Answered count left' clock' clock'' history' history'' held' held''
-        → Serves Answered Done left clock clock'' history history'' held held''
+    pub serves_over : (clock'' : Option (List ℕ)) (history'' : Sight) (held'' : Option (List ℕ)) → count < message_limit
+        → StepsOver desk always count left' clock' clock'' history' history'' held' held''
+        → Serves desk always Done left clock clock'' history history'' held held''
     serves_over clock'' history'' held'' few step =
         let turns = running.turns in
         record {
@@ -65,7 +70,7 @@ module _ {E : Type 0} (Answered : Request → ℕ → List E → Answer → Type
           output = texts_of turns ++ end_text step.end;
           reads = are_from left left' (bytes_of turns) step.rest running.reads step.reads;
           times = GivesAll-trans clock clock' clock'' _ _ running.times step.times;
-          makes = step.makes ∙ ap (λ h. h ++ end_part step.end) running.makes ∙ append_assoc history (parts_of turns) (end_part step.end);
+          makes = Does-join always history history' history'' (parts_of turns) (end_part step.end) running.makes step.makes;
           writes = Appends-trans held held' held'' _ _ running.writes step.writes;
           says = record {
             turns = turns;
@@ -75,7 +80,7 @@ module _ {E : Type 0} (Answered : Request → ℕ → List E → Answer → Type
               go_on = running.go_on;
               few = subst (λ n. n < message_limit) (sym running.count_is) few;
               input_is = refl;
-              ends = subst (λ n. IsEnd Answered n step.rest step.end) (sym running.count_is) step.ends;
+              ends = subst (λ n. IsEnd desk n step.rest step.end) (sym running.count_is) step.ends;
               moments_are = refl;
               entries_are = refl;
             };
@@ -83,9 +88,9 @@ module _ {E : Type 0} (Answered : Request → ℕ → List E → Answer → Type
           };
         }
 
-    cut_from : (clock'' : Option (List ℕ)) (history'' : List E) (held'' : Option (List ℕ)) → count < message_limit
-        → (step : Breaks Answered count left' clock' clock'' history' history'' held' held'')
-        → (cut : Cut Answered (bytes_of running.turns ++ step.rest) (moments_of running.turns ++ next_moments step.next)
+    cut_from : (clock'' : Option (List ℕ)) (history'' : Sight) (held'' : Option (List ℕ)) → count < message_limit
+        → (step : Breaks desk always count left' clock' clock'' history' history'' held' held'')
+        → (cut : Cut desk (bytes_of running.turns ++ step.rest) (moments_of running.turns ++ next_moments step.next)
         (parts_of running.turns ++ next_part step.next) (texts_of running.turns ++ step.front)) × (cut.next ≡ step.next) × (cut.back ≡ step.back)
     cut_from clock'' history'' held'' few step = (
       record {
@@ -95,7 +100,7 @@ module _ {E : Type 0} (Answered : Request → ℕ → List E → Answer → Type
         go_on = running.go_on;
         few = subst (λ n. n < message_limit) (sym running.count_is) few;
         input_is = refl;
-        is_next = subst (λ n. IsNext Answered n step.rest step.next) (sym running.count_is) step.is_next;
+        is_next = subst (λ n. IsNext desk n step.rest step.next) (sym running.count_is) step.is_next;
         moments_are = refl;
         entries_are = refl;
         front = step.front;
@@ -107,9 +112,9 @@ module _ {E : Type 0} (Answered : Request → ℕ → List E → Answer → Type
       refl,
     )
 
-    pub serves_broken : (clock'' : Option (List ℕ)) (history'' : List E) (held'' : Option (List ℕ)) → count < message_limit
-        → Breaks Answered count left' clock' clock'' history' history'' held' held''
-        → Serves Answered WriteFault left clock clock'' history history'' held held''
+    pub serves_broken : (clock'' : Option (List ℕ)) (history'' : Sight) (held'' : Option (List ℕ)) → count < message_limit
+        → Breaks desk always count left' clock' clock'' history' history'' held' held''
+        → Serves desk always WriteFault left clock clock'' history history'' held held''
     serves_broken clock'' history'' held'' few step =
         let turns = running.turns in
         record {
@@ -119,14 +124,14 @@ module _ {E : Type 0} (Answered : Request → ℕ → List E → Answer → Type
           output = texts_of turns ++ step.front;
           reads = are_from left left' (bytes_of turns) step.rest running.reads step.reads;
           times = GivesAll-trans clock clock' clock'' _ _ running.times step.times;
-          makes = step.makes ∙ ap (λ h. h ++ next_part step.next) running.makes ∙ append_assoc history (parts_of turns) (next_part step.next);
+          makes = Does-join always history history' history'' (parts_of turns) (next_part step.next) running.makes step.makes;
           writes = Appends-trans held held' held'' _ _ running.writes step.writes;
           says = (cut_from clock'' history'' held'' few step).0;
         }
 
-    pub serves_unread : (clock'' : Option (List ℕ)) (history'' : List E) (held'' : Option (List ℕ)) → count < message_limit
-        → (step : Breaks Answered count left' clock' clock'' history' history'' held' held'') → IsLine step.next → step.back ≡ []
-        → Serves Answered ReadFault left clock clock'' history history'' held held''
+    pub serves_unread : (clock'' : Option (List ℕ)) (history'' : Sight) (held'' : Option (List ℕ)) → count < message_limit
+        → (step : Breaks desk always count left' clock' clock'' history' history'' held' held'') → IsLine step.next → step.back ≡ []
+        → Serves desk always ReadFault left clock clock'' history history'' held held''
     serves_unread clock'' history'' held'' few step is_line whole =
         let turns = running.turns in
         let (cut, next, back) = cut_from clock'' history'' held'' few step in
@@ -137,23 +142,23 @@ module _ {E : Type 0} (Answered : Request → ℕ → List E → Answer → Type
           output = texts_of turns ++ step.front;
           reads = are_from left left' (bytes_of turns) step.rest running.reads step.reads;
           times = GivesAll-trans clock clock' clock'' _ _ running.times step.times;
-          makes = step.makes ∙ ap (λ h. h ++ next_part step.next) running.makes ∙ append_assoc history (parts_of turns) (next_part step.next);
+          makes = Does-join always history history' history'' (parts_of turns) (next_part step.next) running.makes step.makes;
           writes = Appends-trans held held' held'' _ _ running.writes step.writes;
           says = (cut, subst IsLine (sym next) is_line, back ∙ whole);
         }
 
-    pub serves_from : (end : ConnEnd) (left'' clock'' : Option (List ℕ)) (history'' : List E) (held'' : Option (List ℕ)) → count < message_limit
-        → Steps Answered count left' left'' clock' clock'' history' history'' held' held'' (Over end)
-        → Serves Answered end left clock clock'' history history'' held held''
+    pub serves_from : (end : ConnEnd) (left'' clock'' : Option (List ℕ)) (history'' : Sight) (held'' : Option (List ℕ)) → count < message_limit
+        → Steps desk always count left' left'' clock' clock'' history' history'' held' held'' (Over end)
+        → Serves desk always end left clock clock'' history history'' held held''
     serves_from Done left'' clock'' history'' held'' few step = serves_over clock'' history'' held'' few step
     serves_from ReadFault left'' clock'' history'' held'' few step = serves_unread clock'' history'' held'' few step.0 step.1 step.2
     serves_from WriteFault left'' clock'' history'' held'' few step = serves_broken clock'' history'' held'' few step
     serves_from Memory left'' clock'' history'' held'' few step = absurd step
 
 -- no memory to begin
-pub serves_nothing : {E : Type 0} (Answered : Request → ℕ → List E → Answer → Type 0) (left clock : Option (List ℕ)) (history : List E) (held : Option (List ℕ))
-    → Serves Answered Memory left clock clock history history held held
-serves_nothing Answered left clock history held =
+pub serves_nothing : (desk : Desk) (always : Sight → Type 0) (left clock : Option (List ℕ)) (history : Sight) (held : Option (List ℕ))
+    → Serves desk always Memory left clock clock history history held held
+serves_nothing desk always left clock history held =
     let (input, are) = some_input left in
     record {
       input = input;
@@ -162,7 +167,7 @@ serves_nothing Answered left clock history held =
       output = [];
       reads = are;
       times = GivesAll-nil clock;
-      makes = sym (append-nil history);
+      makes = Does-nil always history;
       writes = Appends-nil held;
       says = (refl, refl, refl);
     }

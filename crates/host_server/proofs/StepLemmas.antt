@@ -11,6 +11,11 @@ use Rattle.wopi_http.specs.Answers.{hundred_text, Reads, Looked, IsRefused}
 use Rattle.wopi_http.specs.Replies.{Writes}
 use Rattle.wopi_headers.specs.declared.answer.Answer.{Answer}
 use Rattle.host_server.specs.Texts.{bare_reply}
+use Rattle.host_core.specs.Caller.{Sight}
+use Rattle.host_server.specs.declared.desk.Desk.{Desk}
+use Rattle.host_server.specs.Deeds.{Deed, Does}
+use Rattle.host_server.specs.Answering.{Answered}
+use Rattle.host_server.proofs.DeedLemmas.{Does-nil, Does-join}
 use Rattle.host_server.specs.Turns.{said_text, Turn, IsTurn}
 use Rattle.host_server.specs.Connection.{is_last, closed, empty, refused, wanted, line, reply, last, IsLine}
 use Rattle.host_server.specs.Steps.{Replies, StepsOn, StepsOver, Breaks}
@@ -36,14 +41,10 @@ refused_of a hundred s at r = record {
   count = r.count;
 }
 
--- nothing came to the history, and no moment was given
-same_history : {E : Type 0} (history : List E) → history ≡ history ++ []
-same_history history = sym (append-nil history)
-
-module _ {E : Type 0} (Answered : Request → ℕ → List E → Answer → Type 0) (count : ℕ) (q : Request) (clock clock' : Option (List ℕ)) (history history' : List E) where
+module _ (desk : Desk) (always : Sight → Type 0) (count : ℕ) (q : Request) (clock clock' : Option (List ℕ)) (history history' : Sight) where
   turn_of : (left left' held mid held' : Option (List ℕ)) (close : Bool) (result : Result (Unit {0}) Failed) → Reads left left' held mid (Message q)
-      → Replies Answered q close clock clock' history history' mid held' result → (t : Turn E) × IsTurn Answered t × (t.request ≡ q)
-      × Consumes left left' t.bytes × GivesAll clock clock' (t.moment ∷ []) × (history' ≡ history ++ t.part)
+      → Replies desk always q close clock clock' history history' mid held' result → (t : Turn) × IsTurn desk t × (t.request ≡ q)
+      × Consumes left left' t.bytes × GivesAll clock clock' (t.moment ∷ []) × Does always history history' t.part
       × Appends held mid (hundred_text t.hundred) × Writes mid held' result (said_text t.said close)
   turn_of left left' held mid held' close result reads made = (
     record { bytes = reads.answer.0; request = q; hundred = reads.hundred; moment = made.moment; part = made.part; said = made.said },
@@ -57,8 +58,8 @@ module _ {E : Type 0} (Answered : Request → ℕ → List E → Answer → Type
   )
 
   pub step_on : (left left' held mid held' : Option (List ℕ)) (done : Unit {0}) → Reads left left' held mid (Message q)
-      → Replies Answered q false clock clock' history history' mid held' (Ok done) → is_last count q ≡ false
-      → StepsOn Answered count left left' clock clock' history history' held held'
+      → Replies desk always q false clock clock' history history' mid held' (Ok done) → is_last count q ≡ false
+      → StepsOn desk always count left left' clock clock' history history' held held'
   step_on left left' held mid held' done reads made stays =
       let (t, is, same, used, times, makes, asked, said) = turn_of left left' held mid held' false (Ok done) reads made in
       record {
@@ -72,8 +73,8 @@ module _ {E : Type 0} (Answered : Request → ℕ → List E → Answer → Type
       }
 
   pub step_closed : (left left' held mid held' : Option (List ℕ)) (done : Unit {0}) → Reads left left' held mid (Message q)
-      → Replies Answered q true clock clock' history history' mid held' (Ok done) → is_last count q ≡ true
-      → StepsOver Answered count left clock clock' history history' held held'
+      → Replies desk always q true clock clock' history history' mid held' (Ok done) → is_last count q ≡ true
+      → StepsOver desk always count left clock clock' history history' held held'
   step_closed left left' held mid held' done reads made closes =
       let (t, is, same, used, times, makes, asked, said) = turn_of left left' held mid held' true (Ok done) reads made in
       let (after, whole) = rest_of left left' t.bytes used in
@@ -88,8 +89,8 @@ module _ {E : Type 0} (Answered : Request → ℕ → List E → Answer → Type
       }
 
   pub step_broken : (left left' held mid held' : Option (List ℕ)) (close : Bool) (fault : Failed) → Reads left left' held mid (Message q)
-      → Replies Answered q close clock clock' history history' mid held' (Err fault) → is_last count q ≡ close
-      → Breaks Answered count left clock clock' history history' held held'
+      → Replies desk always q close clock clock' history history' mid held' (Err fault) → is_last count q ≡ close
+      → Breaks desk always count left clock clock' history history' held held'
   step_broken left left' held mid held' false fault reads made stays =
       let (t, is, same, used, times, makes, asked, said) = turn_of left left' held mid held' false (Err fault) reads made in
       let (after, whole) = rest_of left left' t.bytes used in
@@ -123,29 +124,29 @@ module _ {E : Type 0} (Answered : Request → ℕ → List E → Answer → Type
         writes = Appends-trans held mid held' _ _ asked written;
       }
 
-module _ {E : Type 0} (Answered : Request → ℕ → List E → Answer → Type 0) (count : ℕ) (left left' clock : Option (List ℕ)) (history : List E)
+module _ (desk : Desk) (always : Sight → Type 0) (count : ℕ) (left left' clock : Option (List ℕ)) (history : Sight)
     (held mid held' : Option (List ℕ)) where
   pub step_refused : (s at : ℕ) (done : Unit {0}) → Reads left left' held mid (Refused s at) → Writes {T = Unit {0}} {E = Failed} mid held' (Ok done) (bare_reply s true)
-      → StepsOver Answered count left clock clock history history held held'
+      → StepsOver desk always count left clock clock history history held held'
   step_refused s at done reads said = record {
     end = refused s reads.hundred;
     rest = reads.answer.bytes ++ reads.answer.more;
     reads = reads.answer.looked.begins;
     ends = (at, refused_of left reads.hundred s at reads.answer);
     times = GivesAll-nil clock;
-    makes = same_history history;
+    makes = Does-nil always history;
     writes = Appends-trans held mid held' _ _ reads.asked said;
   }
 
   pub refusal_broken : (s at : ℕ) (fault : Failed) → Reads left left' held mid (Refused s at) → Writes {T = Unit {0}} {E = Failed} mid held' (Err fault) (bare_reply s true)
-      → Breaks Answered count left clock clock history history held held'
+      → Breaks desk always count left clock clock history history held held'
   refusal_broken s at fault reads (front, back, parts, written) = record {
     next = last (refused s reads.hundred);
     rest = reads.answer.bytes ++ reads.answer.more;
     reads = reads.answer.looked.begins;
     is_next = (at, refused_of left reads.hundred s at reads.answer);
     times = GivesAll-nil clock;
-    makes = same_history history;
+    makes = Does-nil always history;
     front = hundred_text reads.hundred ++ front;
     back = back;
     parts = ap (λ z. hundred_text reads.hundred ++ z) parts ∙ sym (append_assoc (hundred_text reads.hundred) front back);
@@ -153,7 +154,7 @@ module _ {E : Type 0} (Answered : Request → ℕ → List E → Answer → Type
   }
 
   pub step_wanted : (done : Unit {0}) → Reads left left' held mid Memory → Writes {T = Unit {0}} {E = Failed} mid held' (Ok done) (bare_reply 503 true)
-      → StepsOver Answered count left clock clock history history held held'
+      → StepsOver desk always count left clock clock history history held held'
   step_wanted done reads said =
       let (bytes, more, looked) = reads.answer in
       record {
@@ -162,12 +163,12 @@ module _ {E : Type 0} (Answered : Request → ℕ → List E → Answer → Type
         reads = looked.begins;
         ends = (bytes, more, looked_of left bytes more reads.hundred looked);
         times = GivesAll-nil clock;
-        makes = same_history history;
+        makes = Does-nil always history;
         writes = Appends-trans held mid held' _ _ reads.asked said;
       }
 
   pub want_broken : (fault : Failed) → Reads left left' held mid Memory → Writes {T = Unit {0}} {E = Failed} mid held' (Err fault) (bare_reply 503 true)
-      → Breaks Answered count left clock clock history history held held'
+      → Breaks desk always count left clock clock history history held held'
   want_broken fault reads (front, back, parts, written) =
       let (bytes, more, looked) = reads.answer in
       record {
@@ -176,28 +177,28 @@ module _ {E : Type 0} (Answered : Request → ℕ → List E → Answer → Type
         reads = looked.begins;
         is_next = (bytes, more, looked_of left bytes more reads.hundred looked);
         times = GivesAll-nil clock;
-        makes = same_history history;
+        makes = Does-nil always history;
         front = hundred_text reads.hundred ++ front;
         back = back;
         parts = ap (λ z. hundred_text reads.hundred ++ z) parts ∙ sym (append_assoc (hundred_text reads.hundred) front back);
         writes = Appends-trans held mid held' _ _ reads.asked written;
       }
 
-module _ {E : Type 0} (Answered : Request → ℕ → List E → Answer → Type 0) (count : ℕ) (left left' clock : Option (List ℕ)) (history : List E)
+module _ (desk : Desk) (always : Sight → Type 0) (count : ℕ) (left left' clock : Option (List ℕ)) (history : Sight)
     (held held' : Option (List ℕ)) where
-  pub step_end : Reads left left' held held' NoMore → StepsOver Answered count left clock clock history history held held'
+  pub step_end : Reads left left' held held' NoMore → StepsOver desk always count left clock clock history history held held'
   step_end reads = record {
     end = empty;
     rest = [];
     reads = reads.answer.0;
     ends = refl;
     times = GivesAll-nil clock;
-    makes = same_history history;
+    makes = Does-nil always history;
     writes = subst (λ h. Appends held held' (hundred_text h)) reads.answer.1 reads.asked;
   }
 
   pub reading_broken : Reads left left' held held' ReadFault
-      → (breaks : Breaks Answered count left clock clock history history held held') × IsLine breaks.next × (breaks.back ≡ [])
+      → (breaks : Breaks desk always count left clock clock history history held held') × IsLine breaks.next × (breaks.back ≡ [])
   reading_broken reads =
       let (bytes, more, looked) = reads.answer in (
         record {
@@ -206,7 +207,7 @@ module _ {E : Type 0} (Answered : Request → ℕ → List E → Answer → Type
           reads = looked.begins;
           is_next = (bytes, more, looked_of left bytes more reads.hundred looked);
           times = GivesAll-nil clock;
-          makes = same_history history;
+          makes = Does-nil always history;
           front = hundred_text reads.hundred;
           back = [];
           parts = sym (append-nil (hundred_text reads.hundred));
@@ -216,7 +217,7 @@ module _ {E : Type 0} (Answered : Request → ℕ → List E → Answer → Type
         refl,
       )
 
-  pub asking_broken : Reads left left' held held' WriteFault → Breaks Answered count left clock clock history history held held'
+  pub asking_broken : Reads left left' held held' WriteFault → Breaks desk always count left clock clock history history held held'
   asking_broken reads =
       let (bytes, more, looked) = reads.answer in
       let (asks, (front, back, parts, written)) = reads.asked in
@@ -226,7 +227,7 @@ module _ {E : Type 0} (Answered : Request → ℕ → List E → Answer → Type
         reads = looked.begins;
         is_next = (bytes, more, looked_of left bytes more true (subst (Looked left bytes more) asks looked));
         times = GivesAll-nil clock;
-        makes = same_history history;
+        makes = Does-nil always history;
         front = front;
         back = back;
         parts = parts;

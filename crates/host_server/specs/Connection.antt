@@ -9,6 +9,9 @@ use Rattle.wopi_http.specs.Closing.{closes}
 use Rattle.wopi_headers.specs.declared.answer.Answer.{Answer}
 use Rattle.host_server.specs.declared.connection.ConnEnd.{ConnEnd}
 use Rattle.host_server.specs.declared.connection.ConnEnd.TheVariants.{Done, ReadFault, WriteFault, Memory}
+use Rattle.host_core.specs.Caller.{Sight}
+use Rattle.host_server.specs.declared.desk.Desk.{Desk}
+use Rattle.host_server.specs.Deeds.{Deed, Does}
 use Rattle.host_server.specs.Texts.{bare_reply}
 use Rattle.host_server.specs.Turns.{Turn, IsTurn, GoOn, turn_text, bytes_of, moments_of, parts_of, texts_of}
 
@@ -21,105 +24,105 @@ abbrev pub is_last : ℕ → Request → Bool
 is_last count q = closes q || (count + 1 == message_limit)
 
 -- How the messages end.
-pub data End (E : Type 0) : Type 0 where
+pub data End : Type 0 where
   -- with one that closes
-  closed : Turn E → End E
+  closed : Turn → End
   -- with the input
-  empty : End E
+  empty : End
   -- where the rest is at fault, with this status; and whether its head asks for the 100 line
-  refused : ℕ → Bool → End E
+  refused : ℕ → Bool → End
   -- where there was no memory to read the rest; and whether its head was seen, and asks for the 100 line
-  wanted : Bool → End E
+  wanted : Bool → End
 
-abbrev pub IsEnd : {E : Type 0} → (Request → ℕ → List E → Answer → Type 0) → ℕ → List ℕ → End E → Type 0
-IsEnd Answered count rest (closed t) =
-    IsTurn Answered t × (is_last count t.request ≡ true) × ((after : List ℕ) × (rest ≡ t.bytes ++ after))
-IsEnd Answered count rest empty = rest ≡ []
-IsEnd Answered count rest (refused s hundred) = (at : ℕ) × IsRefused (Some rest) hundred s at
-IsEnd Answered count rest (wanted hundred) = (bytes : List ℕ) × (more : List ℕ) × Looked (Some rest) bytes more hundred
+abbrev pub IsEnd : Desk → ℕ → List ℕ → End → Type 0
+IsEnd desk count rest (closed t) =
+    IsTurn desk t × (is_last count t.request ≡ true) × ((after : List ℕ) × (rest ≡ t.bytes ++ after))
+IsEnd desk count rest empty = rest ≡ []
+IsEnd desk count rest (refused s hundred) = (at : ℕ) × IsRefused (Some rest) hundred s at
+IsEnd desk count rest (wanted hundred) = (bytes : List ℕ) × (more : List ℕ) × Looked (Some rest) bytes more hundred
 
-abbrev pub end_moments : {E : Type 0} → End E → List ℕ
+abbrev pub end_moments : End → List ℕ
 end_moments (closed t) = t.moment ∷ []
 end_moments empty = []
 end_moments (refused s hundred) = []
 end_moments (wanted hundred) = []
 
-abbrev pub end_part : {E : Type 0} → End E → List E
+abbrev pub end_part : End → List Deed
 end_part (closed t) = t.part
 end_part empty = []
 end_part (refused s hundred) = []
 end_part (wanted hundred) = []
 
-abbrev pub end_text : {E : Type 0} → End E → List ℕ
+abbrev pub end_text : End → List ℕ
 end_text (closed t) = turn_text t true
 end_text empty = []
 end_text (refused s hundred) = hundred_text hundred ++ bare_reply s true
 end_text (wanted hundred) = hundred_text hundred ++ bare_reply 503 true
 
 -- The input is these messages, none of which closes, and then a rest that ends so.
-pub record Asked {E : Type 0} (Answered : Request → ℕ → List E → Answer → Type 0) (input moments : List ℕ) (entries : List E)
-    (turns : List (Turn E)) (end : End E) : Type 0 where
+pub record Asked (desk : Desk) (input moments : List ℕ) (entries : List Deed)
+    (turns : List Turn) (end : End) : Type 0 where
   pub rest : List ℕ
-  pub go_on : GoOn Answered turns
+  pub go_on : GoOn desk turns
   pub few : length turns < message_limit
   pub input_is : input ≡ bytes_of turns ++ rest
-  pub ends : IsEnd Answered (length turns) rest end
+  pub ends : IsEnd desk (length turns) rest end
   pub moments_are : moments ≡ moments_of turns ++ end_moments end
   pub entries_are : entries ≡ parts_of turns ++ end_part end
 
 -- With what is written.
-pub record Conn {E : Type 0} (Answered : Request → ℕ → List E → Answer → Type 0) (input moments : List ℕ) (entries : List E) (output : List ℕ)
+pub record Conn (desk : Desk) (input moments : List ℕ) (entries : List Deed) (output : List ℕ)
     : Type 0 where
-  pub turns : List (Turn E)
-  pub end : End E
-  pub asked : Asked Answered input moments entries turns end
+  pub turns : List Turn
+  pub end : End
+  pub asked : Asked desk input moments entries turns end
   pub output_is : output ≡ texts_of turns ++ end_text end
 
 -- What may be written next.
-pub data Next (E : Type 0) : Type 0 where
+pub data Next : Type 0 where
   -- the 100 line, or nothing
-  line : Bool → Next E
+  line : Bool → Next
   -- the reply to a message that doesn't close
-  reply : Turn E → Next E
+  reply : Turn → Next
   -- the last reply
-  last : End E → Next E
+  last : End → Next
 
-abbrev pub IsNext : {E : Type 0} → (Request → ℕ → List E → Answer → Type 0) → ℕ → List ℕ → Next E → Type 0
-IsNext Answered count rest (line hundred) = (bytes : List ℕ) × (more : List ℕ) × Looked (Some rest) bytes more hundred
-IsNext Answered count rest (reply t) = IsTurn Answered t × (is_last count t.request ≡ false) × ((after : List ℕ) × (rest ≡ t.bytes ++ after))
-IsNext Answered count rest (last end) = IsEnd Answered count rest end
+abbrev pub IsNext : Desk → ℕ → List ℕ → Next → Type 0
+IsNext desk count rest (line hundred) = (bytes : List ℕ) × (more : List ℕ) × Looked (Some rest) bytes more hundred
+IsNext desk count rest (reply t) = IsTurn desk t × (is_last count t.request ≡ false) × ((after : List ℕ) × (rest ≡ t.bytes ++ after))
+IsNext desk count rest (last end) = IsEnd desk count rest end
 
-abbrev pub next_moments : {E : Type 0} → Next E → List ℕ
+abbrev pub next_moments : Next → List ℕ
 next_moments (line hundred) = []
 next_moments (reply t) = t.moment ∷ []
 next_moments (last end) = end_moments end
 
-abbrev pub next_part : {E : Type 0} → Next E → List E
+abbrev pub next_part : Next → List Deed
 next_part (line hundred) = []
 next_part (reply t) = t.part
 next_part (last end) = end_part end
 
-abbrev pub next_text : {E : Type 0} → Next E → List ℕ
+abbrev pub next_text : Next → List ℕ
 next_text (line hundred) = hundred_text hundred
 next_text (reply t) = turn_text t false
 next_text (last end) = end_text end
 
 -- only the 100 line, or nothing
-abbrev pub IsLine : {E : Type 0} → Next E → Type 0
+abbrev pub IsLine : Next → Type 0
 IsLine (line hundred) = ⊤
 IsLine (reply t) = ⊥
 IsLine (last end) = ⊥
 
 -- Where a fault cuts: what was written is the texts of the first messages, and a front of what comes next.
-pub record Cut {E : Type 0} (Answered : Request → ℕ → List E → Answer → Type 0) (input moments : List ℕ) (entries : List E) (output : List ℕ)
+pub record Cut (desk : Desk) (input moments : List ℕ) (entries : List Deed) (output : List ℕ)
     : Type 0 where
-  pub turns : List (Turn E)
-  pub next : Next E
+  pub turns : List Turn
+  pub next : Next
   pub rest : List ℕ
-  pub go_on : GoOn Answered turns
+  pub go_on : GoOn desk turns
   pub few : length turns < message_limit
   pub input_is : input ≡ bytes_of turns ++ rest
-  pub is_next : IsNext Answered (length turns) rest next
+  pub is_next : IsNext desk (length turns) rest next
   pub moments_are : moments ≡ moments_of turns ++ next_moments next
   pub entries_are : entries ≡ parts_of turns ++ next_part next
   pub front : List ℕ
@@ -128,22 +131,22 @@ pub record Cut {E : Type 0} (Answered : Request → ℕ → List E → Answer �
   pub output_is : output ≡ texts_of turns ++ front
 
 -- A fault of reading comes between messages, where all that was begun was written.
-abbrev pub IsConnEnd : {E : Type 0} → (Request → ℕ → List E → Answer → Type 0) → ConnEnd → List ℕ → List ℕ → List E → List ℕ → Type 0
-IsConnEnd Answered Done input moments entries output = Conn Answered input moments entries output
-IsConnEnd Answered ReadFault input moments entries output =
-    (cut : Cut Answered input moments entries output) × IsLine cut.next × (cut.back ≡ [])
-IsConnEnd Answered WriteFault input moments entries output = Cut Answered input moments entries output
-IsConnEnd Answered Memory input moments entries output = (moments ≡ []) × (entries ≡ []) × (output ≡ [])
+abbrev pub IsConnEnd : Desk → ConnEnd → List ℕ → List ℕ → List Deed → List ℕ → Type 0
+IsConnEnd desk Done input moments entries output = Conn desk input moments entries output
+IsConnEnd desk ReadFault input moments entries output =
+    (cut : Cut desk input moments entries output) × IsLine cut.next × (cut.back ≡ [])
+IsConnEnd desk WriteFault input moments entries output = Cut desk input moments entries output
+IsConnEnd desk Memory input moments entries output = (moments ≡ []) × (entries ≡ []) × (output ≡ [])
 
 -- The link's bytes, the moments that the clock gave, the new entries and what was written are a connection that ended so.
-pub record Serves {E : Type 0} (Answered : Request → ℕ → List E → Answer → Type 0) (end : ConnEnd)
-    (left : Option (List ℕ)) (clock clock' : Option (List ℕ)) (history history' : List E) (held held' : Option (List ℕ)) : Type 0 where
+pub record Serves (desk : Desk) (always : Sight → Type 0) (end : ConnEnd)
+    (left : Option (List ℕ)) (clock clock' : Option (List ℕ)) (history history' : Sight) (held held' : Option (List ℕ)) : Type 0 where
   pub input : List ℕ
   pub moments : List ℕ
-  pub entries : List E
+  pub entries : List Deed
   pub output : List ℕ
   pub reads : Are left input
   pub times : GivesAll clock clock' moments
-  pub makes : history' ≡ history ++ entries
+  pub makes : Does always history history' entries
   pub writes : Appends held held' output
-  pub says : IsConnEnd Answered end input moments entries output
+  pub says : IsConnEnd desk end input moments entries output

@@ -5,8 +5,10 @@ ghost use Rattle.outside.specs.Faults.{Rose};
 ghost use Rattle.host_server.specs.Connection.{message_limit, is_last, Serves};
 ghost use Rattle.host_server.specs.Steps.{Makes, Replies, Steps};
 
-use crate::answering::Answerer;
+use crate::answering::answer;
+use crate::desk::Desk;
 use crate::sending::{send, send_bare};
+use host_core::Caller;
 use outside::{Clock, Failed, Link};
 use std::alloc::Global;
 use wopi_headers::reply_of;
@@ -43,19 +45,20 @@ fn is_last(count: usize, request: &Request) -> bool
 }
 
 /// The reply to a message, or none where there is no memory for one.
-fn reply_to<A: Answerer>(
+fn reply_to<C: Caller>(
     alloc: Global,
-    answerer: &mut A,
+    caller: &mut C,
+    desk: &Desk,
     request: Request,
     moment: u64,
     close: bool,
 ) -> Option<Reply>
     requires { moment < 253402300800000 }
-    ensures lent { A.references answerer.new ≡ A.references answerer.old }
-    ensures terms { A.terms answerer.new ≡ A.terms answerer.old }
-    ensures makes { Makes (A.answered (A.terms answerer.old)) request moment close (A.history answerer.old) (A.history answerer.new) result }
+    ensures basis { C.basis caller.new ≡ C.basis caller.old }
+    ensures lent { C.references caller.new ≡ C.references caller.old }
+    ensures makes { Makes desk.now C.always request moment close (C.sight caller.old) (C.sight caller.new) result }
 {
-    match answerer.answer(request, moment) {
+    match answer(alloc, caller, desk, request, moment) {
         Ok(answer) => match reply_of(alloc, answer, close) {
             Ok(reply) => Some(reply),
             Err(Memory) => None,
@@ -65,18 +68,19 @@ fn reply_to<A: Answerer>(
 }
 
 /// Answers a message.
-fn answer_message<A: Answerer, L: Link, C: Clock>(
+fn answer_message<C: Caller, L: Link, K: Clock>(
     alloc: Global,
-    answerer: &mut A,
+    caller: &mut C,
+    desk: &Desk,
     link: &mut L,
-    clock: &mut C,
+    clock: &mut K,
     request: Request,
     close: bool,
 ) -> Result<(), Failed>
-    ensures lent { A.references answerer.new ≡ A.references answerer.old }
-    ensures terms { A.terms answerer.new ≡ A.terms answerer.old }
-    ensures replies { Replies (A.answered (A.terms answerer.old)) request close (C.moments clock.old) (C.moments clock.new)
-        (A.history answerer.old) (A.history answerer.new) (L.held link.old) (L.held link.new) result }
+    ensures basis { C.basis caller.new ≡ C.basis caller.old }
+    ensures lent { C.references caller.new ≡ C.references caller.old }
+    ensures replies { Replies desk.now C.always request close (K.moments clock.old) (K.moments clock.new)
+        (C.sight caller.old) (C.sight caller.new) (L.held link.old) (L.held link.new) result }
     ensures left { L.left link.new ≡ L.left link.old }
     ensures read_faults { L.read_faults link.new ≡ L.read_faults link.old }
     ensures references { L.references link.new ≡ L.references link.old }
@@ -84,24 +88,25 @@ fn answer_message<A: Answerer, L: Link, C: Clock>(
     ensures failed { OnErr result (Rose (L.write_faults link.old) (L.write_faults link.new)) }
 {
     let moment = clock.now();
-    let reply = reply_to(alloc, answerer, request, moment, close);
+    let reply = reply_to(alloc, caller, desk, request, moment, close);
     send(link, reply, close)
 }
 
 /// Reads a message behind so many others, and answers it.
-fn serve_one<A: Answerer, L: Link, C: Clock>(
+fn serve_one<C: Caller, L: Link, K: Clock>(
     alloc: Global,
-    answerer: &mut A,
+    caller: &mut C,
+    desk: &Desk,
     link: &mut L,
-    clock: &mut C,
+    clock: &mut K,
     buffer: &mut Buffer,
     count: usize,
 ) -> Progress
     requires { count < message_limit }
-    ensures lent { A.references answerer.new ≡ A.references answerer.old }
-    ensures terms { A.terms answerer.new ≡ A.terms answerer.old }
-    ensures steps { Steps (A.answered (A.terms answerer.old)) count (prepend_known buffer.old (L.left link.old)) (prepend_known buffer.new (L.left link.new))
-        (C.moments clock.old) (C.moments clock.new) (A.history answerer.old) (A.history answerer.new) (L.held link.old) (L.held link.new) result }
+    ensures basis { C.basis caller.new ≡ C.basis caller.old }
+    ensures lent { C.references caller.new ≡ C.references caller.old }
+    ensures steps { Steps desk.now C.always count (prepend_known buffer.old (L.left link.old)) (prepend_known buffer.new (L.left link.new))
+        (K.moments clock.old) (K.moments clock.new) (C.sight caller.old) (C.sight caller.new) (L.held link.old) (L.held link.new) result }
     ensures references { L.references link.new ≡ L.references link.old }
     ensures reads_count { L.read_faults link.old ≤ L.read_faults link.new }
     ensures writes_count { L.write_faults link.old ≤ L.write_faults link.new }
@@ -111,7 +116,7 @@ fn serve_one<A: Answerer, L: Link, C: Clock>(
     match read_request(link, buffer) {
         Got::Message(request) => {
             let close = is_last(count, &request);
-            match answer_message(alloc, answerer, link, clock, request, close) {
+            match answer_message(alloc, caller, desk, link, clock, request, close) {
                 Ok(()) => {
                     if close {
                         Progress::Over(ConnEnd::Done)
@@ -137,17 +142,18 @@ fn serve_one<A: Answerer, L: Link, C: Clock>(
 }
 
 /// Answers the messages of a link in their order.
-pub fn serve_connection<A: Answerer, L: Link, C: Clock>(
+pub fn serve_connection<C: Caller, L: Link, K: Clock>(
     alloc: Global,
-    answerer: &mut A,
+    caller: &mut C,
+    desk: &Desk,
     link: &mut L,
-    clock: &mut C,
+    clock: &mut K,
 ) -> ConnEnd
     // What was read, written and done is a connection that ended so.
-    ensures serves { Serves (A.answered (A.terms answerer.old)) result (L.left link.old) (C.moments clock.old) (C.moments clock.new)
-        (A.history answerer.old) (A.history answerer.new) (L.held link.old) (L.held link.new) }
-    ensures lent { A.references answerer.new ≡ A.references answerer.old }
-    ensures terms { A.terms answerer.new ≡ A.terms answerer.old }
+    ensures serves { Serves desk.now C.always result (L.left link.old) (K.moments clock.old) (K.moments clock.new)
+        (C.sight caller.old) (C.sight caller.new) (L.held link.old) (L.held link.new) }
+    ensures basis { C.basis caller.new ≡ C.basis caller.old }
+    ensures lent { C.references caller.new ≡ C.references caller.old }
     ensures references { L.references link.new ≡ L.references link.old }
     ensures reads_count { L.read_faults link.old ≤ L.read_faults link.new }
     ensures writes_count { L.write_faults link.old ≤ L.write_faults link.new }
@@ -161,7 +167,7 @@ pub fn serve_connection<A: Answerer, L: Link, C: Clock>(
         return ConnEnd::Memory;
     };
     'messages: for count in 0..MESSAGE_LIMIT {
-        match serve_one(alloc, answerer, link, clock, &mut buffer, count) {
+        match serve_one(alloc, caller, desk, link, clock, &mut buffer, count) {
             Progress::On => {}
             Progress::Over(end) => return end,
         }

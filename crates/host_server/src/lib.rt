@@ -3,7 +3,9 @@
 
 mod answering;
 mod connection;
+mod desk;
 mod sending;
 
-pub use answering::Answerer;
+pub use answering::answer;
 pub use connection::{ConnEnd, MESSAGE_LIMIT, serve_connection};
+pub use desk::Desk;

@@ -1,0 +1,12 @@
+use Rattle.host_server.proofs.TellLemmas.{asked_answers, refused_answers}
+use Rattle.host_server.proofs.answering.answer.Goals as goal
+
+pub returns-in-Ok-clause-answers : goal.returns-in-Ok-clause-answers
+returns-in-Ok-clause-answers g c =
+    asked_answers c.args.desk.now c.args.request c.args.moment g.C.Caller.always c.in-Ok.ask c.in-Ok.ensures (g.C.Caller.sight c.args.caller.now)
+    (g.C.Caller.sight c.answer_ask.new.caller) c.answer_ask.result c.answer_ask.ensures.tells
+
+pub returns-in-Err-Refused-clause-answers : goal.returns-in-Err-Refused-clause-answers
+returns-in-Err-Refused-clause-answers g c =
+    refused_answers c.args.desk.now c.args.request c.args.moment g.C.Caller.always c.in-Err-Refused.status (g.C.Caller.sight c.args.caller.now) _
+    (rw c.in-Err-Refused.field-0-is at c.in-Err-Refused.ensures) c.status_only.ensures

@@ -1,0 +1,12 @@
+use Rattle.host_server.proofs.TellLemmas.{ruled_tells, full_tells}
+use Rattle.host_server.proofs.answering.make_and_tell.Goals as goal
+
+pub returns-in-Ruled-clause-tells : goal.returns-in-Ruled-clause-tells
+returns-in-Ruled-clause-tells g c =
+    ruled_tells g.C.Caller.always (g.C.Caller.sight c.args.caller.now) (g.C.Caller.sight c.make.new.caller) c.args.call c.args.moment c.in-Ruled.ruling c.told.result
+    c.in-Ruled.ensures.calls c.told.ensures
+
+pub returns-in-Full-clause-tells : goal.returns-in-Full-clause-tells
+returns-in-Full-clause-tells g c =
+    full_tells g.C.Caller.always (g.C.Caller.sight c.args.caller.now) (g.C.Caller.sight c.make.new.caller) c.args.call c.args.moment c.journal_full.result
+    c.in-Full.ensures.calls c.journal_full.ensures

@@ -1,0 +1,30 @@
+//! What a host knows beside its files.
+ghost use Rattle.std.specs.Prelude.{◌≡◌, true};
+ghost use Rattle.wopi_model.specs.Moment.{IsMoment};
+ghost use Rattle.host_server.specs.Bases.{is_base};
+
+use access_tokens::Key;
+use wopi_text::Bytes;
+
+/// What a host knows beside its files: the key of its tokens, the beginning of its addresses, and
+/// the moment at which it was opened, in milliseconds.
+#[derive(Drop)]
+pub struct Desk {
+    pub key: Key,
+    pub base: Bytes,
+    pub opened: u64,
+    pub ghost form: { is_base base ≡ true },
+    pub ghost moment: { IsMoment opened },
+}
+
+impl Desk {
+    pub fn new(key: Key, base: Bytes, opened: u64) -> Desk
+        requires form { is_base base ≡ true }
+        requires moment { IsMoment opened }
+        ensures key { result.key ≡ key }
+        ensures base { result.base ≡ base }
+        ensures opened { result.opened ≡ opened }
+    {
+        Desk { key, base, opened }
+    }
+}
