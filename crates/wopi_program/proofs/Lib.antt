@@ -1,2 +1,1 @@
-pub mod LockLemmas
 pub mod OnceLemmas

@@ -14,6 +14,7 @@ line_of status =
     if status == 2 then codes "usage\n"
     else if status == 3 then codes "read fault\n"
     else if status == 4 then codes "write fault\n"
+    else if status == 5 then codes "folder fault\n"
     else codes "out of memory\n"
 
 -- the notes stay at 0, and otherwise grow by the status's line

@@ -1,41 +1,144 @@
 -- What a run of `once` promises.
-use Rattle.std.specs.Prelude.{◌≡◌, ℕ, List, [], ◌∷◌, Option, None}
+use Rattle.std.specs.Prelude.{◌≡◌, ◌⊎◌, ⊤, ℕ, Bool, false, List, [], ◌∷◌, ◌++◌, Option, None, Some, codes}
 use Rattle.outside.specs.Faults.{Rose}
+use Rattle.outside.specs.Clock.{Gives}
+use Rattle.outside.specs.Folder.{Files, Keeps}
+use Rattle.wopi_text.specs.Ids.{id_of}
+use Rattle.access_tokens.specs.Key.{IsHexOf}
+use Rattle.host_core.specs.declared.opening.StartFault.{StartFault}
+use Rattle.host_core.specs.declared.opening.StartFault.TheVariants as start
+use Rattle.host_core.specs.Value.{Book, IsLawful}
+use Rattle.host_core.specs.Opening.{IsOpening, Fits, IsTooLarge}
+use Rattle.host_core.specs.Single.{sight_of, SeesItsOwn}
+use Rattle.host_server.specs.declared.desk.Desk.{Desk}
 use Rattle.host_server.specs.declared.connection.ConnEnd.{ConnEnd}
-use Rattle.host_server.specs.declared.connection.ConnEnd.TheVariants.{Done, ReadFault, WriteFault, Memory}
+use Rattle.host_server.specs.declared.connection.ConnEnd.TheVariants as conn
 use Rattle.host_server.specs.Connection.{Serves}
 use Rattle.wopi_program.specs.declared.outside_world.Outside.{Outside}
-use Rattle.wopi_program.specs.declared.locks.Entry.{Entry}
-use Rattle.wopi_program.specs.Locks.{Answered, IsLegal}
-use Rattle.wopi_program.specs.Notes.{NotesFor}
+use Rattle.wopi_program.specs.declared.once.OnceEnd.{OnceEnd}
+use Rattle.wopi_program.specs.declared.once.OnceEnd.TheVariants.{Served, FolderFault, TooLarge, Memory}
+use Rattle.wopi_program.specs.Notes.{Notes, NotesFor}
+use Rattle.wopi_program.specs.Words.{key_word, base_word}
 
 -- the status of a connection's end
 abbrev pub status_of : ConnEnd → ℕ
-status_of Done = 0
-status_of ReadFault = 3
-status_of WriteFault = 4
-status_of Memory = 6
+status_of conn.Done = 0
+status_of conn.ReadFault = 3
+status_of conn.WriteFault = 4
+status_of conn.Memory = 6
+
+-- how a run ends where no shard was opened
+abbrev pub end_of : StartFault → OnceEnd
+end_of start.FolderFault = FolderFault
+end_of (start.TooLarge name) = TooLarge name
+end_of start.Memory = Memory
+
+unfoldable pub too_large_line : List ℕ → List ℕ
+too_large_line name = codes "folder too large " ++ (id_of name ++ codes "\n")
+
+-- the status and the notes of a folder that is too large; the line may want memory
+abbrev pub TooLargeEnds : {K : Type 0} → (K → Option (List ℕ)) → (K → ℕ) → ℕ → K → K → List ℕ → Type 0
+TooLargeEnds held count status old new name =
+    ((status ≡ 12) × Notes (held old) (held new) (count old) (count new) (too_large_line name)) ⊎ ((status ≡ 6) × NotesFor held count 6 old new)
+
+-- the status and the notes of a run's end
+abbrev pub Finishes : {K : Type 0} → (K → Option (List ℕ)) → (K → ℕ) → ℕ → K → K → OnceEnd → Type 0
+Finishes held count status old new (Served end) = (status ≡ status_of end) × NotesFor held count status old new
+Finishes held count status old new FolderFault = (status ≡ 5) × NotesFor held count status old new
+Finishes held count status old new (TooLarge name) = TooLargeEnds held count status old new name
+Finishes held count status old new Memory = (status ≡ 6) × NotesFor held count status old new
+
+-- A shard that was opened over a folder at a moment: its files, and no entry yet.
+pub record IsFresh {F : Type 0} (files : F → Option Files) (folder : F) (opened : ℕ) (first : Book F) : Type 0 where
+  pub book : first ≡ record {
+    only = None;
+    opening = first.opening;
+    opened = opened;
+    capacity = 4096;
+    made = [];
+    time = opened;
+    ticked = false;
+    start = folder;
+    folder = first.folder;
+  }
+  pub opening : IsOpening None (files folder) first.opening
+  pub fits : Fits first.opening
+
+-- A connection was served over a shard that began as `first`. What was done is what the shard has come to; its history is legal, its folder
+-- agrees with it, and each answer of a store fault has raised the folder's count.
+pub record ServesShard {F : Type 0} (files : F → Option Files) (faults : F → ℕ) (desk : Desk) (end : ConnEnd)
+    (left clock clock' held held' : Option (List ℕ)) (first : Book F) (folder : F) : Type 0 where
+  pub last : Book F
+  pub serves : Serves desk SeesItsOwn end left clock clock' (sight_of first) (sight_of last) held held'
+  pub start : last.start ≡ first.start
+  pub only : last.only ≡ None
+  pub lawful : IsLawful last (files last.start) (files last.folder) (faults last.start) (faults last.folder)
+  pub folder_is : folder ≡ last.folder
+
+-- The clock's first moment opened the shard, and the connection was served by its later ones.
+pub record OpensAndServes {F : Type 0} (files : F → Option Files) (faults : F → ℕ) (key base : List ℕ) (end : ConnEnd)
+    (left clock clock' held held' : Option (List ℕ)) (folder folder' : F) : Type 0 where
+  pub desk : Desk
+  pub mid : Option (List ℕ)
+  pub first : Book F
+  pub key_is : desk.key ≡ key
+  pub base_is : desk.base ≡ base
+  pub times : Gives clock mid desk.opened
+  pub opens : IsFresh files folder desk.opened first
+  pub serves : ServesShard files faults desk end left mid clock' held held' first folder'
+
+-- What a run did, by its end. Where no shard was opened the folder holds what it held.
+abbrev pub OnceRuns : {F : Type 0} → (F → Option Files) → (F → ℕ) → List ℕ → List ℕ → OnceEnd
+    → Option (List ℕ) → Option (List ℕ) → Option (List ℕ) → Option (List ℕ) → Option (List ℕ) → F → F → Type 0
+OnceRuns files faults key base (Served end) left clock clock' held held' folder folder' =
+    OpensAndServes files faults key base end left clock clock' held held' folder folder'
+OnceRuns files faults key base FolderFault left clock clock' held held' folder folder' =
+    Rose (faults folder) (faults folder') × Keeps (files folder) (files folder')
+OnceRuns files faults key base (TooLarge name) left clock clock' held held' folder folder' =
+    IsTooLarge None (files folder) name × Keeps (files folder) (files folder')
+OnceRuns files faults key base Memory left clock clock' held held' folder folder' = Keeps (files folder) (files folder')
 
 -- the moments that the one clock gave
 abbrev pub told_by : {C : Type 0} → (C → Option (List ℕ)) → List C → Option (List ℕ)
 told_by moments (clock ∷ []) = moments clock
 told_by moments clocks = None
 
--- The bytes that were left, the moments that were given and what was written are one connection that ended so, over entries that are legal
--- from the first on.
-pub record ServesOnce (end : ConnEnd) (left clock clock' held held' : Option (List ℕ)) : Type 0 where
-  pub entries : List Entry
-  pub serves : Serves (λ q m. Answered q) end left clock clock' [] entries held held'
-  pub legal : IsLegal [] entries
+-- the same with the one folder and the one clock in their lists
+pub record OnceRunsIn {F C : Type 0} (files : F → Option Files) (faults : F → ℕ) (moments : C → Option (List ℕ)) (key base : List ℕ) (end : OnceEnd)
+    (left held held' : Option (List ℕ)) (folders folders' : List F) (clocks clocks' : List C) : Type 0 where
+  pub folder : F
+  pub folder' : F
+  pub folders_are : folders ≡ folder ∷ []
+  pub folders_then : folders' ≡ folder' ∷ []
+  pub runs : OnceRuns files faults key base end left (told_by moments clocks) (told_by moments clocks') held held' folder folder'
 
--- The status, and the outside before and after: a connection over the input and the output; the causes of the faults; the status's line on
--- the notes; and all else stays.
-pub record OnceEnds {S K F N D C : Type 0} (left : S → Option (List ℕ)) (read_faults : S → ℕ) (held : K → Option (List ℕ)) (write_faults : K → ℕ)
-    (moments : C → Option (List ℕ)) (status : ℕ) (old new : Outside S K F N D C) : Type 0 where
-  pub end : ConnEnd
-  pub status_is : status ≡ status_of end
-  pub serves : ServesOnce end (left old.input) (told_by moments old.clocks.items) (told_by moments new.clocks.items) (held old.output) (held new.output)
+-- where no connection was served the streams stay as they were
+abbrev pub Untouched : {S K : Type 0} → OnceEnd → S → S → K → K → Type 0
+Untouched (Served end) source source' sink sink' = ⊤
+Untouched end source source' sink sink' = (source' ≡ source) × (sink' ≡ sink)
+
+-- There was no memory to begin: all but the notes stays.
+pub record OnceWants {S K F N D C : Type 0} (held : K → Option (List ℕ)) (write_faults : K → ℕ) (status : ℕ) (old new : Outside S K F N D C) : Type 0 where
+  pub status_is : status ≡ 6
+  pub notes : NotesFor held write_faults 6 old.notes new.notes
+  pub others : new ≡ record old { notes = new.notes }
+
+-- A run under the key and the base of the words: what it did, the causes of the faults, the status's line on the notes; and all else stays.
+pub record OnceRan {S K F N D C : Type 0} (left : S → Option (List ℕ)) (read_faults : S → ℕ) (held : K → Option (List ℕ)) (write_faults : K → ℕ)
+    (files : F → Option Files) (faults : F → ℕ) (moments : C → Option (List ℕ)) (words : List (List ℕ)) (status : ℕ) (old new : Outside S K F N D C)
+    : Type 0 where
+  pub end : OnceEnd
+  pub key : List ℕ
+  pub key_is : IsHexOf key (key_word words)
+  pub runs : OnceRunsIn files faults moments key (base_word words) end (left old.input) (held old.output) (held new.output)
+      old.folders.items new.folders.items old.clocks.items new.clocks.items
+  pub untouched : Untouched end old.input new.input old.output new.output
   pub read_cause : status ≡ 3 → Rose (read_faults old.input) (read_faults new.input)
   pub write_cause : status ≡ 4 → Rose (write_faults old.output) (write_faults new.output)
-  pub notes : NotesFor held write_faults status old.notes new.notes
-  pub others : new ≡ record old { input = new.input; output = new.output; notes = new.notes; clocks = new.clocks }
+  pub finishes : Finishes held write_faults status old.notes new.notes end
+  pub others : new ≡ record old { input = new.input; output = new.output; notes = new.notes; folders = new.folders; clocks = new.clocks }
+
+abbrev pub OnceEnds : {S K F N D C : Type 0} → (S → Option (List ℕ)) → (S → ℕ) → (K → Option (List ℕ)) → (K → ℕ)
+    → (F → Option Files) → (F → ℕ) → (C → Option (List ℕ)) → List (List ℕ) → ℕ → Outside S K F N D C → Outside S K F N D C → Type 0
+OnceEnds left read_faults held write_faults files faults moments words status old new =
+    OnceWants held write_faults status old new ⊎ OnceRan left read_faults held write_faults files faults moments words status old new

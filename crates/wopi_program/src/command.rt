@@ -2,7 +2,8 @@
 ghost use Rattle.std.specs.Prelude.{◌≡◌, ◌==◌, map, string_bytes};
 ghost use Rattle.std.specs.List.{list_all};
 ghost use Rattle.hex.specs.Hex.{is_hex_digit};
-ghost use Rattle.wopi_program.specs.Words.{command_of, once_of, single_of, is_key, is_base, is_visible};
+ghost use Rattle.host_server.specs.Bases.{is_base, is_visible};
+ghost use Rattle.wopi_program.specs.Words.{command_of, once_of, single_of, is_key};
 
 /// What the words ask for.
 #[derive(Clone, Copy, Debug, PartialEq, Eq)]

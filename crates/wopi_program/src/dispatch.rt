@@ -30,7 +30,7 @@ pub fn run<
     ensures version { command_of (map string_bytes words.now) ≡ Some Command.Version
         → TextEnds K.held K.write_faults version_text result outside.old outside.new }
     ensures once { command_of (map string_bytes words.now) ≡ Some Command.Once
-        → OnceEnds S.left S.read_faults K.held K.write_faults C.moments result outside.old outside.new }
+        → OnceEnds S.left S.read_faults K.held K.write_faults F.files F.faults C.moments (map string_bytes words.now) result outside.old outside.new }
 {
     match read_words(words) {
         Some(Command::Once) => run_once(alloc, words, outside),

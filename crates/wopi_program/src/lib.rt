@@ -7,7 +7,6 @@
 
 mod command;
 mod dispatch;
-mod locks;
 mod notes;
 mod once;
 mod outside_world;
@@ -15,9 +14,8 @@ mod telling;
 
 pub use command::{Command, read_words};
 pub use dispatch::run;
-pub use locks::{Entry, Locks};
 pub use notes::note;
-pub use once::run_once;
+pub use once::{OnceEnd, run_once};
 pub use outside_world::Outside;
 pub use telling::{help, refuse, tell, version};
 

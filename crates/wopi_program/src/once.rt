@@ -1,69 +1,185 @@
-//! The command `once`: one connection, over the input and the output.
-ghost use Rattle.std.specs.Prelude.{◌≡◌, ◌≤◌, length, map, string_bytes, Some};
+//! The command `once`: one connection over the input and the output, and one shard over the folder.
+ghost use Rattle.std.specs.Prelude.{◌≡◌, ◌≤◌, length, map, string_bytes, true, IfOk, None, Some};
 ghost use Rattle.outside.specs.Faults.{Rose};
+ghost use Rattle.access_tokens.specs.Key.{IsHexOf};
+ghost use Rattle.host_core.specs.Single.{sight_of, SeesItsOwn};
+ghost use Rattle.host_server.specs.Bases.{is_base};
 ghost use Rattle.host_server.specs.Connection.{Serves};
-ghost use Rattle.wopi_program.specs.Words.{command_of};
-ghost use Rattle.wopi_program.specs.Locks.{Answered};
+ghost use Rattle.wopi_program.specs.Words.{command_of, is_key, key_word, base_word};
 ghost use Rattle.wopi_program.specs.Notes.{NotesFor};
-ghost use Rattle.wopi_program.specs.Once.{OnceEnds, ServesOnce, status_of, told_by};
+ghost use Rattle.wopi_program.specs.Once.{OnceEnds, ServesShard, OnceRuns, OnceRunsIn, Untouched, end_of, Finishes, TooLargeEnds, too_large_line, status_of};
 
-use crate::{Command, Locks, Outside, note};
-use host_server::{ConnEnd, serve_connection};
+use crate::{Command, Outside, note};
+use access_tokens::Key;
+use host_core::{Shard, Single, StartFault};
+use host_server::{ConnEnd, Desk, serve_connection};
 use outside::{Clock, Dialer, Folder, Lent, Listener, Sink, Source};
 use std::alloc::Global;
+use wopi_text::{Bytes, FileName, Memory, id_text};
+
+/// The most entries of the shard.
+const CAPACITY: u32 = 4096;
+
+/// How a run of `once` ended.
+#[derive(Drop)]
+pub enum OnceEnd {
+    /// A connection was served, and ended so.
+    Served(ConnEnd),
+    /// The folder failed when it was opened.
+    FolderFault,
+    /// The folder has more than a shard keeps: the first file that passes a limit.
+    TooLarge(FileName),
+    Memory,
+}
 
 /// Serves the connection whose two directions are the source and the sink.
-fn serve<S: Source, K: Sink, C: Clock>(
+fn serve<S: Source, K: Sink, F: Folder, C: Clock>(
     alloc: Global,
-    locks: &mut Locks,
+    desk: &Desk,
+    single: &mut Single<F>,
     source: &mut S,
     sink: &mut K,
     clock: &mut C,
 ) -> ConnEnd
-    ensures serves { Serves (λ q m. Answered q) result (S.left source.old) (C.moments clock.old) (C.moments clock.new)
-        locks.old.entries.items locks.new.entries.items (K.held sink.old) (K.held sink.new) }
+    ensures serves { Serves desk.now SeesItsOwn result (S.left source.old) (C.moments clock.old) (C.moments clock.new)
+        (sight_of single.old.shard) (sight_of single.new.shard) (K.held sink.old) (K.held sink.new) }
+    ensures start { single.new.shard.start ≡ single.old.shard.start }
     ensures reads_count { S.read_faults source.old ≤ S.read_faults source.new }
     ensures writes_count { K.write_faults sink.old ≤ K.write_faults sink.new }
     ensures read_fault { result ≡ ConnEnd.ReadFault → Rose (S.read_faults source.old) (S.read_faults source.new) }
     ensures write_fault { result ≡ ConnEnd.WriteFault → Rose (K.write_faults sink.old) (K.write_faults sink.new) }
 {
     let mut link = Lent::new(source, sink);
-    serve_connection(alloc, locks, &mut link, clock)
+    serve_connection(alloc, single, desk, &mut link, clock)
 }
 
-/// Serves the connection with no lock at its beginning.
-fn serve_anew<S: Source, K: Sink, C: Clock>(
+/// Serves the connection over a shard, and gives the shard's folder back.
+fn serve_over<S: Source, K: Sink, F: Folder, C: Clock>(
     alloc: Global,
+    desk: &Desk,
+    shard: Shard<F>,
     source: &mut S,
     sink: &mut K,
     clock: &mut C,
-) -> ConnEnd
-    ensures serves { ServesOnce result (S.left source.old) (C.moments clock.old) (C.moments clock.new) (K.held sink.old) (K.held sink.new) }
-    ensures read_fault { result ≡ ConnEnd.ReadFault → Rose (S.read_faults source.old) (S.read_faults source.new) }
-    ensures write_fault { result ≡ ConnEnd.WriteFault → Rose (K.write_faults sink.old) (K.write_faults sink.new) }
+) -> (F, ConnEnd)
+    requires { shard.only ≡ None }
+    ensures serves { ServesShard F.files F.faults desk.now result.1 (S.left source.old) (C.moments clock.old) (C.moments clock.new)
+        (K.held sink.old) (K.held sink.new) shard result.0 }
+    ensures reads_count { S.read_faults source.old ≤ S.read_faults source.new }
+    ensures writes_count { K.write_faults sink.old ≤ K.write_faults sink.new }
+    ensures read_fault { result.1 ≡ ConnEnd.ReadFault → Rose (S.read_faults source.old) (S.read_faults source.new) }
+    ensures write_fault { result.1 ≡ ConnEnd.WriteFault → Rose (K.write_faults sink.old) (K.write_faults sink.new) }
 {
-    let mut locks = Locks::new(alloc);
-    serve(alloc, &mut locks, source, sink, clock)
+    let mut single = Single::new(shard);
+    let end = serve(alloc, desk, &mut single, source, sink, clock);
+    let shard = single.end();
+    let (folder, _past) = shard.end();
+    (folder, end)
 }
 
-/// Serves the connection by the one clock.
-fn serve_by<S: Source, K: Sink, C: Clock>(
+/// How a run ends where no shard was opened.
+fn end_of(fault: StartFault) -> OnceEnd
+    ensures { result ≡ end_of fault }
+{
+    match fault {
+        StartFault::FolderFault => OnceEnd::FolderFault,
+        StartFault::TooLarge { name } => OnceEnd::TooLarge(name),
+        StartFault::Memory => OnceEnd::Memory,
+    }
+}
+
+/// Opens a shard over the folder at the clock's first moment, and serves the connection over it.
+fn once_over<S: Source, K: Sink, F: Folder, C: Clock>(
     alloc: Global,
+    key: Key,
+    base: Bytes,
+    folder: F,
+    source: &mut S,
+    sink: &mut K,
+    clock: &mut C,
+) -> (F, OnceEnd)
+    requires { is_base base ≡ true }
+    ensures runs { OnceRuns F.files F.faults key base result.1 (S.left source.old) (C.moments clock.old) (C.moments clock.new)
+        (K.held sink.old) (K.held sink.new) folder result.0 }
+    ensures untouched { Untouched result.1 source.old source.new sink.old sink.new }
+    ensures read_fault { result.1 ≡ OnceEnd.Served ConnEnd.ReadFault → Rose (S.read_faults source.old) (S.read_faults source.new) }
+    ensures write_fault { result.1 ≡ OnceEnd.Served ConnEnd.WriteFault → Rose (K.write_faults sink.old) (K.write_faults sink.new) }
+{
+    let opened = clock.now();
+    let desk = Desk::new(key, base, opened);
+    match Shard::start(alloc, folder, None, CAPACITY, opened) {
+        Ok(shard) => {
+            let (folder, end) = serve_over(alloc, &desk, shard, source, sink, clock);
+            (folder, OnceEnd::Served(end))
+        }
+        Err(refused) => {
+            let (folder, fault) = refused;
+            (folder, end_of(fault))
+        }
+    }
+}
+
+/// The same with the one folder and the one clock in their lists.
+fn once_in<S: Source, K: Sink, F: Folder, C: Clock>(
+    alloc: Global,
+    key: Key,
+    base: Bytes,
+    folders: &mut Vec<F>,
     source: &mut S,
     sink: &mut K,
     clocks: &mut Vec<C>,
-) -> ConnEnd
-    requires { length clocks.old.items ≡ 1 }
-    ensures serves { ServesOnce result (S.left source.old) (told_by C.moments clocks.old.items) (told_by C.moments clocks.new.items)
-        (K.held sink.old) (K.held sink.new) }
-    ensures read_fault { result ≡ ConnEnd.ReadFault → Rose (S.read_faults source.old) (S.read_faults source.new) }
-    ensures write_fault { result ≡ ConnEnd.WriteFault → Rose (K.write_faults sink.old) (K.write_faults sink.new) }
+) -> OnceEnd
+    requires base { is_base base ≡ true }
+    requires folders { length folders.old.items ≡ 1 }
+    requires clocks { length clocks.old.items ≡ 1 }
+    ensures runs { OnceRunsIn F.files F.faults C.moments key base result (S.left source.old) (K.held sink.old) (K.held sink.new)
+        folders.old.items folders.new.items clocks.old.items clocks.new.items }
+    ensures untouched { Untouched result source.old source.new sink.old sink.new }
+    ensures read_fault { result ≡ OnceEnd.Served ConnEnd.ReadFault → Rose (S.read_faults source.old) (S.read_faults source.new) }
+    ensures write_fault { result ≡ OnceEnd.Served ConnEnd.WriteFault → Rose (K.write_faults sink.old) (K.write_faults sink.new) }
 {
-    serve_anew(alloc, source, sink, &mut clocks[0])
+    let Some(folder) = folders.pop() else {
+        unreachable!()
+    };
+    let (folder, end) = once_over(alloc, key, base, folder, source, sink, &mut clocks[0]);
+    match folders.push(folder) {
+        Ok(()) => {}
+        Err(_) => unreachable!(),
+    }
+    end
 }
 
-/// Says how the connection ended, and gives the status.
-fn finish<K: Sink>(notes: &mut K, end: ConnEnd) -> u8
+/// The line that tells of a folder that is too large.
+#[tactic(auto, unfolding(crate::specs::Once::too_large_line))]
+fn too_large_line(alloc: Global, name: &FileName) -> Result<Vec<u8>, Memory>
+    ensures { IfOk result (λ line. line.items ≡ too_large_line name.now) }
+{
+    let id = id_text(alloc, name)?;
+    let mut line = Vec::new(alloc);
+    line.extend_from_slice(b"folder too large ")?;
+    line.extend_from_slice(id.as_slice())?;
+    line.extend_from_slice(b"\n")?;
+    Ok(line)
+}
+
+/// Tells of a folder that is too large, where there is memory for the line.
+fn finish_too_large<K: Sink>(alloc: Global, notes: &mut K, name: &FileName) -> u8
+    ensures { TooLargeEnds K.held K.write_faults result notes.old notes.new name.now }
+{
+    match too_large_line(alloc, name) {
+        Ok(line) => {
+            note(notes, &line);
+            12
+        }
+        Err(Memory) => {
+            note(notes, b"out of memory\n");
+            6
+        }
+    }
+}
+
+/// Says how a connection ended, and gives the status.
+fn finish_served<K: Sink>(notes: &mut K, end: ConnEnd) -> u8
     ensures status { result ≡ status_of end }
     ensures notes { NotesFor K.held K.write_faults result notes.old notes.new }
 {
@@ -84,7 +200,49 @@ fn finish<K: Sink>(notes: &mut K, end: ConnEnd) -> u8
     }
 }
 
-/// Answers the requests of the input on the output, in their order.
+/// Says how the run ended, and gives the status.
+fn finish<K: Sink>(alloc: Global, notes: &mut K, end: &OnceEnd) -> u8
+    ensures { Finishes K.held K.write_faults result notes.old notes.new end.now }
+{
+    match end {
+        OnceEnd::Served(end) => finish_served(notes, *end),
+        OnceEnd::FolderFault => {
+            note(notes, b"folder fault\n");
+            5
+        }
+        OnceEnd::TooLarge(name) => finish_too_large(alloc, notes, name),
+        OnceEnd::Memory => {
+            note(notes, b"out of memory\n");
+            6
+        }
+    }
+}
+
+/// The words for the key and the base.
+fn key_and_base(words: &[String]) -> (&str, &str)
+    requires { command_of (map string_bytes words.now) ≡ Some Command.Once }
+    ensures key { result.0.now ≡ key_word (map string_bytes words.now) }
+    ensures base { result.1.now ≡ base_word (map string_bytes words.now) }
+{
+    match words {
+        [_, _, key, base] => (key.as_str(), base.as_str()),
+        _ => unreachable!(),
+    }
+}
+
+/// The key that its word writes.
+fn key_of(word: &str) -> Key
+    requires { is_key word.now ≡ true }
+    ensures { IsHexOf result word.now }
+{
+    match Key::read(word.as_bytes()) {
+        Some(key) => key,
+        None => unreachable!(),
+    }
+}
+
+/// Answers the requests of the input on the output, in their order, by calls on one shard over the
+/// folder.
 pub fn run_once<S: Source, K: Sink, F: Folder, N: Listener, D: Dialer, C: Clock>(
     alloc: Global,
     words: &[String],
@@ -94,13 +252,23 @@ pub fn run_once<S: Source, K: Sink, F: Folder, N: Listener, D: Dialer, C: Clock>
     requires folders { length outside.old.folders.items ≡ 1 }
     requires clocks { length outside.old.clocks.items ≡ 1 }
 
-    ensures { OnceEnds S.left S.read_faults K.held K.write_faults C.moments result outside.old outside.new }
+    ensures { OnceEnds S.left S.read_faults K.held K.write_faults F.files F.faults C.moments (map string_bytes words.now)
+        result outside.old outside.new }
 {
-    let end = serve_by(
+    let (key, base) = key_and_base(words);
+    let key = key_of(key);
+    let Ok(base) = Bytes::from_slice(alloc, base.as_bytes()) else {
+        note(&mut outside.notes, b"out of memory\n");
+        return 6;
+    };
+    let end = once_in(
         alloc,
+        key,
+        base,
+        &mut outside.folders,
         &mut outside.input,
         &mut outside.output,
         &mut outside.clocks,
     );
-    finish(&mut outside.notes, end)
+    finish(alloc, &mut outside.notes, &end)
 }
