@@ -272,3 +272,6 @@ impl<F: Folder> Shard<F> {
         (folder, past)
     }
 }
+
+#[cfg(test)]
+mod tests;
