@@ -1,27 +1,25 @@
 -- The opening, as names are taken and their files are read.
-use Rattle.std.proofs.Common.{◌≡◌, ◌≢◌, ◌⊎◌, inl, inr, ℕ, suc, ◌+◌, ◌<◌, ◌≤◌, ◌==◌, ◌||◌, Bool, true, false, cond, if◌then◌else◌, List, [], ◌∷◌, ◌++◌, length, map, sum_by, Option, None, Some, option_map, unwrap_or, is_some, refl, sym, ap, subst, ◌∙◌, arith, IsTrue}
-use Rattle.std.proofs.lemmas.List.{map-append}
+use Rattle.std.proofs.Common.{◌≡◌, ◌⊎◌, inl, inr, ℕ, suc, ◌+◌, ◌<◌, ◌≤◌, ◌||◌, Bool, true, false, cond, if◌then◌else◌, List, [], ◌∷◌, ◌++◌, length, map, sum_by, Option, None, Some, option_map, is_some, refl, sym, ap, subst, ◌∙◌, arith, IsTrue}
 use Rattle.std.proofs.lemmas.List.Sums.{sum_by_push}
 use Rattle.std.proofs.lemmas.Slice.Eq.{bytes_eq-Decides}
 use Rattle.std.proofs.lemmas.Map.Text.{is_eq-slice_cmp}
 use Rattle.std.proofs.lemmas.Cmp.{nat_list_cmp_total}
 use Rattle.std.specs.BTreeSet.{BTreeSet, contains}
 use Rattle.std.specs.Str.{bytes_eq}
-use Rattle.std.specs.List.{AllByRecursion, list_any}
+use Rattle.std.specs.List.{AllByRecursion}
 use Rattle.std.specs.List.Sorted.{IsStrictlySortedBy}
 use Rattle.std.specs.Ordering.{on, nat_cmp, is_eq, is_gt}
 use Rattle.std.specs.declared.cmp.Ordering.{Ordering}
 use Rattle.std.specs.declared.cmp.Ordering.TheVariants.{Less, Equal, Greater}
 use Rattle.std.specs.Cmp.Lexicographic.{slice_cmp}
 use Rattle.outside.specs.Folder.{Files, Lists, Keeps}
-use Rattle.wopi_model.specs.Shard.{Opening, opening_file}
-use Rattle.wopi_model.specs.File.{File, never_met, opened_with}
+use Rattle.wopi_model.specs.Shard.{Opening}
 use Rattle.wopi_model.specs.Host.{most_kept}
 use Rattle.host_core.specs.declared.by_bytes.ByBytes.{ByBytes}
 use Rattle.host_core.specs.ByBytes.{has, name_of}
 use Rattle.host_core.specs.Archive.{place_in}
 use Rattle.host_core.specs.Store.{Holds}
-use Rattle.host_core.specs.Opening.{IsTaken, IsByName, HasAll, Fits, Gathers, IsOpening, IsTooLarge, PassesAfter, PassesLimit, opened_contents, is_listed, most_contents}
+use Rattle.host_core.specs.Opening.{IsTaken, IsByName, HasAll, Gathers, IsOpening, IsTooLarge, PassesAfter, PassesLimit, opened_contents, is_listed, most_contents}
 
 abbrev cmp : List ℕ → List ℕ → Ordering
 cmp x y = slice_cmp nat_cmp x y

@@ -1,19 +1,17 @@
 -- A call on one file, as it is turned away or carried out.
-use Rattle.std.proofs.Common.{◌≡◌, ◌≢◌, ℕ, ◌+◌, ◌≤◌, ◌==◌, Bool, true, false, if◌then◌else◌, List, Option, None, Some, refl, sym, ap, subst, ◌∙◌, add-zero}
+use Rattle.std.proofs.Common.{◌≡◌, ◌≢◌, ℕ, ◌+◌, ◌≤◌, ◌==◌, Bool, false, if◌then◌else◌, List, Option, None, Some, sym, ap, subst, ◌∙◌}
 use Rattle.outside.specs.Folder.{Files}
-use Rattle.wopi_model.specs.declared.calls.Act.{Act}
 use Rattle.wopi_model.specs.declared.calls.Call.{Call}
 use Rattle.wopi_model.specs.declared.calls.Ruling.{Ruling}
 use Rattle.wopi_model.specs.File.{File}
 use Rattle.wopi_model.specs.Settle.{settled}
-use Rattle.wopi_model.specs.Step as steps
 use Rattle.wopi_model.specs.Step.{Decision, Accept, decision, ruling_of}
 use Rattle.file_versions.specs.declared.Version.{Version}
 use Rattle.file_versions.specs.Versions.{kept_in}
 use Rattle.host_core.specs.declared.accept.Carried.{Carried}
 use Rattle.host_core.specs.declared.carry.Uncarried.{Uncarried}
 use Rattle.host_core.specs.declared.file.KeptFile.{KeptFile}
-use Rattle.host_core.specs.Entries.{brought_by, back_of}
+use Rattle.host_core.specs.Entries.{brought_by}
 use Rattle.host_core.specs.Files.{file_of}
 use Rattle.host_core.specs.Store.{is_store_call, kept_with}
 use Rattle.host_core.specs.Steps.{Moves, Stops, Carries, Leaves, IsSameFile, IsRoomFor, IsNoRoomFor}

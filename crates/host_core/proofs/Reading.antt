@@ -1,5 +1,5 @@
 -- The loop that reads the files of the names.
-use Rattle.std.proofs.Common.{◌≡◌, ℕ, ◌+◌, ◌≤◌, Bool, false, List, [], ◌∷◌, ◌++◌, length, sum_by, map, Option, None, Some, refl, sym, ap, subst, ◌∙◌, arith}
+use Rattle.std.proofs.Common.{◌≡◌, ℕ, ◌+◌, ◌≤◌, Bool, false, List, [], ◌∷◌, ◌++◌, length, sum_by, map, Option, None, Some, sym, ap, subst, ◌∙◌, arith}
 use Rattle.std.specs.BTreeSet.{BTreeSet}
 use Rattle.std.specs.BTreeMap.{is_at}
 use Rattle.std.specs.List.{list_any}
@@ -8,7 +8,6 @@ use Rattle.std.specs.Cmp.Lexicographic.{slice_cmp}
 use Rattle.outside.specs.Folder.{Files, Keeps}
 use Rattle.outside.specs.Faults.{Rose}
 use Rattle.wopi_model.specs.Host.{most_kept}
-use Rattle.wopi_model.specs.Shard.{Opening}
 use Rattle.file_versions.specs.Versions.{kept_in}
 use Rattle.host_core.specs.declared.by_bytes.ByBytes.{ByBytes}
 use Rattle.host_core.specs.declared.opening.Stock.{Stock}

@@ -1,7 +1,6 @@
 -- The kept files, as one call steps one of them.
-use Rattle.std.proofs.Common.{◌≡◌, ◌≢◌, ◌⊎◌, inl, inr, ℕ, suc, ◌+◌, ◌<◌, ◌≤◌, ◌==◌, ◌||◌, ◌&&◌, Bool, true, false, if◌then◌else◌, List, [], ◌∷◌, ◌++◌, length, set, get_or, Option, None, Some, option_map, unwrap_or, refl, sym, ap, subst, ◌∙◌, arith, add-zero}
+use Rattle.std.proofs.Common.{◌≡◌, inl, inr, ℕ, suc, ◌+◌, ◌≤◌, ◌==◌, ◌||◌, ◌&&◌, Bool, true, false, if◌then◌else◌, List, [], ◌∷◌, ◌++◌, length, set, get_or, Option, None, Some, option_map, unwrap_or, refl, sym, ap, subst, ◌∙◌, arith, add-zero}
 use Rattle.std.proofs.lemmas.List.{append-nil, map-append}
-use Rattle.std.proofs.lemmas.Bool.Decides.{nat_tests}
 use Rattle.std.proofs.lemmas.Slice.Eq.{bytes_eq-Decides}
 use Rattle.std.specs.Str.{bytes_eq}
 use Rattle.outside.specs.Folder.{Files}
@@ -10,10 +9,9 @@ use Rattle.wopi_model.specs.declared.calls.Call.{Call}
 use Rattle.wopi_model.specs.declared.calls.Ruling.{Ruling}
 use Rattle.wopi_model.specs.Act.{is_stored}
 use Rattle.wopi_model.specs.File.{File, never_met}
-use Rattle.wopi_model.specs.Host.{new_bytes, brings_contents}
+use Rattle.wopi_model.specs.Host.{new_bytes}
 use Rattle.wopi_model.specs.Settle.{settled}
-use Rattle.wopi_model.specs.Shard.{Opening}
-use Rattle.wopi_model.specs.Step.{Decision, Refuse, Conflict, Accept, decision, ruling_of, file_of, after_step, acceptance, effect, store_fault, IsOutcome}
+use Rattle.wopi_model.specs.Step.{Decision, Refuse, Conflict, Accept, decision, ruling_of, file_of, after_step, effect, IsOutcome}
 use Rattle.file_versions.specs.declared.Version.{Version}
 use Rattle.file_versions.specs.Places.{IsFirst, first_of}
 use Rattle.file_versions.proofs.Places.{set_split, one_is, first_of-append, either}
@@ -25,7 +23,7 @@ use Rattle.host_core.specs.Files as kept
 use Rattle.host_core.specs.Files.{is_named, files_of, torn_in, IsHeld}
 use Rattle.host_core.specs.Archive.{IsStocked, AreOpened, IsKept, AreWithin, StaysKept, names_of, place_in}
 use Rattle.host_core.specs.Store.{kept_with, torn_after, is_store_call}
-use Rattle.host_core.specs.Steps.{Moves, Stops, StepsAll, StopsAll, TakesStep, ShowsSame, IsSameFile, IsRoomFor, IsNoRoomFor, StepsTo}
+use Rattle.host_core.specs.Steps.{Moves, Stops, StepsAll, StopsAll, IsRoomFor, IsNoRoomFor}
 use Rattle.host_core.proofs.Decisions.{acceptance_status}
 use Rattle.host_core.proofs.FileLists.{file_at, set_steps, set_shows, push_first}
 use Rattle.host_core.proofs.Holding.{held_same}

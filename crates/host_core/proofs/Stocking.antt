@@ -1,5 +1,5 @@
 -- What a shard begins with, as one file is added.
-use Rattle.std.proofs.Common.{◌≡◌, ℕ, suc, ◌+◌, ◌<◌, ◌≤◌, Bool, true, false, if◌then◌else◌, List, [], ◌∷◌, ◌++◌, length, map, sum_by, Option, None, Some, option_map, unwrap_or, refl, sym, ap, subst, ◌∙◌, arith}
+use Rattle.std.proofs.Common.{◌≡◌, ℕ, suc, ◌+◌, ◌<◌, Bool, true, false, if◌then◌else◌, List, [], ◌∷◌, ◌++◌, length, map, sum_by, Option, None, Some, option_map, refl, sym, ap, subst, ◌∙◌, arith}
 use Rattle.std.proofs.lemmas.List.{map-append}
 use Rattle.std.proofs.lemmas.List.Sums.{sum_by_push}
 use Rattle.std.proofs.lemmas.Slice.Eq.{bytes_eq-Decides}
@@ -11,7 +11,7 @@ use Rattle.file_versions.specs.Places.{first_of}
 use Rattle.file_versions.specs.Versions.{kept_in, found}
 use Rattle.host_core.specs.declared.file.KeptFile.{KeptFile}
 use Rattle.host_core.specs.declared.opening.Stock.{Stock}
-use Rattle.host_core.specs.Archive.{IsArchive, IsStocked, AreOpened, AreWithin, names_of, place_in}
+use Rattle.host_core.specs.Archive.{IsStocked, AreOpened, AreWithin, names_of, place_in}
 use Rattle.host_core.specs.Files as kept
 use Rattle.host_core.specs.Files.{files_of, torn_in, is_named, IsHeld}
 use Rattle.host_core.specs.ShardView.{opening_of}

@@ -1,8 +1,7 @@
 -- The archive, as one file changes or is met.
-use Rattle.std.proofs.Common.{◌≡◌, ◌≢◌, ◌⊎◌, inl, inr, ℕ, suc, ◌+◌, ◌<◌, ◌≤◌, ◌==◌, ◌&&◌, ◌||◌, Bool, true, false, if◌then◌else◌, List, [], ◌∷◌, ◌++◌, length, map, set, get_or, Option, None, Some, option_map, refl, sym, ap, subst, ◌∙◌, arith}
+use Rattle.std.proofs.Common.{◌≡◌, ◌≢◌, ℕ, suc, ◌+◌, ◌<◌, ◌≤◌, ◌||◌, Bool, true, false, if◌then◌else◌, List, [], ◌∷◌, ◌++◌, length, set, get_or, Option, None, Some, option_map, refl, sym, ap, subst, ◌∙◌, arith}
 use Rattle.std.proofs.lemmas.Bool.Decides.{nat_tests}
 use Rattle.std.proofs.lemmas.List.{map-append}
-use Rattle.std.proofs.lemmas.Slice.Eq.{bytes_eq-Decides}
 use Rattle.std.specs.Str.{bytes_eq}
 use Rattle.std.specs.List.{list_any}
 use Rattle.wopi_model.specs.declared.calls.Act.{Act}
@@ -18,7 +17,7 @@ use Rattle.file_versions.specs.Versions.{found, is_of}
 use Rattle.host_core.specs.declared.file.KeptFile.{KeptFile}
 use Rattle.host_core.specs.Files.{is_named, IsHeld}
 use Rattle.host_core.specs.Entries.{brought_by}
-use Rattle.host_core.specs.Archive.{AreHeld, IsStocked, AreOpened, IsKept, AreWithin, StaysKept, names_of, place_in}
+use Rattle.host_core.specs.Archive.{AreHeld, IsStocked, AreOpened, IsKept, names_of, place_in}
 use Rattle.host_core.specs.Store.{kept_with}
 use Rattle.host_core.proofs.Holding.{found-beside}
 use Rattle.host_core.proofs.Versions.{found-push}

@@ -5,7 +5,7 @@ use Rattle.std.proofs.lemmas.Bool.Decides.{nat_tests}
 use Rattle.file_versions.specs.Places.{first_of}
 use Rattle.wopi_model.specs.declared.calls.Act.{Act}
 use Rattle.wopi_model.specs.declared.calls.Act.TheVariants as act
-use Rattle.wopi_model.specs.Host.{new_bytes, brings_contents}
+use Rattle.wopi_model.specs.Host.{new_bytes}
 use Rattle.file_versions.specs.declared.Version.{Version}
 use Rattle.file_versions.specs.Versions.{kept_in, found, removed, is_of}
 use Rattle.host_core.specs.Store.{kept_with}

@@ -1,6 +1,5 @@
 -- One step of what a shard keeps.
-use Rattle.std.specs.Prelude.{◌≡◌, ◌⊎◌, ⊤, ℕ, ◌+◌, ◌-◌, ◌^◌, ◌==◌, ◌≤◌, max, List, [], ◌∷◌, ◌++◌, length, Option, None, Some, if◌then◌else◌}
-use Rattle.wopi_model.specs.declared.calls.Act.{Act}
+use Rattle.std.specs.Prelude.{◌≡◌, ◌⊎◌, ⊤, ℕ, ◌+◌, ◌-◌, ◌^◌, ◌==◌, ◌≤◌, max, [], ◌∷◌, ◌++◌, length, if◌then◌else◌}
 use Rattle.wopi_model.specs.declared.calls.Call.{Call}
 use Rattle.wopi_model.specs.declared.calls.Ruling.{Ruling}
 use Rattle.wopi_model.specs.Host.{new_bytes}

@@ -4,7 +4,7 @@ ghost use Rattle.outside.specs.Folder.{Keeps};
 ghost use Rattle.outside.specs.Faults.{Rose};
 ghost use Rattle.wopi_model.specs.Moment.{IsMoment};
 ghost use Rattle.wopi_model.specs.Host.{FullAt};
-ghost use Rattle.wopi_model.specs.Shard.{last_from, stamps, entries, opening_file};
+ghost use Rattle.wopi_model.specs.Shard.{last_from, stamps, entries, opening_file, AreNames};
 ghost use Rattle.file_versions.specs.Versions.{kept_in};
 ghost use Rattle.host_core.specs.Stock.{IsStock};
 ghost use Rattle.host_core.specs.Entries.{history_of, back_of};
@@ -16,6 +16,7 @@ use crate::entry::Entry;
 use crate::file::KeptFile;
 use crate::files::place_of;
 use crate::ledger::{Ledger, StepFault, take_step};
+use crate::names::{NameList, names_of};
 use crate::opening::{OpeningFile, StartFault, Stock, gather};
 use crate::past::Past;
 use crate::view::{FileView, view_of};
@@ -195,6 +196,16 @@ impl<F: Folder> Shard<F> {
                     Some(view_of(&self.ledger.versions, place as u32, file, self.ledger.time))
                 }
             }
+        }
+    }
+
+    /// The names that have a version, in the order of their bytes.
+    pub fn names(&self) -> Result<NameList, Memory>
+        ensures { IfOk result (AreNames (state_of self.now.opening self.now.opened self.now.made self.now.time)) }
+    {
+        match names_of(self.ledger.alloc, &self.ledger.files) {
+            Ok(names) => return Ok(names),
+            Err(memory) => return Err(memory),
         }
     }
 

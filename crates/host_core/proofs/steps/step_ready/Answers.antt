@@ -1,4 +1,4 @@
-use Rattle.std.proofs.Common.{◌≡◌, ◌≢◌, ◌∙◌, sym, ap, arith}
+use Rattle.std.proofs.Common.{◌≢◌, ◌∙◌, sym, ap, arith}
 use Rattle.wopi_model.specs.Step as steps
 use Rattle.host_core.specs.Files.{decision_of}
 use Rattle.host_core.proofs.Decisions.{accepted_only}

@@ -1,7 +1,6 @@
-use Rattle.std.proofs.Common.{◌≡◌, ◌≤◌, ◌+◌, ◌^◌, ℕ, List, Option, [], length, sym, ap, subst, ◌∙◌, arith}
+use Rattle.std.proofs.Common.{◌≡◌, ℕ, List, Option, length, sym, ap, subst, arith}
 use Rattle.file_versions.specs.Versions.{kept_in}
 use Rattle.host_core.specs.Archive.{IsArchive}
-use Rattle.host_core.specs.declared.opening.OpeningFile.{OpeningFile}
 use Rattle.host_core.specs.Entries.{Made}
 use Rattle.host_core.specs.Files.{files_of, torn_in}
 use Rattle.host_core.specs.ShardView.{opening_of}
