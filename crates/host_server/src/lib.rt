@@ -1,4 +1,14 @@
-//! Connections: the messages of a link answered in their order.
+//! The server of a host: connections, whose messages are answered in their order by calls on files.
+//!
+//! `answer` does what one request asks for. What it asks is read by wopi_headers, its token by
+//! access_tokens under the key of the `Desk`, and the call goes to a `Caller` of host_core. What a
+//! request may be answered is the relation `Answered`, over the deeds that were done for it: the entry
+//! that the call made, or that its shard was full. A store that failed is 500 with the body `store
+//! fault`, and a shard that takes no more is 500 with `journal full`. CheckFileInfo is answered 501.
+//!
+//! `serve_connection` answers the messages of a link one after another: up to the end of the input, a
+//! message that is none, one that closes, or the 10,000th (`Conn`), and at a fault of the link a front
+//! of that (`Cut`). It reads the clock once for each message. For want of memory a reply is 503.
 #![tactic(auto)]
 
 mod answering;

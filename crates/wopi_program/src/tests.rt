@@ -1,12 +1,15 @@
 //! The program over fakes in memory: each request and its reply to the byte.
 mod faults;
+mod files;
 mod refusals;
 mod replies;
 
 ghost use Rattle.std.specs.Prelude.{◌≡◌, IfOk, length};
 
 use crate::{Outside, run};
-use outside::{MemFolder, MemListener, MemSink, MemSource, Pair, ScriptClock, ScriptDialer};
+use outside::{
+    Folder, MemFolder, MemListener, MemSink, MemSource, Pair, ScriptClock, ScriptDialer,
+};
 use std::alloc::Global;
 use std::sync::Wait;
 use std::thread::Threads;
@@ -19,6 +22,10 @@ type Fakes = Outside<MemSource, MemSink, MemFolder, Links, ScriptDialer, ScriptC
 /// The words of a run.
 pub const ONCE: [&str; 4] = ["once", ".", "4a656665", "http://localhost:8880"];
 
+/// A live token for `a.csv` under the key of the words, with the right to write.
+pub const TOKEN: &str =
+    "v1.ann.612e637376.w.1.253402300000000.253402300799999.e4367dab632e0b350a8cebce225b4b3af9ddf3ae5a45f45b85a6abd4ffe2d92a";
+
 /// An input, and how its streams fail.
 #[derive(Drop)]
 pub struct Given<'a> {
@@ -26,6 +33,7 @@ pub struct Given<'a> {
     pub piece: usize,
     pub failing_reads: &'a [u64],
     pub failing_writes: &'a [u64],
+    pub failing_stores: &'a [u64],
 }
 
 /// What a run left.
@@ -34,6 +42,7 @@ pub struct Left {
     pub status: u8,
     pub output: MemSink,
     pub notes: MemSink,
+    pub folders: Vec<MemFolder>,
 }
 
 fn words(alloc: Global, list: &[&str]) -> Result<Vec<String>, Memory> {
@@ -44,11 +53,15 @@ fn words(alloc: Global, list: &[&str]) -> Result<Vec<String>, Memory> {
     Ok(words)
 }
 
-fn folders(alloc: Global) -> Result<Vec<MemFolder>, Memory>
+/// A folder with the file `a.csv`; its calls of these numbers fail, the first being the one that makes
+/// the file.
+fn folders(alloc: Global, failing: &[u64]) -> Result<Vec<MemFolder>, Memory>
     ensures { IfOk result (λ folders. length folders.items ≡ 1) }
 {
     let mut folders = Vec::new(alloc);
-    folders.push(MemFolder::new(alloc, Vec::new(alloc), Vec::new(alloc)))?;
+    let mut folder = MemFolder::new(alloc, Vec::new(alloc), failing.to_vec(alloc)?);
+    let _kept = folder.replace("a.csv", b"1,2\n");
+    folders.push(folder)?;
     Ok(folders)
 }
 
@@ -70,7 +83,7 @@ fn fakes(alloc: Global, given: &Given) -> Result<Fakes, Memory>
         input: MemSource::new(input, given.piece.max(1), reads),
         output: MemSink::new(alloc, 2_000_000, writes)?,
         notes: MemSink::new(alloc, 100, Vec::new(alloc))?,
-        folders: folders(alloc)?,
+        folders: folders(alloc, given.failing_stores)?,
         listeners: Vec::new(alloc),
         dialer: ScriptDialer::new(alloc, Vec::new(alloc)),
         clocks: clocks(alloc)?,
@@ -91,7 +104,7 @@ pub fn run_with<R: Threads + Wait + Sync>(
         input: _,
         output,
         notes,
-        folders: _,
+        folders,
         listeners: _,
         dialer: _,
         clocks: _,
@@ -100,6 +113,7 @@ pub fn run_with<R: Threads + Wait + Sync>(
         status,
         output,
         notes,
+        folders,
     })
 }
 
@@ -110,17 +124,28 @@ pub fn once<R: Threads + Wait + Sync>(rt: &R, alloc: Global, input: &[u8]) -> Re
         piece: 1_000_000,
         failing_reads: &[],
         failing_writes: &[],
+        failing_stores: &[],
     };
     run_with(rt, alloc, &ONCE, &given)
 }
 
-/// A Lock request on `a.csv` with this id, and a token that is there.
-pub fn lock_request(alloc: Global, id: &str) -> Result<Vec<u8>, Memory> {
-    let mut text = Vec::new(alloc);
-    text.extend_from_slice(
-        b"POST /wopi/files/612e637376?access_token=t HTTP/1.1\r\nHost: h\r\nX-WOPI-Override: LOCK\r\nX-WOPI-Lock: ",
+/// A request on `a.csv` with a live token: method and path, the header lines, and a body.
+pub fn request(
+    alloc: Global,
+    method: &str,
+    path: &str,
+    headers: &str,
+    body: &str,
+) -> Result<Vec<u8>, Memory> {
+    let text = format!(in alloc;
+        "{method} /wopi/files/612e637376{path}?access_token={TOKEN} HTTP/1.1\r\nHost: h\r\n{headers}Content-Length: {}\r\n\r\n{body}",
+        body.len()
     )?;
-    text.extend_from_slice(id.as_bytes())?;
-    text.extend_from_slice(b"\r\nContent-Length: 0\r\n\r\n")?;
-    Ok(text)
+    Ok(text.into_bytes())
+}
+
+/// A Lock request on `a.csv` with this id.
+pub fn lock_request(alloc: Global, id: &str) -> Result<Vec<u8>, Memory> {
+    let headers = format!(in alloc; "X-WOPI-Override: LOCK\r\nX-WOPI-Lock: {id}\r\n")?;
+    request(alloc, "POST", "", headers.as_str(), "")
 }

@@ -10,6 +10,7 @@ fn a_fault_of_reading_is_told_and_ends_the_run(rt: HostRuntime) -> Result<(), Fa
         piece: 16,
         failing_reads: &[3],
         failing_writes: &[],
+        failing_stores: &[],
     };
     let left = run_with(&rt, alloc, &ONCE, &given)?;
     assert_eq!(rt; left.status, 3);
@@ -27,6 +28,7 @@ fn a_fault_of_writing_is_told_and_ends_the_run(rt: HostRuntime) -> Result<(), Fa
         piece: 4096,
         failing_reads: &[],
         failing_writes: &[1],
+        failing_stores: &[],
     };
     let left = run_with(&rt, alloc, &ONCE, &given)?;
     assert_eq!(rt; left.status, 4);
@@ -42,6 +44,7 @@ fn words_that_are_no_command_are_told(rt: HostRuntime) -> Result<(), Fail> {
         piece: 1,
         failing_reads: &[],
         failing_writes: &[],
+        failing_stores: &[],
     };
     let left = run_with(&rt, alloc, &[], &given)?;
     assert_eq!(rt; left.status, 2);
@@ -63,6 +66,7 @@ fn help_and_version_go_to_the_output(rt: HostRuntime) -> Result<(), Fail> {
         piece: 1,
         failing_reads: &[],
         failing_writes: &[],
+        failing_stores: &[],
     };
     let left = run_with(&rt, alloc, &["--version"], &given)?;
     assert_eq!(rt; left.status, 0);

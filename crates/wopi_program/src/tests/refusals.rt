@@ -31,6 +31,9 @@ fn a_refused_request_is_answered_and_the_connection_goes_on(rt: HostRuntime) -> 
     let other_id =
         "POST /wopi/files/zz?access_token=t HTTP/1.1\r\nHost: h\r\nX-WOPI-Override: LOCK\r\nX-WOPI-Lock: L1\r\n\r\n";
     assert!(rt; goes_on(&rt, alloc, other_id, missing)?);
+    let other_key =
+        "GET /wopi/files/612e637376/contents?access_token=v1.ann.612e637376.w.1.253402300000000.253402300799999.e4367dab632e0b350a8cebce225b4b3af9ddf3ae5a45f45b85a6abd4ffe2d92b HTTP/1.1\r\nHost: h\r\n\r\n";
+    assert!(rt; goes_on(&rt, alloc, other_key, "HTTP/1.1 401 Unauthorized\r\n")?);
     let unknown = "HTTP/1.1 501 Not Implemented\r\n";
     let no_override =
         "POST /wopi/files/612e637376?access_token=t HTTP/1.1\r\nHost: h\r\nX-WOPI-Lock: L1\r\n\r\n";

@@ -42,6 +42,7 @@ fn an_input_of_single_bytes_is_answered_alike(rt: HostRuntime) -> Result<(), Fai
         piece: 1,
         failing_reads: &[],
         failing_writes: &[],
+        failing_stores: &[],
     };
     let left = run_with(&rt, alloc, &ONCE, &given)?;
     let wanted = format!(in alloc; "{LOCKED}{LOCKED}")?;
@@ -53,17 +54,33 @@ fn an_input_of_single_bytes_is_answered_alike(rt: HostRuntime) -> Result<(), Fai
 #[test]
 fn the_ten_thousandth_reply_closes(rt: HostRuntime) -> Result<(), Fail> {
     let alloc = rt.alloc();
-    let request = lock_request(alloc, "L1")?;
-    let mut input = Vec::with_capacity(alloc, 10_001 * request.len())?;
+    let mut input = Vec::new(alloc);
     for _ in 0..10_001 {
+        input.extend_from_slice(b"GET / HTTP/1.1\r\nHost: h\r\n\r\n")?;
+    }
+    let left = once(&rt, alloc, &input)?;
+    let missing = "HTTP/1.1 404 Not Found\r\nContent-Length: 0\r\n\r\n";
+    let closing = "HTTP/1.1 404 Not Found\r\nContent-Length: 0\r\nConnection: close\r\n\r\n";
+    let output = left.output.as_slice();
+    assert_eq!(rt; output.len(), 9_999 * missing.len() + closing.len());
+    assert!(rt; output.ends_with(closing.as_bytes()));
+    Ok(())
+}
+
+#[test]
+fn a_shard_takes_as_many_calls_as_its_journal_has_room(rt: HostRuntime) -> Result<(), Fail> {
+    let alloc = rt.alloc();
+    let request = lock_request(alloc, "L1")?;
+    let mut input = Vec::new(alloc);
+    for _ in 0..4_097 {
         input.extend_from_slice(&request)?;
     }
     let left = once(&rt, alloc, &input)?;
-    let closing =
-        "HTTP/1.1 200 OK\r\nContent-Length: 0\r\nX-WOPI-ItemVersion: v1\r\nConnection: close\r\n\r\n";
+    let full =
+        "HTTP/1.1 500 Internal Server Error\r\nContent-Length: 12\r\nContent-Type: text/plain\r\n\r\njournal full";
     let output = left.output.as_slice();
-    assert_eq!(rt; output.len(), 9_999 * LOCKED.len() + closing.len());
-    assert!(rt; output.ends_with(closing.as_bytes()));
+    assert_eq!(rt; output.len(), 4_096 * LOCKED.len() + full.len());
+    assert!(rt; output.ends_with(full.as_bytes()));
     Ok(())
 }
 
