@@ -1,0 +1,3 @@
+pub mod Nonce
+pub mod LockIds
+pub mod Session
