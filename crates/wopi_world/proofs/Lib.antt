@@ -1,0 +1,9 @@
+pub mod Held
+pub mod Acting
+pub mod Moving
+pub mod Positions
+pub mod Lists
+pub mod Machine
+pub mod Growing
+pub mod Replying
+pub mod Worlds

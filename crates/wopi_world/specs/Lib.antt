@@ -1,0 +1,4 @@
+pub mod Requests
+pub mod World
+pub mod Valid
+pub mod Safe

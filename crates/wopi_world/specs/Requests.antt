@@ -1,0 +1,105 @@
+-- What a session asks the host, and what it is answered, as values.
+use Rattle.std.specs.Prelude.{ℕ, ◌+◌, List, [], Option, None, Some, unwrap_or}
+use Rattle.wopi_headers.specs.declared.answer.Answer.{Answer}
+use Rattle.wopi_headers.specs.declared.answer.BodyKind.{BodyKind}
+use Rattle.wopi_headers.specs.declared.answer.BodyKind.TheVariants as kind
+use Rattle.wopi_headers.specs.declared.ask.Op.{Op}
+use Rattle.wopi_headers.specs.declared.ask.Op.TheVariants as ask
+use Rattle.wopi_model.specs.declared.token.Token.{Token}
+use Rattle.wopi_model.specs.declared.calls.Act.{Act}
+use Rattle.wopi_model.specs.declared.calls.Act.TheVariants as act
+use Rattle.wopi_model.specs.declared.calls.Call.{Call}
+use Rattle.wopi_model.specs.declared.calls.Ruling.{Ruling}
+use Rattle.save_session.specs.declared.input.Input.{Input}
+use Rattle.save_session.specs.declared.input.Input.TheVariants as input
+use Rattle.save_session.specs.declared.state.SessionOp.{SessionOp}
+use Rattle.save_session.specs.declared.state.SessionOp.TheVariants as op
+use Rattle.save_session.specs.Session.{op_of}
+
+-- who a session belongs to: its nonce, and the token that all its requests carry
+pub record Client : Type 0 where
+  pub nonce : List ℕ
+  pub token : Token
+
+-- what a session may be asked for; an answer, or that there is none, comes to it from the world alone
+pub data Wish : Type 0 where
+  Start : Wish
+  Read : Wish
+  Save : (contents : List ℕ) → Wish
+  Refresh : Wish
+  Close : Wish
+
+abbrev pub input_of : Wish → Input
+input_of Start = input.Start
+input_of Read = input.Read
+input_of (Save contents) = input.Save contents
+input_of Refresh = input.Refresh
+input_of Close = input.Close
+
+-- an operation as a session sent it, with the contents of a Put
+pub data Sent : Type 0 where
+  Info : Sent
+  TakeLock : Sent
+  Get : Sent
+  Put : (number : ℕ) (contents : List ℕ) → Sent
+  Relock : (number : ℕ) → Sent
+  RefreshLock : (number : ℕ) → Sent
+  Unlock : (number : ℕ) → Sent
+
+-- the operation with the session's body
+abbrev pub sent_with : Option (List ℕ) → SessionOp → Sent
+sent_with body op.Info = Info
+sent_with body op.TakeLock = TakeLock
+sent_with body op.Get = Get
+sent_with body (op.Put number) = Put number (unwrap_or body [])
+sent_with body (op.Relock number) = Relock number
+sent_with body (op.Refresh number) = RefreshLock number
+sent_with body (op.Unlock number) = Unlock number
+
+abbrev pub operation : Sent → SessionOp
+operation Info = op.Info
+operation TakeLock = op.TakeLock
+operation Get = op.Get
+operation (Put number contents) = op.Put number
+operation (Relock number) = op.Relock number
+operation (RefreshLock number) = op.Refresh number
+operation (Unlock number) = op.Unlock number
+
+abbrev pub body : Sent → List ℕ
+body (Put number contents) = contents
+body _ = []
+
+-- The one act that an operation with that body is for the host. (MS-WOPI.)
+abbrev pub act_with : List ℕ → Op → Act
+act_with contents ask.Info = act.Info
+act_with contents (ask.Get most) = act.Get most
+act_with contents (ask.Put lock) = act.Put lock contents
+act_with contents (ask.Lock id) = act.Lock id
+act_with contents ask.GetLock = act.GetLock
+act_with contents (ask.Refresh id) = act.Refresh id
+act_with contents (ask.Unlock id) = act.Unlock id
+act_with contents (ask.Relock old id) = act.Relock old id
+act_with contents ask.Delete = act.Delete
+
+abbrev pub act_of : List ℕ → Sent → Act
+act_of nonce sent = act_with (body sent) (op_of nonce (operation sent))
+
+-- the one call that a session's request makes
+abbrev pub call_of : Client → Sent → Call
+call_of client sent = record { name = client.token.file; token = client.token; act = act_of client.nonce sent }
+
+abbrev pub kind_of : Option (List ℕ) → BodyKind
+kind_of None = kind.None
+kind_of (Some contents) = kind.Octets
+
+-- A ruling as a session is answered. It looks at the body of a read alone, so the texts of other bodies are left out.
+abbrev pub answer_of : Ruling → Answer
+answer_of ruling =
+    record {
+      status = ruling.status;
+      lock = ruling.lock;
+      reason = ruling.reason;
+      version = ruling.version;
+      kind = kind_of ruling.contents;
+      body = unwrap_or ruling.contents [];
+    }

@@ -1,0 +1,22 @@
+//! What holds of every world, as contracts of functions that do nothing.
+ghost use Rattle.std.specs.List.{slice_get};
+ghost use Rattle.std.specs.Prelude.{◌≡◌, ℕ, List, Some};
+ghost use Rattle.wopi_world.specs.Requests.{Client, Sent, call_of};
+ghost use Rattle.wopi_world.specs.World.{Setting, World, Event, IsSameHistory, comes, run};
+ghost use Rattle.wopi_world.specs.World as event;
+ghost use Rattle.wopi_world.specs.Valid.{IsValid};
+ghost use Rattle.wopi_world.specs.Safe.{IsSafe};
+
+/// Whatever is delivered, lost, repeated, delayed or expires, non-empty contents change only under
+/// the lock that is held or, where none is, by a Create that overwrites or a Delete; and what was
+/// acknowledged to a session is replaced only by its later save, or after its lock has ended.
+pub fn safe_always()
+    ensures { (setting : Setting) (events : List Event) → IsValid setting events → IsSafe setting (run setting events) }
+{}
+
+/// A delivery of a session's request leaves what the entry of its one call leaves.
+pub fn deliver_is_entry()
+    ensures { (setting : Setting) (world : World) (place moment s : ℕ) (sent : Sent) (client : Client) →
+        slice_get world.requests place ≡ Some (record { sender = s; op = sent }) → slice_get setting.clients s ≡ Some client →
+        IsSameHistory (comes setting world (event.Deliver place moment)) (comes setting world (event.Entry (call_of client sent) moment)) }
+{}

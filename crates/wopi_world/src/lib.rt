@@ -1,0 +1,12 @@
+//! The world of one host and its sessions, as definitions, and the law that no save is lost in it.
+//!
+//! A world (`specs/World.antt`) has one shard of a host with its history, any number of sessions,
+//! and all that was ever sent between them. Events come in any order: a session is asked for
+//! something, a request is delivered, once, late, again or never, an answer comes or is lost, time
+//! goes on, somebody else asks, the store fails. What is safe stands in `specs/Safe.antt`, and under
+//! which premises in `specs/Valid.antt`: nonces differ, and nobody else presents a session's ids.
+//!
+//! Nothing here runs: [`laws`] has the theorem and what ties a running host to it.
+#![tactic(auto)]
+
+pub mod laws;
