@@ -130,17 +130,16 @@ was_read session _ reply = tells (record session { contents = Some reply.body })
 abbrev pub with_next : State → State
 with_next session = record session { number = session.number + 1; used = false; relocking = false }
 
--- the next id is held, and what it was wanted for goes on
-abbrev pub relocked : State → Goal → Answer → Turn
-relocked session goal.Save reply = puts session session.body
-relocked session goal.Refresh reply = sends session goal.Refresh (op.Refresh session.number)
-relocked session goal.Close reply = sends session goal.Close (op.Unlock session.number)
-relocked session _ reply = ignores session (Reply reply)
+-- The next id is held, and what it was wanted for goes on. No relock is sent for a start or a read, nor where there is no next number.
+abbrev pub continues_with : State → Goal → Answer → Turn
+continues_with session goal.Save reply = puts (with_next session) session.body
+continues_with session goal.Refresh reply = sends (with_next session) goal.Refresh (op.Refresh (session.number + 1))
+continues_with session goal.Close reply = sends (with_next session) goal.Close (op.Unlock (session.number + 1))
+continues_with session _ reply = ignores session (Reply reply)
 
--- No relock was sent where there is no next number, so the second case doesn't come.
 abbrev pub continues : State → Goal → Answer → Turn
 continues session purpose reply =
-    if has_next session.number then relocked (with_next session) purpose reply else ignores session (Reply reply)
+    if has_next session.number then continues_with session purpose reply else ignores session (Reply reply)
 
 -- the answer names that id
 abbrev pub names : LockField → List ℕ → Bool

@@ -1,8 +1,19 @@
-//! What holds of the lock ids of sessions.
+//! What holds of sessions and their lock ids.
 ghost use Rattle.std.specs.Prelude.{◌≡◌, ℕ, List};
+ghost use Rattle.save_session.specs.declared.input.Input.{Input};
+ghost use Rattle.save_session.specs.declared.state.Effect.TheVariants.{Ignores};
+ghost use Rattle.save_session.specs.declared.state.State.{State};
 ghost use Rattle.save_session.specs.LockIds.{lock_id};
+ghost use Rattle.save_session.specs.Session.{stepped};
 
 /// Lock ids of different numbers are different.
 pub fn ids_differ()
     ensures { (nonce : List ℕ) (first second : ℕ) → lock_id nonce first ≡ lock_id nonce second → first ≡ second }
+{}
+
+/// An input that is ignored is handed back, and leaves the session as it was.
+pub fn an_ignored_input_changes_nothing()
+    ensures back { (nonce : List ℕ) (session : State) (input other : Input) → (stepped nonce session input).effect ≡ Ignores other → other ≡ input }
+    ensures unchanged { (nonce : List ℕ) (session : State) (input other : Input) → (stepped nonce session input).effect ≡ Ignores other →
+        (stepped nonce session input).session ≡ session }
 {}

@@ -1,5 +1,5 @@
 //! What comes of the operation that a session sent.
-ghost use Rattle.std.specs.Prelude.{◌≡◌, ◌+◌, ◌&&◌};
+ghost use Rattle.std.specs.Prelude.{◌≡◌, ◌+◌, ◌&&◌, IsTrue};
 ghost use Rattle.save_session.specs.declared.state.SessionOp.TheVariants as op;
 ghost use Rattle.save_session.specs.LockIds.{lock_id};
 ghost use Rattle.save_session.specs.Session as machine;
@@ -53,21 +53,29 @@ fn was_read(mut session: State, goal: Goal, reply: Answer) -> Turn
     }
 }
 
+/// The session with its next id, which no save has used.
+fn with_next(mut session: State) -> State
+    requires { IsTrue (machine.has_next session.number) }
+    ensures { result ≡ machine.with_next session }
+{
+    session.number += 1;
+    session.used = false;
+    session.relocking = false;
+    session
+}
+
 /// The next id is held, and what it was wanted for goes on.
-fn continued(mut session: State, goal: Goal, reply: Answer) -> Turn
+fn continued(session: State, goal: Goal, reply: Answer) -> Turn
     ensures { result ≡ machine.continues session goal reply }
 {
     if !has_next(session.number) {
         return ignored(session, Input::Reply(reply));
     }
-    session.number += 1;
-    session.used = false;
-    session.relocking = false;
-    let number = session.number;
+    let number = session.number + 1;
     match goal {
-        Goal::Save => put_sent(session),
-        Goal::Refresh => sent(session, goal, SessionOp::Refresh { number }),
-        Goal::Close => sent(session, goal, SessionOp::Unlock { number }),
+        Goal::Save => put_sent(with_next(session)),
+        Goal::Refresh => sent(with_next(session), goal, SessionOp::Refresh { number }),
+        Goal::Close => sent(with_next(session), goal, SessionOp::Unlock { number }),
         Goal::Start | Goal::Read => ignored(session, Input::Reply(reply)),
     }
 }

@@ -7,3 +7,5 @@ pub mod Machine
 pub mod Growing
 pub mod Replying
 pub mod Worlds
+pub mod Running
+pub mod Schedules

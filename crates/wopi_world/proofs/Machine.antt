@@ -19,7 +19,7 @@ use Rattle.save_session.specs.declared.state.SessionOp.{SessionOp}
 use Rattle.save_session.specs.declared.state.SessionOp.TheVariants as op_of
 use Rattle.save_session.specs.declared.state.Turn.{Turn}
 use Rattle.wopi_world.specs.Requests.{Client, Wish, Start, Read, Save, Refresh, Close, input_of, answer_of, sent_with, Sent, Info, TakeLock, Get, Put, Relock, RefreshLock, Unlock}
-use Rattle.save_session.specs.Session.{ignores, sends, tells, ends, has_next, relocks, puts, saves, settles_then, is_new_phase, is_new, is_working_phase, is_free, unanswered_while, unanswered, refused, was_read, relocked, with_next, continues, names, says_spent, reply_to, answered_while, answered, stepped}
+use Rattle.save_session.specs.Session.{ignores, sends, tells, ends, has_next, relocks, puts, saves, settles_then, is_new_phase, is_new, is_working_phase, is_free, unanswered_while, unanswered, refused, was_read, continues_with, with_next, continues, names, says_spent, reply_to, answered_while, answered, stepped}
 use Rattle.save_session.specs.declared.input.Input.{Input}
 use Rattle.save_session.specs.declared.input.Input.TheVariants as input
 use Rattle.wopi_world.specs.World.{Told}
@@ -360,7 +360,7 @@ module _ (client : Client) (start shard : Shard) (history : List Item) (sent : S
         waits_for = wait;
       }
 
-  relocked_holds : (session : State) → Known session → session.phase ≡ Working → WasHeldIn client (session.number + 1) shard → (goal : Goal) (reply : Ruling) → Holds (relocked (with_next session) goal (answer_of reply))
+  relocked_holds : (session : State) → Known session → session.phase ≡ Working → WasHeldIn client (session.number + 1) shard → (goal : Goal) (reply : Ruling) → Holds (continues_with session goal (answer_of reply))
   relocked_holds session k working held ForStart reply = tt
   relocked_holds session k working held ForRead reply = tt
   relocked_holds session k working held ForSave reply =
@@ -371,7 +371,7 @@ module _ (client : Client) (start shard : Shard) (history : List Item) (sent : S
 
   continues_holds : (session : State) → Known session → session.phase ≡ Working → WasHeldIn client (session.number + 1) shard → (goal : Goal) (reply : Ruling) → Holds (continues session goal (answer_of reply))
   continues_holds session k working held goal reply =
-      cond_both (has_next session.number) (relocked (with_next session) goal (answer_of reply)) (ignores session (input.Reply (answer_of reply))) Holds
+      cond_both (has_next session.number) (continues_with session goal (answer_of reply)) (ignores session (input.Reply (answer_of reply))) Holds
       (λ e. relocked_holds session k working held goal reply) (λ e. tt)
 
   reply_holds : (session : State) → Known session → (goal : Goal) (op : SessionOp) (reply : Ruling) → WaitHolds session.phase session.number (sent_with session.body op) →

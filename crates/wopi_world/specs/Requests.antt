@@ -1,5 +1,5 @@
 -- What a session asks the host, and what it is answered, as values.
-use Rattle.std.specs.Prelude.{ℕ, ◌+◌, List, [], Option, None, Some, unwrap_or}
+use Rattle.std.specs.Prelude.{ℕ, List, [], Option, None, Some, unwrap_or}
 use Rattle.wopi_headers.specs.declared.answer.Answer.{Answer}
 use Rattle.wopi_headers.specs.declared.answer.BodyKind.{BodyKind}
 use Rattle.wopi_headers.specs.declared.answer.BodyKind.TheVariants as kind

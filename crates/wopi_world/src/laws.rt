@@ -1,6 +1,8 @@
 //! What holds of every world, as contracts of functions that do nothing.
 ghost use Rattle.std.specs.List.{slice_get};
 ghost use Rattle.std.specs.Prelude.{◌≡◌, ℕ, List, Some};
+ghost use Rattle.wopi_model.specs.Shard.{Item, Legal};
+ghost use Rattle.wopi_world.specs.Journals.{events_of, AreSameItems};
 ghost use Rattle.wopi_world.specs.Requests.{Client, Sent, call_of};
 ghost use Rattle.wopi_world.specs.World.{Setting, World, Event, IsSameHistory, comes, run};
 ghost use Rattle.wopi_world.specs.World as event;
@@ -19,4 +21,11 @@ pub fn deliver_is_entry()
     ensures { (setting : Setting) (world : World) (place moment s : ℕ) (sent : Sent) (client : Client) →
         slice_get world.requests place ≡ Some (record { sender = s; op = sent }) → slice_get setting.clients s ≡ Some client →
         IsSameHistory (comes setting world (event.Deliver place moment)) (comes setting world (event.Entry (call_of client sent) moment)) }
+{}
+
+/// A legal history of one shard is, but for stamps and the numbers of passes, that of the world
+/// whose events are its ticks and entries. So each shard's part of a journal is one of a world.
+pub fn entries_run()
+    ensures { (setting : Setting) (history : List Item) → Legal setting.opening setting.opened history →
+        AreSameItems history (run setting (events_of history)).history }
 {}

@@ -1,0 +1,26 @@
+-- A history of a running shard, as events of a world.
+use Rattle.std.specs.Prelude.{◌≡◌, ⊤, List, [], ◌∷◌, ◌==◌, if◌then◌else◌}
+use Rattle.wopi_model.specs.Shard.{Item, Tick, Step}
+use Rattle.wopi_model.specs.Shard as shard
+use Rattle.wopi_world.specs.World.{Event, Ticks, Entry, Fault}
+
+-- the call of an entry comes at its moment; where it was answered 500 the store failed
+abbrev pub entry_events : shard.Entry → List Event → List Event
+entry_events entry events =
+    if entry.ruling.status == 500 then Fault ∷ Entry entry.call entry.moment ∷ events else Entry entry.call entry.moment ∷ events
+
+abbrev pub events_of : List Item → List Event
+events_of [] = []
+events_of (Tick moment ∷ items) = Ticks moment ∷ events_of items
+events_of (Step entry ∷ items) = entry_events entry (events_of items)
+
+-- the same item, but for an entry's stamp and the number of its pass
+abbrev pub IsSameItem : Item → Item → Type 0
+IsSameItem (Tick moment) (Tick other) = moment ≡ other
+IsSameItem (Step entry) (Step other) = (entry.moment ≡ other.moment) × (entry.call ≡ other.call) × (entry.ruling ≡ other.ruling)
+IsSameItem _ _ = ⊥
+
+abbrev pub AreSameItems : List Item → List Item → Type 0
+AreSameItems [] [] = ⊤
+AreSameItems (item ∷ items) (other ∷ others) = IsSameItem item other × AreSameItems items others
+AreSameItems _ _ = ⊥
