@@ -12,10 +12,10 @@ use Rattle.save_session.specs.declared.state.SessionOp.{SessionOp}
 use Rattle.save_session.specs.declared.state.SessionOp.TheVariants as op
 use Rattle.save_session.specs.declared.state.Waiting.{Waiting}
 use Rattle.save_session.specs.declared.state.State.{State}
-use Rattle.save_session.specs.declared.state.Effect.TheVariants.{Sends, Tells, Ignores}
+use Rattle.save_session.specs.declared.state.Effect.TheVariants.{Sends, Ignores}
 use Rattle.save_session.specs.declared.state.Turn.{Turn}
 use Rattle.save_session.specs.LockIds.{lock_id}
-use Rattle.save_session.specs.Session.{ignores, sends, tells, ends, has_next, relocks, puts, saves, settles_then, is_new, is_free, unanswered_while, refused, was_read, with_next, continues_with, continues, names, says_spent, loses, reply_to, answered_while, stepped}
+use Rattle.save_session.specs.Session.{ignores, sends, tells, ends, has_next, relocks, puts, saves, settles_then, is_new, is_free, unanswered_while, refused, was_read, continues_with, continues, names, says_spent, loses, reply_to, answered_while, stepped}
 
 -- where the turn ignores something, that is the input, and the session stays
 abbrev pub Leaves : State → Input → Turn → Type 0
