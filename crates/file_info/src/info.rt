@@ -1,9 +1,14 @@
 //! What CheckFileInfo tells of a file.
-ghost use Rattle.std.specs.Prelude.{◌≡◌, IfOk};
+ghost use Rattle.std.specs.Prelude.{◌≡◌, ◌↔◌, IsTrue, Some, true, codes, IfOk, IfErr};
+ghost use Rattle.serde_json.specs.Data.{boolean};
+ghost use Rattle.serde_json.specs.Find.{get};
 ghost use Rattle.std.specs.Str.{IsUtf8};
 ghost use Rattle.serde_json.specs.View.{view};
-ghost use Rattle.file_info.specs.Info.{HasTexts, info_json, info_text};
+ghost use Rattle.file_info.specs.Info.{HasTexts, IsInfoOf, info_json, info_required, info_text};
+ghost use Rattle.file_info.specs.Json.{IsFaultOf};
 
+use crate::members::{json_of, text_member};
+use crate::{InfoFault, Required};
 use serde_json::{Value, json};
 use std::alloc::{AllocError, Global};
 use wopi_text::{Bytes, Memory};
@@ -30,10 +35,47 @@ pub struct Info {
 /// beside this one exactly where he may write this one.
 pub fn info_text(alloc: Global, info: &Info) -> Result<Bytes, Memory>
     requires { HasTexts info.now }
-    ensures { IfOk result (λ text. text ≡ info_text info.now) }
+    ensures text { IfOk result (λ text. text ≡ info_text info.now) }
+    ensures tells { IfOk result (λ text. IsInfoOf text info.now) }
 {
     let value = info_value(alloc, info)?;
     Ok(Bytes::from_vec(value.to_vec(alloc)?))
+}
+
+/// What the body of CheckFileInfo's answer tells of a file. Members that it does not need are
+/// ignored.
+pub fn info_read(alloc: Global, bytes: &[u8]) -> Result<Info, InfoFault>
+    ensures ok { IfOk result (IsInfoOf bytes.now) }
+    ensures err { IfErr result (IsFaultOf info_required bytes.now) }
+{
+    let value = json_of(alloc, bytes)?;
+    let name = text_member(alloc, &value, Required::BaseFileName)?;
+    let owner = text_member(alloc, &value, Required::OwnerId)?;
+    let Some(size) = value.get("Size").and_then(Value::as_u64) else {
+        return Err(InfoFault::Missing {
+            field: Required::Size,
+        });
+    };
+    let user = text_member(alloc, &value, Required::UserId)?;
+    let version = text_member(alloc, &value, Required::Version)?;
+    let can_write = may_write(&value);
+    Ok(Info {
+        name,
+        owner,
+        user,
+        version,
+        size,
+        can_write,
+    })
+}
+
+fn may_write(value: &Value) -> bool
+    ensures { IsTrue result ↔ (get (codes "UserCanWrite") (view value.now) ≡ Some (boolean true)) }
+{
+    matches!(
+        value.get("UserCanWrite").and_then(Value::as_bool),
+        Some(true)
+    )
 }
 
 fn info_value(alloc: Global, info: &Info) -> Result<Value, AllocError>

@@ -1,0 +1,11 @@
+use Rattle.std.proofs.Common.{sym, subst}
+use Rattle.serde_json.specs.View.{view}
+use Rattle.file_info.specs.Relative.{IsRelativeOf}
+use Rattle.file_info.proofs.Writing.{relative_tells}
+use Rattle.file_info.proofs.relative.relative_text.Goals as goal
+
+pub returns-clause-tells : goal.returns-clause-tells
+returns-clause-tells c =
+    let text = c.in_ok-to_vec.field-0.items in
+    let tells = relative_tells text c.args.name.now c.args.url.now (view c.in_ok-value.value) c.in_ok-value.ensures c.in_ok-to_vec.ensures.utf8 c.in_ok-to_vec.ensures.reads_back in
+    subst (λ t. IsRelativeOf t c.args.name.now c.args.url.now) (sym c.from_vec.ensures) tells
