@@ -1,5 +1,5 @@
 -- A body has one value at most, and a value tells one thing.
-use Rattle.std.proofs.Common.{◌≡◌, ◌↔◌, ℕ, List, Bool, true, false, true≢false, Option, Some, None, refl, sym, ◌∙◌, subst}
+use Rattle.std.proofs.Common.{◌≡◌, ◌↔◌, ℕ, List, Bool, true, false, Option, Some, None, refl, sym, ◌∙◌, subst}
 use Rattle.serde_json.specs.Data.{Data}
 use Rattle.file_info.specs.declared.fault.Required.{Required}
 use Rattle.file_info.specs.declared.fault.Required.TheVariants.{Name, Url}

@@ -1,8 +1,7 @@
 -- What is written tells what it was written of.
-use Rattle.std.proofs.Common.{◌≡◌, ◌≤◌, ◌↔◌, ℕ, List, Bool, true, codes, Some, refl, ap, subst, lit≤}
+use Rattle.std.proofs.Common.{◌≡◌, ◌≤◌, ◌↔◌, ℕ, List, Bool, true, Some, refl, ap, subst, lit≤}
 use Rattle.std.specs.Str.{IsUtf8}
 use Rattle.serde_json.specs.Data.{Data, boolean, depth}
-use Rattle.serde_json.specs.Find.{get}
 use Rattle.serde_json.specs.Read.{read, max_depth}
 use Rattle.file_info.specs.declared.info.Info.{Info}
 use Rattle.file_info.specs.Json.{IsJsonOf}

@@ -1,14 +1,19 @@
+ghost use Rattle.std.specs.Prelude.{IfOk};
+ghost use Rattle.file_info.specs.Info.{HasTexts};
+
 use crate::{Info, InfoFault, Required, info_read, info_text, relative_read, relative_text};
 use std::alloc::Global;
 use std::test::Fail;
 use wopi_text::{Bytes, Memory};
 
-fn ann_may_write(alloc: Global) -> Result<Info, Memory> {
+fn ann_may_write(alloc: Global) -> Result<Info, Memory>
+    ensures { IfOk result HasTexts }
+{
     Ok(Info {
-        name: Bytes::from_slice(alloc, b"a.csv")?,
-        owner: Bytes::from_slice(alloc, b"owner")?,
-        user: Bytes::from_slice(alloc, b"ann")?,
-        version: Bytes::from_slice(alloc, b"v1")?,
+        name: Bytes::from_slice(alloc, "a.csv".as_bytes())?,
+        owner: Bytes::from_slice(alloc, "owner".as_bytes())?,
+        user: Bytes::from_slice(alloc, "ann".as_bytes())?,
+        version: Bytes::from_slice(alloc, "v1".as_bytes())?,
         size: 4,
         can_write: true,
     })
