@@ -69,7 +69,7 @@ fn clocks(alloc: Global) -> Result<Vec<ScriptClock>, Memory>
     ensures { IfOk result (λ clocks. length clocks.items ≡ 1) }
 {
     let mut clocks = Vec::new(alloc);
-    clocks.push(ScriptClock::new(0, Vec::new(alloc)))?;
+    clocks.push(ScriptClock::new(0, [0, 1, 2, 3, 4].to_vec(alloc)?))?;
     Ok(clocks)
 }
 

@@ -1,4 +1,4 @@
-use crate::tests::{Given, ONCE, lock_request, once, request, run_with};
+use crate::tests::{Given, ONCE, TOKEN, lock_request, once, request, run_with};
 use std::alloc::Global;
 use std::test::Fail;
 use wopi_text::Memory;
@@ -63,18 +63,47 @@ fn contents_of_more_bytes_than_expected_are_not_sent(rt: HostRuntime) -> Result<
     Ok(())
 }
 
+/// Unlocks with this id.
+fn unlock(alloc: Global, id: &str) -> Result<Vec<u8>, Memory> {
+    let headers = format!(in alloc; "X-WOPI-Override: UNLOCK\r\nX-WOPI-Lock: {id}\r\n")?;
+    request(alloc, "POST", "", headers.as_str(), "")
+}
+
 #[test]
-fn a_relock_spends_the_old_id(rt: HostRuntime) -> Result<(), Fail> {
+fn both_ids_of_an_unlock_and_relock_are_spent_once_they_ended(rt: HostRuntime) -> Result<(), Fail> {
     let alloc = rt.alloc();
     let mut input = lock_request(alloc, "L1")?;
     let relock = "X-WOPI-Override: LOCK\r\nX-WOPI-Lock: L2\r\nX-WOPI-OldLock: L1\r\n";
     input.extend_from_slice(&request(alloc, "POST", "", relock, "")?)?;
-    let unlock = "X-WOPI-Override: UNLOCK\r\nX-WOPI-Lock: L1\r\n";
-    input.extend_from_slice(&request(alloc, "POST", "", unlock, "")?)?;
+    input.extend_from_slice(&unlock(alloc, "L1")?)?;
+    input.extend_from_slice(&unlock(alloc, "L2")?)?;
+    input.extend_from_slice(&lock_request(alloc, "L2")?)?;
     let left = once(&rt, alloc, &input)?;
-    let spent =
-        "HTTP/1.1 409 Conflict\r\nContent-Length: 0\r\nX-WOPI-Lock: L2\r\nX-WOPI-LockFailureReason: lock id spent\r\n\r\n";
-    assert!(rt; left.output.as_slice().ends_with(spent.as_bytes()));
+    let wanted =
+        "HTTP/1.1 200 OK\r\nContent-Length: 0\r\nX-WOPI-ItemVersion: v1\r\n\r\nHTTP/1.1 200 OK\r\nContent-Length: 0\r\nX-WOPI-ItemVersion: v1\r\n\r\nHTTP/1.1 409 Conflict\r\nContent-Length: 0\r\nX-WOPI-Lock: L2\r\nX-WOPI-LockFailureReason: lock id spent\r\n\r\nHTTP/1.1 200 OK\r\nContent-Length: 0\r\nX-WOPI-ItemVersion: v1\r\n\r\nHTTP/1.1 409 Conflict\r\nContent-Length: 0\r\nX-WOPI-Lock: \r\nX-WOPI-LockFailureReason: lock id spent\r\n\r\n";
+    assert_eq!(rt; left.output.as_slice(), wanted.as_bytes());
+    Ok(())
+}
+
+/// The head of a save of so many bytes under the lock L1.
+fn head(alloc: Global, bytes: usize) -> Result<Vec<u8>, Memory> {
+    let text = format!(in alloc;
+        "POST /wopi/files/612e637376/contents?access_token={TOKEN} HTTP/1.1\r\nHost: h\r\n{PUT}Content-Length: {bytes}\r\n\r\n"
+    )?;
+    Ok(text.into_bytes())
+}
+
+#[test]
+fn a_save_has_up_to_sixteen_mebibytes(rt: HostRuntime) -> Result<(), Fail> {
+    let alloc = rt.alloc();
+    let mut input = lock_request(alloc, "L1")?;
+    input.extend_from_slice(&head(alloc, 16_777_216)?)?;
+    input.extend_from_slice(&vec![in alloc; b'x'; 16_777_216]?)?;
+    input.extend_from_slice(&head(alloc, 16_777_217)?)?;
+    let left = once(&rt, alloc, &input)?;
+    let wanted =
+        "HTTP/1.1 200 OK\r\nContent-Length: 0\r\nX-WOPI-ItemVersion: v1\r\n\r\nHTTP/1.1 200 OK\r\nContent-Length: 0\r\nX-WOPI-ItemVersion: v2\r\n\r\nHTTP/1.1 413 Content Too Large\r\nContent-Length: 0\r\nConnection: close\r\n\r\n";
+    assert_eq!(rt; left.output.as_slice(), wanted.as_bytes());
     Ok(())
 }
 
