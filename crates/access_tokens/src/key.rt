@@ -47,6 +47,7 @@ impl Key {
         Some(Key { bytes: inline })
     }
 
+    /// The bytes of the key.
     pub fn as_slice(&self) -> &[u8]
         ensures value { result.now ≡ self.now }
         ensures form { IsKey self.now }

@@ -5,6 +5,7 @@ use Rattle.std.proofs.lemmas.List.{take_more, take_all}
 use Rattle.std.proofs.lemmas.List.Folds.{list_any-append}
 use Rattle.std.proofs.Math.Seq.{drop-cons, set-append_seam, get_or-append_seam, take-append_seam, drop-append-add}
 use Rattle.std.specs.List.{list_any, remove}
+use Rattle.wopi_text.proofs.Tests.{or_none}
 use Rattle.file_versions.specs.Places.{first_of, IsFirst}
 
 -- the second where the first is none
@@ -21,14 +22,10 @@ first_of-append test [] ys = refl
 first_of-append test (x ∷ xs) ys =
     ap (λ rest. if test x then Some x else rest) (first_of-append test xs ys) ∙ sym (either_if (test x) x (first_of test xs) (first_of test ys))
 
-none_step : (b c : Bool) → (b || c) ≡ false → (b ≡ false) × (c ≡ false)
-none_step true c e = cc
-none_step false c e = (refl, e)
-
 pub first_of-none : {A : Type 0} (test : A → Bool) (xs : List A) → list_any test xs ≡ false → first_of test xs ≡ None
 first_of-none test [] e = refl
 first_of-none test (x ∷ xs) e =
-    let parts = none_step (test x) (list_any test xs) e in
+    let parts = or_none (test x) (list_any test xs) e in
     ap (λ b. if b then Some x else first_of test xs) parts.0 ∙ first_of-none test xs parts.1
 
 -- the one that stands at the place

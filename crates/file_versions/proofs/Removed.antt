@@ -2,12 +2,13 @@
 use Rattle.std.proofs.Common.{◌≡◌, ℕ, ◌+◌, Bool, true, false, if◌then◌else◌, List, [], ◌∷◌, ◌++◌, length, option_map, Option, None, Some, refl, sym, ap, ◌∙◌, arith, get_or, ◌||◌}
 use Rattle.std.specs.List.{list_any, remove}
 use Rattle.std.proofs.lemmas.List.Sums.{sum_by-cons}
+use Rattle.wopi_text.proofs.Tests.{or_none}
 use Rattle.file_versions.specs.declared.Version.{Version}
 use Rattle.file_versions.specs.Versions.{kept_in, is_of, found, removed}
 use Rattle.file_versions.specs.Places.{first_of, IsFirst}
 use Rattle.file_versions.proofs.Places.{first_is, remove_split}
 
-none_step : (b : Bool) (one : Version) (rest : Option Version) → option_map (λ (one : Version). one.contents) (if b then Some one else rest) ≡ None → (b ≡ false) × (option_map (λ (one : Version). one.contents) rest ≡ None)
+pub none_step : (b : Bool) (one : Version) (rest : Option Version) → option_map (λ (one : Version). one.contents) (if b then Some one else rest) ≡ None → (b ≡ false) × (option_map (λ (one : Version). one.contents) rest ≡ None)
 none_step true one rest e = cc
 none_step false one rest e = (refl, e)
 
@@ -17,17 +18,11 @@ removed-none (one ∷ versions) number version e =
     let parts = none_step (is_of number version one) one (first_of (is_of number version) versions) e in
     ap (λ b. if b then versions else one ∷ removed versions number version) parts.0 ∙ ap (λ rest. one ∷ rest) (removed-none versions number version parts.1)
 
-or_step : (test : Version → Bool) (one : Version) (versions : List Version) → list_any test (one ∷ versions) ≡ false → (test one ≡ false) × (list_any test versions ≡ false)
-or_step test one versions e = go (test one) (list_any test versions) e where
-  go : (b c : Bool) → (b || c) ≡ false → (b ≡ false) × (c ≡ false)
-  go true c e = cc
-  go false c e = (refl, e)
-
 removed_at : (before : List Version) (one : Version) (after : List Version) (number version : ℕ) → list_any (is_of number version) before ≡ false → is_of number version one ≡ true
     → removed (before ++ one ∷ after) number version ≡ before ++ after
 removed_at [] one after number version none here = ap (λ b. if b then after else one ∷ removed after number version) here
 removed_at (first ∷ before) one after number version none here =
-    let parts = or_step (is_of number version) first before none in
+    let parts = or_none (is_of number version first) (list_any (is_of number version) before) none in
     ap (λ b. if b then before ++ one ∷ after else first ∷ removed (before ++ one ∷ after) number version) parts.0
     ∙ ap (λ rest. first ∷ rest) (removed_at before one after number version parts.1 here)
 

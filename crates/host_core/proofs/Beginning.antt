@@ -1,5 +1,6 @@
 -- A shard as it begins.
 use Rattle.std.proofs.Common.{◌≡◌, ℕ, suc, Bool, true, false, if◌then◌else◌, List, [], ◌∷◌, length, map, Option, None, Some, refl, sym, ap, ◌∙◌}
+use Rattle.std.proofs.lemmas.List.{length-map}
 use Rattle.std.specs.Str.{bytes_eq}
 use Rattle.outside.specs.Folder.{Files}
 use Rattle.outside.specs.Folder as folder
@@ -33,10 +34,6 @@ agrees_start only (Some start) (Some now) opening kept is keeps same = (
   λ name foreign. keeps name,
 )
 
-map_long : (opening : Opening) → length (map (λ (file : List ℕ × List ℕ). file.0) opening) ≡ length opening
-map_long [] = refl
-map_long (file ∷ opening) = ap suc (map_long opening)
-
 pub first_long : (stock : Stock) → IsStock stock → length stock.files.items ≡ length (opening_of stock.opening.items)
 first_long stock is =
-    sym (names_long stock.files.items) ∙ ap (λ (n : List (List ℕ)). length n) is.names ∙ map_long (opening_of stock.opening.items)
+    sym (names_long stock.files.items) ∙ ap (λ (n : List (List ℕ)). length n) is.names ∙ length-map (opening_of stock.opening.items) (λ (file : List ℕ × List ℕ). file.0)

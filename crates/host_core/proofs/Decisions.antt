@@ -51,35 +51,6 @@ refused_status file call opened now =
     (is_unauthorized call opened now) (is_missing file call.act) (lacks_right call) (is_too_large file call.act)
     (verdict file.lock (presents_spent file.spent call.act) (lock_act file call.act))
 
-verdict_accepted : (lock : Option Lock) (spent : Bool) (asked : LockAct) → verdict lock spent asked ≡ says.Accept → verdict lock false asked ≡ says.Accept
-verdict_accepted lock true asked e = cc
-verdict_accepted lock false asked e = e
-
-accepted_row : (a b c e : Bool) (v : Verdict)
-    → (if a then Refuse 401 else if b then Refuse 404 else if c then Refuse 404 else elim v [ says.Refuse reason ↦ Conflict reason | says.Accept ↦ if e then Refuse 412 else Accept ]) ≡ Accept
-    → v ≡ says.Accept
-accepted_row true b c e v h = cc
-accepted_row false true c e v h = cc
-accepted_row false false true e v h = cc
-accepted_row false false false e (says.Refuse reason) h = cc
-accepted_row false false false e says.Accept h = refl
-
-settled_act : (file : File) (now : ℕ) (asked : Act) → lock_act (settled file now) asked ≡ lock_act file asked
-settled_act file now (act.Put lock contents) = refl
-settled_act file now (act.Create overwrite contents) = refl
-settled_act file now _ = refl
-
--- where a call is accepted, the lock table lets it through
-pub accepted_verdict : (file : File) (call : Call) (opened now : ℕ) → decision (settled file now) call opened now ≡ Accept
-    → verdict (standing file.lock now) false (lock_act file call.act) ≡ says.Accept
-accepted_verdict file call opened now e =
-    let at = settled file now in
-    let through = verdict_accepted at.lock (presents_spent at.spent call.act) (lock_act at call.act) (
-    accepted_row (is_unauthorized call opened now) (is_missing at call.act) (lacks_right call) (is_too_large at call.act)
-    (verdict at.lock (presents_spent at.spent call.act) (lock_act at call.act)) e
-    ) in
-    ap (λ (asked : LockAct). verdict (standing file.lock now) false asked) (sym (settled_act file now call.act)) ∙ through
-
 -- a call that is refused settles the file
 pub refuses-steps : (before after : KeptFile) (call : Call) (opened now : ℕ) (ruling : Ruling) (d : Decision) → d ≡ decision (settled (kept.file_of before) now) call opened now → d ≢ Accept
     → ruling ≡ ruling_of d (settled (kept.file_of before) now) call now → kept.file_of after ≡ settled (kept.file_of before) now → after.torn ≡ before.torn → after.name ≡ before.name
@@ -115,18 +86,6 @@ carries-steps before after call opened now ruling e carried =
       torn = carried.torn;
       name = carried.name;
     }
-
--- an acceptance has the status 200
-pub acceptance_status : (asked : Act) (file : File) → (acceptance asked file).status ≡ 200
-acceptance_status act.Info file = refl
-acceptance_status (act.Get most) file = refl
-acceptance_status (act.Put lock contents) file = refl
-acceptance_status (act.Lock id) file = refl
-acceptance_status act.GetLock file = refl
-acceptance_status (act.Unlock id) file = refl
-acceptance_status (act.Relock old id) file = refl
-acceptance_status (act.Create overwrite contents) file = refl
-acceptance_status _ file = refl
 
 -- where no store call is told of, the folder stays
 pub stays-stores : (files : Option Files) (call : Call) (ruling : Ruling) → is_store_call call.act ruling ≡ false → StoresAs files files call ruling

@@ -58,7 +58,7 @@ set_steps files call place k k' opened now ruling first e steps =
           (steps.torn ∙ ap (λ (b : Bool). torn_after b call.act ruling) (sym tear));
     }
 
-same_if : {A : Type 0} (b : Bool) (x y : A) → (b ≡ true → x ≡ y) → (if b then x else y) ≡ y
+pub same_if : {A : Type 0} (b : Bool) (x y : A) → (b ≡ true → x ≡ y) → (if b then x else y) ≡ y
 same_if true x y e = e refl
 same_if false x y e = refl
 
@@ -72,23 +72,6 @@ set_shows files name place k k' first e same = let named = same.name in let file
   torn = λ other. set_reads (λ (f : KeptFile). f.torn) false files name place k k' first e named other
       ∙ same_if (bytes_eq name other) k'.torn (torn_in files other) (λ h.
       torn ∙ sym (file_at (λ (f : KeptFile). f.torn) false files name place k first e) ∙ ap (torn_in files) ((bytes_eq-Decides name other).0 h));
-}
-
--- a name that is met shows nothing new
-push_reads : {A : Type 0} (read : KeptFile → A) (none : A) (files : List KeptFile) (k : KeptFile) → read k ≡ none → (other : List ℕ)
-    → unwrap_or (option_map read (first_of (is_named other) (files ++ k ∷ []))) none ≡ unwrap_or (option_map read (first_of (is_named other) files)) none
-push_reads read none files k e other =
-    ap (λ (o : Option KeptFile). unwrap_or (option_map read o) none) (first_of-append (is_named other) files (k ∷ []))
-    ∙ go (first_of (is_named other) files) (is_named other k) where
-      go : (o : Option KeptFile) (b : Bool) → unwrap_or (option_map read (either o (if b then Some k else None))) none ≡ unwrap_or (option_map read o) none
-      go (Some x) b = refl
-      go None true = e
-      go None false = refl
-
-pub push_shows : (files : List KeptFile) (k : KeptFile) → file_of k ≡ never_met → k.torn ≡ false → ShowsSame files (files ++ k ∷ [])
-push_shows files k file torn = record {
-  files = push_reads file_of never_met files k file;
-  torn = push_reads (λ (f : KeptFile). f.torn) false files k torn;
 }
 
 -- a step of a file that shows the same

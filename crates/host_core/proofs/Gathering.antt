@@ -12,6 +12,7 @@ use Rattle.std.specs.Ordering.{on, nat_cmp, is_eq, is_gt}
 use Rattle.std.specs.declared.cmp.Ordering.{Ordering}
 use Rattle.std.specs.declared.cmp.Ordering.TheVariants.{Less, Equal, Greater}
 use Rattle.std.specs.Cmp.Lexicographic.{slice_cmp}
+use Rattle.wopi_text.proofs.Tests.{or_some, or_second}
 use Rattle.outside.specs.Folder.{Files, Lists, Keeps}
 use Rattle.wopi_model.specs.Shard.{Opening}
 use Rattle.wopi_model.specs.Host.{most_kept}
@@ -34,16 +35,6 @@ insert_has only old new k name text e same taken h = go (is_eq (cmp k name)) ref
       inr (sym here ∙ same, subst (IsTaken only) here taken)
   go false at more = inl more
 
-pub insert_adds : (old new : BTreeSet ByBytes) (k text : List ℕ) → has new text ≡ cond (is_eq (cmp k text)) true (has old text) → k ≡ text → has new text ≡ true
-insert_adds old new k text e same =
-    e ∙ ap (λ (b : Bool). cond b true (has old text)) (is_eq-slice_cmp k text ∙ (bytes_eq-Decides k text).1 same)
-
-pub insert_stays : (old new : BTreeSet ByBytes) (k name : List ℕ) → has new name ≡ cond (is_eq (cmp k name)) true (has old name) → has old name ≡ true → has new name ≡ true
-insert_stays old new k name e h = e ∙ ap (λ (b : Bool). cond (is_eq (cmp k name)) true b) h ∙ same (is_eq (cmp k name)) where
-  same : (b : Bool) → cond b true true ≡ true
-  same true = refl
-  same false = refl
-
 -- the names that are taken of those that were looked at
 pub record TakenSoFar (only : Option ℕ) (listed : List (List ℕ)) (names : BTreeSet ByBytes) : Type 0 where
   pub taken : (name : List ℕ) → has names name ≡ true → IsTaken only name × (is_listed listed name ≡ true)
@@ -52,14 +43,6 @@ pub record TakenSoFar (only : Option ℕ) (listed : List (List ℕ)) (names : BT
 or_left : (b c : Bool) → b ≡ true → (b || c) ≡ true
 or_left true c e = refl
 or_left false c e = cc
-
-or_right : (b c : Bool) → c ≡ true → (b || c) ≡ true
-or_right true c e = refl
-or_right false c e = e
-
-or_cases : (b c : Bool) → (b || c) ≡ true → (b ≡ true) ⊎ (c ≡ true)
-or_cases true c e = inl refl
-or_cases false c e = inr e
 
 listed_more : (listed : List (List ℕ)) (text name : List ℕ) → is_listed (listed ++ text ∷ []) name ≡ (is_listed listed name || bytes_eq text name)
 listed_more [] text name = go (bytes_eq text name) where
@@ -77,7 +60,7 @@ pub taken_more : (only : Option ℕ) (listed : List (List ℕ)) (text : List ℕ
     → TakenSoFar only (listed ++ text ∷ []) new
 taken_more only listed text old new so taken added stays = record {
   taken = λ name h. from name (taken name h);
-  all = λ name own h. elim (or_cases (is_listed listed name) (bytes_eq text name) (sym (listed_more listed text name) ∙ h)) [
+  all = λ name own h. elim (or_some (is_listed listed name) (bytes_eq text name) (sym (listed_more listed text name) ∙ h)) [
     | inl before ↦ stays name (so.all name own before)
     | inr here ↦ at name own ((bytes_eq-Decides text name).0 here)
   ];
@@ -85,16 +68,10 @@ taken_more only listed text old new so taken added stays = record {
   where
     from : (name : List ℕ) → (has old name ≡ true) ⊎ ((name ≡ text) × IsTaken only name) → IsTaken only name × (is_listed (listed ++ text ∷ []) name ≡ true)
     from name (inl h) = let before = so.taken name h in (before.0, listed_more listed text name ∙ or_left (is_listed listed name) (bytes_eq text name) before.1)
-    from name (inr (same, own)) = (own, listed_more listed text name ∙ or_right (is_listed listed name) (bytes_eq text name) ((bytes_eq-Decides text name).1 (sym same)))
+    from name (inr (same, own)) = (own, listed_more listed text name ∙ or_second (is_listed listed name) (bytes_eq text name) ((bytes_eq-Decides text name).1 (sym same)))
 
     at : (name : List ℕ) → IsTaken only name → text ≡ name → has new name ≡ true
     at name own same = subst (λ (n : List ℕ). has new n ≡ true) same (added (subst (IsTaken only) (sym same) own))
-
--- what the order says of names
-not_less_self : (x : List ℕ) → cmp x x ≡ Less → ⊥
-not_less_self x e = differ (sym (ap is_eq e) ∙ is_eq-slice_cmp x x ∙ (bytes_eq-Decides x x).1 refl) where
-  differ : false ≡ true → ⊥
-  differ h = cc
 
 less_differs : (x y : List ℕ) → cmp x y ≡ Less → bytes_eq x y ≡ false
 less_differs x y e = sym (is_eq-slice_cmp x y) ∙ ap is_eq e
@@ -239,13 +216,6 @@ gathers_large only files left left' opening k kept out g is passes = record {
     limit (Some files) (contents, at, inl long) = (contents, at, inl long)
     limit (Some files) (contents, at, inr more) = (contents, at, inr (subst (λ (n : ℕ). most_kept < n + length contents) is more))
 
--- no name is left
-pub gathers_done : (only : Option ℕ) (files : Option Files) (opening : Opening) → Gathers only files (λ name. false) opening → IsOpening only files opening
-gathers_done only files opening g = record { ordered = g.ordered; taken = g.taken; whole = whole files g.whole } where
-  whole : (files : Option Files) → HasAll files (λ name. IsTaken only name × (false ≡ false)) opening → HasAll files (IsTaken only) opening
-  whole None all = tt
-  whole (Some files) all = λ name taken. all name (taken, refl)
-
 pub gathers_end : (only : Option ℕ) (files : Option Files) (left : List ℕ → Bool) (opening : Opening) → ((name : List ℕ) → left name ≡ false) → Gathers only files left opening → Gathers only files (λ name. false) opening
 gathers_end only files left opening none g = record {
   ordered = g.ordered;
@@ -308,10 +278,6 @@ keeps_both (Some a) None c h k = absurd h
 keeps_both (Some a) (Some b) None h k = absurd k
 keeps_both (Some a) (Some b) (Some c) h k = λ name. k name ∙ h name
 
-pub keeps_same : (a : Option Files) → Keeps a a
-keeps_same None = tt
-keeps_same (Some a) = λ name. refl
-
 -- a set whose least name was taken out
 pub takes_out : (old new : BTreeSet ByBytes) (k : ByBytes) → IsTrue (has old k.name)
     → ((q : ByBytes) → contains (on name_of (slice_cmp nat_cmp)) new q ≡ cond (is_eq (cmp k.name q.name)) false (contains (on name_of (slice_cmp nat_cmp)) old q))
@@ -323,12 +289,6 @@ takes_out old new k here updates least = record {
   others = λ name at. updates (record { name = name }) ∙ ap (λ (b : Bool). cond b false (has old name)) (is_eq-slice_cmp k.name name ∙ at);
   least = λ name h. least (record { name = name }) h;
 }
-
--- where the folder has stayed the same
-has_from : (a b : Option Files) (P : List ℕ → Type 0) (opening : Opening) → Keeps a b → HasAll b P opening → HasAll a P opening
-has_from None b P opening keeps all = tt
-has_from (Some a) None P opening keeps all = absurd keeps
-has_from (Some a) (Some b) P opening keeps all = λ name p. all name p ∙ keeps name
 
 has_to : (a b : Option Files) (P : List ℕ → Type 0) (opening : Opening) → Keeps a b → HasAll a P opening → HasAll b P opening
 has_to None None P opening keeps all = tt
@@ -344,24 +304,4 @@ gathers_to only a b left opening keeps g = record {
   whole = has_to a b _ opening keeps g.whole;
   rest = g.rest;
   fits = g.fits;
-}
-
-pub opening_from : (only : Option ℕ) (a b : Option Files) (opening : Opening) → Keeps a b → Gathers only b (λ name. false) opening → IsOpening only a opening
-opening_from only a b opening keeps g =
-    let is = gathers_done only b opening g in record { ordered = is.ordered; taken = is.taken; whole = has_from a b _ opening keeps is.whole }
-
-limit_from : (a b : Option Files) (opening : Opening) (name : List ℕ) → Keeps a b → PassesLimit b opening name → PassesLimit a opening name
-limit_from None b opening name keeps passes = tt
-limit_from (Some a) None opening name keeps passes = absurd keeps
-limit_from (Some a) (Some b) opening name keeps (contents, at, over) = (contents, sym (keeps name) ∙ at, over)
-
-pub too_large_from : (only : Option ℕ) (a b : Option Files) (name : List ℕ) → Keeps a b → IsTooLarge only b name → IsTooLarge only a name
-too_large_from only a b name keeps large = record {
-  before = large.before;
-  taken = large.taken;
-  ordered = large.ordered;
-  whole = has_from a b _ large.before keeps large.whole;
-  smaller = large.smaller;
-  fits = large.fits;
-  passes = limit_from a b large.before name keeps large.passes;
 }

@@ -1,5 +1,6 @@
 -- What a shard leaves, by place.
 use Rattle.std.proofs.Common.{◌≡◌, ℕ, suc, zero, ◌+◌, ◌<◌, ◌≤◌, ◌==◌, Bool, true, false, if◌then◌else◌, List, [], ◌∷◌, length, get_or, Option, None, Some, option_map, unwrap_or, refl, sym, ap, subst, ◌∙◌, arith, slice_get}
+use Rattle.std.proofs.lemmas.List.{length-map}
 use Rattle.std.proofs.lemmas.Bool.Decides.{nat_tests}
 use Rattle.std.specs.Str.{bytes_eq}
 use Rattle.wopi_model.specs.Shard.{Opening}
@@ -19,8 +20,7 @@ opened_long n (file ∷ opening) [] versions opened = absurd opened
 opened_long n (file ∷ opening) (name ∷ names) versions opened = let more = opened_long (n + 1) opening names versions opened.2 in omega (arith, more)
 
 pub names_long : (files : List KeptFile) → length (names_of files) ≡ length files
-names_long [] = refl
-names_long (k ∷ files) = ap suc (names_long files)
+names_long files = length-map files (λ (k : KeptFile). k.name)
 
 abbrev value : Option (List ℕ) → List ℕ
 value o = unwrap_or o []
@@ -54,9 +54,6 @@ opened_some n (file ∷ opening) (name ∷ names) versions zero opened lt is =
 opened_some n (file ∷ opening) (name ∷ names) versions (suc place) opened lt is =
     let here : n + suc place ≡ n + 1 + place = omega arith in
     opened_some (n + 1) opening names versions place opened.2 (omega (arith, lt)) (is ∙ ap (λ (m : ℕ). found versions m 1) here)
-
-is_200 : (status : ℕ) → status == 200 ≡ true → status ≡ 200
-is_200 status h = grind (arith, nat_tests)
 
 some_is : {A : Type 0} (a b : A) → Some a ≡ Some b → a ≡ b
 some_is a b e = ap (λ (o : Option _). unwrap_or o a) e

@@ -60,21 +60,6 @@ carried_moves files files' versions versions' began count number before after ca
   fault = carries.fault;
 }
 
-same_file : (before after : KeptFile) → after ≡ before → IsSameFile before after
-same_file before after e = record { file = ap file_of e; torn = ap (λ (k : KeptFile). k.torn) e; name = ap (λ (k : KeptFile). k.name) e }
-
-pub left_stops : (files files' : Option Files) (versions versions' : List Version) (before after : KeptFile) (call : Call) (opened now : ℕ) (uncarried : Uncarried)
-    → Accept ≡ decision (settled (file_of before) now) call opened now
-    → Leaves files files' versions versions' before after call uncarried
-    → Stops files files' versions versions' before after call opened now uncarried
-left_stops files files' versions versions' before after call opened now uncarried e leaves = record {
-  file = same_file before after leaves.file;
-  stay = leaves.stay;
-  folder = leaves.folder;
-  handed = leaves.handed;
-  full = λ h. let full = leaves.full h in (sym e, full.0, full.1);
-}
-
 -- the file had more room
 pub moves_from : (files files' : Option Files) (versions versions' : List Version) (began count number : ℕ) (before same after : KeptFile) (call : Call) (opened now : ℕ) (carried : Carried)
     → IsSameFile before same → same.version ≡ before.version
@@ -90,16 +75,4 @@ moves_from files files' versions versions' began count number before same after 
   version = λ h brings. moves.version h brings ∙ ap (λ (v : ℕ). Some (v + 1)) version;
   room = subst (λ (f : File). IsRoomFor f (kept_in versions) call opened now) shows.file moves.room;
   fault = moves.fault;
-}
-
-pub stops_from : (files files' : Option Files) (versions versions' : List Version) (before same after : KeptFile) (call : Call) (opened now : ℕ) (uncarried : Uncarried)
-    → IsSameFile before same
-    → Stops files files' versions versions' same after call opened now uncarried
-    → Stops files files' versions versions' before after call opened now uncarried
-stops_from files files' versions versions' before same after call opened now uncarried shows stops = record {
-  file = record { file = stops.file.file ∙ shows.file; torn = stops.file.torn ∙ shows.torn; name = stops.file.name ∙ shows.name };
-  stay = stops.stay;
-  folder = stops.folder;
-  handed = stops.handed;
-  full = λ h. subst (λ (f : File). IsNoRoomFor f (kept_in versions) call opened now) shows.file (stops.full h);
 }

@@ -13,6 +13,7 @@ use Rattle.std.specs.List.Sorted.{IsStrictlySortedBy}
 use Rattle.std.specs.declared.cmp.Ordering.TheVariants.{Less}
 use Rattle.std.proofs.lemmas.Bool.Decides.{nat_tests}
 use Rattle.std.specs.Cmp.Lexicographic.{slice_cmp}
+use Rattle.wopi_text.proofs.Tests.{or_some, or_second}
 use Rattle.wopi_model.specs.File.{never_met}
 use Rattle.file_versions.specs.Places.{first_of}
 use Rattle.host_core.specs.declared.by_bytes.ByBytes.{ByBytes}
@@ -34,19 +35,6 @@ noted old new k file name b version e same is =
 abbrev pub Noted : List KeptFile → BTreeSet ByBytes → Type 0
 Noted files names = (name : List ℕ) → has names name ≡ nat_lt 0 (files_of files name).version
 
-pub noted_more : (files : List KeptFile) (place : ℕ) (k : KeptFile) (old new : BTreeSet ByBytes) → place < length files → k ≡ get_or files place k → Noted (drop (suc place) files) old
-    → ((name : List ℕ) → has new name ≡ (if bytes_eq k.name name then nat_lt 0 k.version else has old name)) → Noted (drop place files) new
-noted_more files place k old new lt at so more = λ name.
-    more name ∙ ap (λ (b : Bool). if bytes_eq k.name name then nat_lt 0 k.version else b) (so name)
-    ∙ sym (ap (λ (f : List KeptFile). nat_lt 0 (files_of f name).version) (drop-cons files place k lt ∙ ap (λ (x : KeptFile). x ∷ drop (suc place) files) (sym at)) ∙ go name (bytes_eq k.name name)) where
-      rest : List KeptFile
-      rest = drop (suc place) files
-
-      go : (name : List ℕ) (b : Bool) → nat_lt 0 (unwrap_or (option_map kept.file_of (if b then Some k else first_of (is_named name) rest)) never_met).version
-          ≡ (if b then nat_lt 0 k.version else nat_lt 0 (files_of rest name).version)
-      go name true = refl
-      go name false = refl
-
 pub sorted_names : (keys : List ByBytes) → IsStrictlySortedBy (on name_of (slice_cmp nat_cmp)) keys → IsStrictlySortedBy (slice_cmp nat_cmp) (map name_of keys)
 unfolding IsStrictlySortedBy
 sorted_names [] sorted = tt
@@ -58,16 +46,12 @@ sorted_names (k ∷ keys) sorted = (below keys sorted.0, sorted_names keys sorte
 abbrev test : List ℕ → ByBytes → Bool
 test name = is_at (on name_of (slice_cmp nat_cmp) (record { name = name }))
 
-or_true : (b c : Bool) → (b || c) ≡ true → (b ≡ true) ⊎ (c ≡ true)
-or_true true c e = inl refl
-or_true false c e = inr e
-
 same_name : (name : List ℕ) (k : ByBytes) → test name k ≡ true → k.name ≡ name
 same_name name k h = sym ((bytes_eq-Decides name k.name).0 (sym (is_eq-slice_cmp name k.name) ∙ h))
 
 pub any_contains : (keys : List ByBytes) (name : List ℕ) → list_any (test name) keys ≡ true → Contains (map name_of keys) name
 any_contains [] name h = cc
-any_contains (k ∷ keys) name h = elim (or_true (test name k) (list_any (test name) keys) h) [
+any_contains (k ∷ keys) name h = elim (or_some (test name k) (list_any (test name) keys) h) [
   | inl here ↦ (0, omega arith, same_name name k here)
   | inr there ↦ let (i, lt, e) = any_contains keys name there in (suc i, omega (arith, lt), e)
 ]
@@ -79,10 +63,7 @@ contains_any [] name (i, lt, e) = absurd (below i lt) where
 contains_any (k ∷ keys) name (zero, lt, e) =
     ap (λ (b : Bool). b || list_any (test name) keys) (is_eq-slice_cmp name k.name ∙ (bytes_eq-Decides name k.name).1 (sym e))
 contains_any (k ∷ keys) name (suc i, lt, e) =
-    either (test name k) (list_any (test name) keys) (contains_any keys name (i, omega (arith, lt), e)) where
-      either : (b c : Bool) → c ≡ true → (b || c) ≡ true
-      either true c e = refl
-      either false c e = e
+    or_second (test name k) (list_any (test name) keys) (contains_any keys name (i, omega (arith, lt), e))
 
 is_above : (version : ℕ) → nat_lt 0 version ≡ true → 0 < version
 is_above version h = grind (arith, nat_tests)

@@ -28,9 +28,6 @@ pub record Reading (only : Option ℕ) (start now : Option Files) (began count :
   pub same : Keeps start now
   pub falls : began ≤ count
 
-pub room_left : (only : Option ℕ) (start now : Option Files) (began count : ℕ) (left : List ℕ → Bool) (stock : Stock) → Reading only start now began count left stock → kept_in stock.versions ≤ most_kept
-room_left only start now began count left stock reading = let kept = reading.stock_is.kept in let total = reading.gathers.fits.total in omega (arith, kept, total)
-
 -- a name without a file
 pub reads_none : (only : Option ℕ) (start now now' : Option Files) (began count count' : ℕ) (left left' : List ℕ → Bool) (stock : Stock) (name : List ℕ) (kept : ℕ) → Reading only start now began count left stock
     → TakesOut left left' name → Keeps now now' → count ≤ count' → Gives now name kept None → Reading only start now' began count' left' stock
@@ -76,9 +73,6 @@ pub reads_end : (only : Option ℕ) (start now : Option Files) (began count : �
     → Gathers only start (λ name. false) (opening_of stock.opening.items)
 reads_end only start now began count names stock reading none =
     gathers_end only start (has names) (opening_of stock.opening.items) (λ name. ap (λ (k : List ByBytes). list_any (is_at (on name_of (slice_cmp nat_cmp) (record { name = name }))) k) none) reading.gathers
-
-pub rose_more : (began count count' : ℕ) → began ≤ count → Rose count count' → Rose began count'
-rose_more began count count' le rose = omega (arith, le, rose)
 
 pub too_large_map : (fault : StartFault) (P Q : List ℕ → Type 0) → ((name : List ℕ) → P name → Q name) → IfTooLarge fault P → IfTooLarge fault Q
 too_large_map (faults.TooLarge name) P Q f h = f name h

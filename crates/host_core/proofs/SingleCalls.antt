@@ -40,35 +40,3 @@ single_makes old folder call moment receipt shard place stamp room back =
       room = room;
       back = back;
     }
-
-pub single_refuses : {F : Type 0} (old : Book F) (folder : F) (call : Call) (moment : ℕ) (fault : CallFault)
-    → (IsFullCall fault → FullAt old.opening old.opened old.capacity (history_of old.made old.time) 0 call moment) → called_back fault ≡ call
-    → Refuses (sight_of old) (sight_of (record old { folder = folder })) call moment fault
-single_refuses old folder call moment fault full handed = record {
-  own = refl;
-  begins = ([], sym (append-nil (entries (history_of old.made old.time))));
-  full = full;
-  handed = handed;
-}
-
-other_shard : (shard : ℕ) (x y : List Item) → shard ≢ 0 → (if shard == 0 then x else []) ≡ (if shard == 0 then y else [])
-other_shard shard x y differ = go (shard == 0) refl where
-  is_zero : (n : ℕ) → n == 0 ≡ true → n ≡ 0
-  is_zero n h = grind (arith, nat_tests)
-
-  go : (b : Bool) → shard == 0 ≡ b → (if b then x else []) ≡ (if b then y else [])
-  go true h = absurd (differ (is_zero shard h))
-  go false h = refl
-
--- the rest stays
-pub single_frames : {F : Type 0} (old new : Book F) (name : List ℕ) → new.opening ≡ old.opening → new.capacity ≡ old.capacity → new.opened ≡ old.opened
-    → Legal new.opening new.opened (history_of new.made new.time) → Frames (sight_of old) (sight_of new) name
-single_frames old new name opening capacity opened legal = record {
-  others = λ shard differ. other_shard shard (history_of new.made new.time) (history_of old.made old.time) differ;
-  openings = λ shard. opening;
-  home = λ other. refl;
-  pass = refl;
-  capacity = capacity;
-  opened = opened;
-  legal = subst (λ o. Legal o old.opened (history_of new.made new.time)) opening (subst (λ (o : ℕ). Legal new.opening o (history_of new.made new.time)) opened legal);
-}

@@ -24,10 +24,11 @@ use Rattle.host_core.specs.Files.{is_named, files_of, torn_in, IsHeld}
 use Rattle.host_core.specs.Archive.{IsStocked, AreOpened, IsKept, AreWithin, StaysKept, names_of, place_in}
 use Rattle.host_core.specs.Store.{kept_with, torn_after, is_store_call}
 use Rattle.host_core.specs.Steps.{Moves, Stops, StepsAll, StopsAll, IsRoomFor, IsNoRoomFor}
-use Rattle.host_core.proofs.Decisions.{acceptance_status}
-use Rattle.host_core.proofs.FileLists.{file_at, set_steps, set_shows, push_first}
-use Rattle.host_core.proofs.Holding.{held_same}
-use Rattle.host_core.proofs.Stocks.{Adds, adds, added_found, held_at, set_stocked, push_stocked, set_names, opened_stays, kept_stays, place_at}
+use Rattle.wopi_model.proofs.Replacing.{acceptance-status}
+use Rattle.wopi_text.proofs.Tests.{or_none}
+use Rattle.host_core.proofs.FileLists.{file_at, set_steps, set_shows, push_first, same_if}
+use Rattle.host_core.proofs.Holding.{held_same, differ_status}
+use Rattle.host_core.proofs.Stocks.{append_long, Adds, adds, added_found, held_at, set_stocked, push_stocked, set_names, opened_stays, kept_stays, place_at}
 use Rattle.host_core.proofs.Versions.{kept_more}
 
 kept_bytes : (asked : Act) (number version : ℕ) (old new : List Version) (b : Bool) → new ≡ (if b then kept_with old number version asked else old) → kept_in new ≡ kept_in old + (if b then new_bytes asked else 0)
@@ -46,10 +47,6 @@ within_put most more (first ∷ before) one k after up here within = ((up (first
 pub within_push : (most : ℕ) (files : List KeptFile) (k : KeptFile) → k.version ≤ most → AreWithin most files → AreWithin most (files ++ k ∷ [])
 within_push most [] k le within = (le, tt)
 within_push most (first ∷ files) k le within = (within.0, within_push most files k le within.1)
-
-append_long : (xs : List KeptFile) (x : KeptFile) (ys : List KeptFile) → length (xs ++ x ∷ ys) ≡ length xs + suc (length ys)
-append_long [] x ys = omega arith
-append_long (y ∷ xs) x ys = let more = append_long xs x ys in omega (arith, more)
 
 set_long : (files : List KeptFile) (name : List ℕ) (place : ℕ) (k' : KeptFile) → IsFirst (is_named name) files place → length (set files place k') ≡ length files
 set_long files name place k' first =
@@ -164,9 +161,6 @@ unmet_held files old k stocked is = record {
 pub unmet_is_held : (files : List KeptFile) (old : List Version) (k : KeptFile) (number : ℕ) → IsStocked files old → kept.file_of k ≡ never_met → number ≡ length files → IsHeld number k old
 unmet_is_held files old k number stocked is at = subst (λ (m : ℕ). IsHeld m k old) (sym at) (unmet_held files old k stocked is)
 
-push_place : (files : List KeptFile) (name : List ℕ) (k : KeptFile) → first_of (is_named name) files ≡ None → k.name ≡ name → IsFirst (is_named name) (files ++ k ∷ []) (length files)
-push_place files name k fresh named = push_first files name k fresh named
-
 -- a call on a name that wasn't met before, which is met now
 pub push_steps : (files files' : Option Files) (old new : List Version) (began count : ℕ) (before : List KeptFile) (number : ℕ) (k k' : KeptFile) (call : Call) (opened now : ℕ) (carried : Carried)
     → IsStocked before old → first_of (is_named call.name) before ≡ None → kept.file_of k ≡ never_met → k.torn ≡ false → k.name ≡ call.name → number ≡ length before
@@ -205,7 +199,7 @@ push_steps files files' old new began count before number k k' call opened now c
       };
       kept = λ status brings. (
         number,
-        place_at (before ++ k' ∷ []) call.name (length before) (push_place before call.name k' fresh named') ∙ ap Some (sym at),
+        place_at (before ++ k' ∷ []) call.name (length before) (push_first before call.name k' fresh named') ∙ ap Some (sym at),
         k.version + 1,
         moves.version status brings,
         added_found call.act number (k.version + 1) old new none brings (moves.kept ∙ ap (λ (s : ℕ). if s == 200 then kept_with old number (k.version + 1) call.act else old) status),
@@ -222,20 +216,12 @@ turned_away call opened now ruling at (inl told) done fault = go (ruling.status 
   go true d e = refl
   go false (Refuse status) e = refl
   go false (Conflict reason) e = refl
-  go false Accept e = absurd (differs (sym (ap (λ (r : Ruling). r.status == 200) e ∙ ap (λ (s : ℕ). s == 200) (acceptance_status call.act (effect at call now))) ∙ done)) where
+  go false Accept e = absurd (differs (sym (ap (λ (r : Ruling). r.status == 200) e ∙ ap (λ (s : ℕ). s == 200) (acceptance-status call.act (effect at call now))) ∙ done)) where
     differs : true ≡ false → ⊥
     differs h = cc
 turned_away call opened now ruling at (inr (accepted, stored, e)) done fault = absurd (differs (sym (ap (λ (r : Ruling). r.status == 500) e) ∙ fault)) where
   differs : true ≡ false → ⊥
   differs h = cc
-
-same_if : {A : Type 0} (b : Bool) (x y : A) → (b ≡ true → x ≡ y) → (if b then x else y) ≡ y
-same_if true x y e = e refl
-same_if false x y e = refl
-
-parts : (b c : Bool) → (b || c) ≡ false → (b ≡ false) × (c ≡ false)
-parts true c e = cc
-parts false c e = (refl, e)
 
 no_store : (asked : Act) (ruling : Ruling) → ruling.status == 200 ≡ false → ruling.status == 500 ≡ false → is_store_call asked ruling ≡ false
 no_store asked ruling done fault =
@@ -247,7 +233,7 @@ pub skip_steps : (files files' : Option Files) (old new : List Version) (began c
     → Moves files files' old new began count number k k' call opened now carried
     → StepsAll files files' old new began count before before call opened now carried
 skip_steps files files' old new began count before number k k' call opened now carried stocked fresh is whole at turned moves =
-    let status = parts (carried.ruling.status == 200) (carried.ruling.status == 500) turned in
+    let status = or_none (carried.ruling.status == 200) (carried.ruling.status == 500) turned in
     let was : files_of before call.name ≡ kept.file_of k = unmet_of before call.name fresh ∙ sym is in
     let outcome : IsOutcome (settled never_met now) call opened now carried.ruling = subst (λ (f : File). IsOutcome (settled f now) call opened now carried.ruling) is moves.steps.outcome in
     let stays : new ≡ old = moves.kept ∙ ap (λ (b : Bool). if b then kept_with old number (k.version + 1) call.act else old) status.0 in
@@ -274,34 +260,7 @@ skip_steps files files' old new began count before number k k' call opened now c
         opened = λ opening h. subst (AreOpened 0 opening (names_of before)) (sym stays) h;
         kept = λ call ruling h. subst (IsKept call ruling (names_of before)) (sym stays) h;
       };
-      kept = λ done brings. absurd (differs carried.ruling.status status.0 done);
+      kept = λ done brings. absurd (differ_status carried.ruling.status status.0 done);
       within = λ most h. within_up most before h;
       few = omega arith;
-    }
-  where
-    differs : (status : ℕ) → status == 200 ≡ false → status ≡ 200 → ⊥
-    differs status other e = both (status == 200) other (ap (λ (s : ℕ). s == 200) e) where
-      both : (b : Bool) → b ≡ false → b ≡ true → ⊥
-      both b h k = cc
-
--- nothing was done to a name that wasn't met before
-pub skip_stops : (files files' : Option Files) (old new : List Version) (before : List KeptFile) (k k' : KeptFile) (call : Call) (opened now : ℕ) (uncarried : Uncarried)
-    → IsStocked before old → first_of (is_named call.name) before ≡ None → kept.file_of k ≡ never_met
-    → Stops files files' old new k k' call opened now uncarried
-    → StopsAll files files' old new before before call opened now uncarried
-skip_stops files files' old new before k k' call opened now uncarried stocked fresh is stops =
-    let was : files_of before call.name ≡ kept.file_of k = unmet_of before call.name fresh ∙ sym is in
-    record {
-      shows = record { files = λ name. refl; torn = λ name. refl };
-      stay = stops.stay;
-      folder = stops.folder;
-      handed = stops.handed;
-      full = λ h. subst (λ (f : File). IsNoRoomFor f (kept_in old) call opened now) (sym was) (stops.full h);
-      stays = record {
-        stocked = subst (IsStocked before) (sym stops.stay) stocked;
-        opened = λ opening h. subst (AreOpened 0 opening (names_of before)) (sym stops.stay) h;
-        kept = λ call ruling h. subst (IsKept call ruling (names_of before)) (sym stops.stay) h;
-      };
-      within = λ most h. h;
-      few = refl;
     }

@@ -1,6 +1,6 @@
 -- What a shard begins with, as one file is added.
 use Rattle.std.proofs.Common.{◌≡◌, ℕ, suc, ◌+◌, ◌<◌, Bool, true, false, if◌then◌else◌, List, [], ◌∷◌, ◌++◌, length, map, sum_by, Option, None, Some, option_map, refl, sym, ap, subst, ◌∙◌, arith}
-use Rattle.std.proofs.lemmas.List.{map-append}
+use Rattle.std.proofs.lemmas.List.{map-append, length-map}
 use Rattle.std.proofs.lemmas.List.Sums.{sum_by_push}
 use Rattle.std.proofs.lemmas.Slice.Eq.{bytes_eq-Decides}
 use Rattle.std.specs.Str.{bytes_eq}
@@ -97,7 +97,7 @@ stock_push old new k name contents number stock fresh is named whole at few open
     let last : found new.versions number 1 ≡ Some contents = ap (λ (v : List Version). found v number 1) versions ∙ found-push old.versions number 1 contents (beyond 1) in
     let names' : names_of (old.files.items ++ k ∷ []) ≡ names_of old.files.items ++ name ∷ [] =
     map-append (λ (f : KeptFile). f.name) old.files.items (k ∷ []) ∙ ap (λ (n : List ℕ). names_of old.files.items ++ n ∷ []) named in
-    let long : length (names_of old.files.items) ≡ length begin = ap (λ (n : List (List ℕ)). length n) stock.names ∙ map_long begin in
+    let long : length (names_of old.files.items) ≡ length begin = ap (λ (n : List (List ℕ)). length n) stock.names ∙ length-map begin (λ (file : List ℕ × List ℕ). file.0) in
     let number_at : number ≡ 0 + length begin = let count = names_long old.files.items in omega (arith, at, count, long) in
     let version : k.version ≡ 1 = ap (λ (f : File). f.version) is in
     record {
@@ -124,10 +124,6 @@ stock_push old new k name contents number stock fresh is named whole at few open
       few = let more : length new.files.items ≡ length old.files.items + 1 = ap (λ (f : List KeptFile). length f) files ∙ long_push old.files.items k in omega (arith, more, few);
     }
   where
-    map_long : (opening : Opening) → length (map (λ (file : List ℕ × List ℕ). file.0) opening) ≡ length opening
-    map_long [] = refl
-    map_long (file ∷ opening) = ap suc (map_long opening)
-
     long_push : (files : List KeptFile) (k : KeptFile) → length (files ++ k ∷ []) ≡ length files + 1
     long_push [] k = omega arith
     long_push (f ∷ files) k = let more = long_push files k in omega (arith, more)

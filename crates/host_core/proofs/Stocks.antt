@@ -10,6 +10,7 @@ use Rattle.wopi_model.specs.declared.calls.Call.{Call}
 use Rattle.wopi_model.specs.declared.calls.Ruling.{Ruling}
 use Rattle.wopi_model.specs.Shard.{Opening}
 use Rattle.wopi_model.specs.Host.{brings_contents}
+use Rattle.wopi_text.proofs.Tests.{or_none}
 use Rattle.file_versions.specs.declared.Version.{Version}
 use Rattle.file_versions.specs.Places.{IsFirst}
 use Rattle.file_versions.proofs.Places.{set_split, one_is}
@@ -126,7 +127,7 @@ held_at files versions name place k stocked first e =
     let zero : 0 + length first.before ≡ place = omega (arith, here) in
     subst (λ (x : KeptFile). IsHeld place x versions) (sym (one_is (is_named name) files place first k e)) (subst (λ (m : ℕ). IsHeld m first.one versions) zero parts.1)
 
-append_long : (xs : List KeptFile) (x : KeptFile) (ys : List KeptFile) → length (xs ++ x ∷ ys) ≡ length xs + suc (length ys)
+pub append_long : (xs : List KeptFile) (x : KeptFile) (ys : List KeptFile) → length (xs ++ x ∷ ys) ≡ length xs + suc (length ys)
 append_long [] x ys = omega arith
 append_long (y ∷ xs) x ys = let more = append_long xs x ys in omega (arith, more)
 
@@ -206,13 +207,9 @@ first_place : (before : List KeptFile) (one : KeptFile) (after : List KeptFile) 
     → place_in (names_of (before ++ one ∷ after)) name ≡ Some (length before)
 first_place [] one after name none here = ap (λ (b : Bool). if b then Some 0 else option_map suc (place_in (names_of after) name)) here
 first_place (first ∷ before) one after name none here =
-    let parts = split (is_named name first) (list_any (is_named name) before) none in
+    let parts = or_none (is_named name first) (list_any (is_named name) before) none in
     ap (λ (b : Bool). if b then Some 0 else option_map suc (place_in (names_of (before ++ one ∷ after)) name)) parts.0
     ∙ ap (option_map suc) (first_place before one after name parts.1 here)
-  where
-    split : (b c : Bool) → (b || c) ≡ false → (b ≡ false) × (c ≡ false)
-    split true c e = cc
-    split false c e = (refl, e)
 
 pub place_at : (files : List KeptFile) (name : List ℕ) (place : ℕ) → IsFirst (is_named name) files place → place_in (names_of files) name ≡ Some place
 place_at files name place first =

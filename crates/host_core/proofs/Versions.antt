@@ -8,11 +8,8 @@ use Rattle.wopi_model.specs.declared.calls.Act.TheVariants as act
 use Rattle.wopi_model.specs.Host.{new_bytes}
 use Rattle.file_versions.specs.declared.Version.{Version}
 use Rattle.file_versions.specs.Versions.{kept_in, found, removed, is_of}
+use Rattle.file_versions.proofs.Removed.{none_step}
 use Rattle.host_core.specs.Store.{kept_with}
-
-none_step : (b : Bool) (one : Version) (rest : Option Version) → option_map (λ (one : Version). one.contents) (if b then Some one else rest) ≡ None → (b ≡ false) × (option_map (λ (one : Version). one.contents) rest ≡ None)
-none_step true one rest e = cc
-none_step false one rest e = (refl, e)
 
 own : (number version : ℕ) (contents : List ℕ) → is_of number version (record { number = number; version = version; contents = contents }) ≡ true
 own number version contents = grind (arith, nat_tests)

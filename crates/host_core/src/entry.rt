@@ -187,18 +187,21 @@ impl Entry {
         self.time
     }
 
+    /// The file that the call named.
     pub fn name(&self) -> &FileName
         ensures { result.now ≡ self.now.step.call.name }
     {
         self.asked.name()
     }
 
+    /// The token under which it was made.
     pub fn token(&self) -> &Token
         ensures { result.now ≡ self.now.step.call.token }
     {
         self.asked.token()
     }
 
+    /// What was asked, with the size in bytes of the contents that it brought.
     pub fn act(&self) -> &EntryAct
         ensures { result.now ≡ act_of self.now.step.call.act }
     {
@@ -212,18 +215,21 @@ impl Entry {
         self.status
     }
 
+    /// The standing lock that was told: at every 409, and at 200 of GetLock.
     pub fn lock(&self) -> &LockField
         ensures { result.now ≡ self.now.step.ruling.lock }
     {
         &self.lock
     }
 
+    /// Why it was refused, at every 409.
     pub fn reason(&self) -> Option<Reason>
         ensures { result ≡ self.now.step.ruling.reason }
     {
         self.reason
     }
 
+    /// The version of the file that was told.
     pub fn version(&self) -> Option<u64>
         ensures { result ≡ self.now.step.ruling.version }
     {

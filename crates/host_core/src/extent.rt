@@ -24,6 +24,7 @@ impl Model for Extent {
 }
 
 impl Extent {
+    /// The length of these contents. It takes no memory.
     pub fn of(contents: &Bytes) -> Extent
         ensures { result ≡ contents.now }
     {
@@ -33,12 +34,14 @@ impl Extent {
         }
     }
 
+    /// In bytes.
     pub fn len(&self) -> u64
         ensures { result ≡ length self.now }
     {
         self.len
     }
 
+    /// Whether the contents have no bytes.
     pub fn is_empty(&self) -> bool
         ensures { result ≡ has_no_bytes (Some self.now) }
     {

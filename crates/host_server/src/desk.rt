@@ -18,6 +18,7 @@ pub struct Desk {
 }
 
 impl Desk {
+    /// The base is 1 to 200 bytes of 0x21 to 0x7E without a closing slash.
     pub fn new(key: Key, base: Bytes, opened: u64) -> Desk
         requires form { is_base base ≡ true }
         requires moment { IsMoment opened }

@@ -18,6 +18,7 @@ impl Model for Names {
 }
 
 impl Names {
+    /// No names. It takes no memory.
     pub fn new(alloc: Global) -> Names
         ensures { result ≡ [] }
     {
@@ -26,12 +27,14 @@ impl Names {
         }
     }
 
+    /// How many names there are.
     pub fn len(&self) -> usize
         ensures { result ≡ length self.now }
     {
         self.items.len()
     }
 
+    /// Whether there are none.
     pub fn is_empty(&self) -> bool
         ensures { IsTrue result ↔ self.now ≡ [] }
     {
@@ -52,6 +55,7 @@ impl Names {
         &self.items
     }
 
+    /// Puts a name at the end. Where there is no memory for it, the list is as it was.
     pub fn push(&mut self, item: String) -> Result<(), Memory>
         ensures ok { OnOk result (self.new ≡ self.old ++ string_bytes item ∷ []) }
         ensures err { OnErr result (self.new ≡ self.old) }

@@ -25,12 +25,6 @@ module _ (session : State) where
   ignores_leaves : (input : Input) → Leaves session input (ignores session input)
   ignores_leaves input other e = let same : input ≡ other = cc in (sym same, refl)
 
-  sends_leaves : (input : Input) (from : State) (purpose : Goal) (asked : SessionOp) → Leaves session input (sends from purpose asked)
-  sends_leaves input from purpose asked other e = cc
-
-  tells_leaves : (input : Input) (from : State) (told : Outcome) → Leaves session input (tells from told)
-  tells_leaves input from told other e = cc
-
   refused_leaves : (reply : Answer) → Leaves session (Reply reply) (refused session reply)
   refused_leaves reply =
       cond_both (reply.status == 401) (ends session outcome.TokenDead) (cond (reply.status == 404) (ends session outcome.Gone) (tells session (outcome.HostFault reply.status)))

@@ -43,6 +43,7 @@ impl Nonce {
         Some(Nonce { bytes: inline })
     }
 
+    /// The letters and digits of the nonce.
     pub fn as_slice(&self) -> &[u8]
         ensures value { result.now ≡ self.now }
         ensures form { IsNonce self.now }

@@ -7,6 +7,7 @@ use crate::output::Outcome;
 use crate::state::{Effect, Goal, Phase, SessionOp, State, Turn, Waiting};
 use wopi_headers::Answer;
 
+/// The input is handed back, and the session stays.
 pub fn ignored(session: State, input: Input) -> Turn
     ensures { result ≡ machine.ignores session input }
 {
@@ -16,6 +17,7 @@ pub fn ignored(session: State, input: Input) -> Turn
     }
 }
 
+/// An operation is sent for this goal, for the first time.
 pub fn sent(mut session: State, goal: Goal, op: SessionOp) -> Turn
     ensures { result ≡ machine.sends session goal op }
 {
@@ -26,6 +28,7 @@ pub fn sent(mut session: State, goal: Goal, op: SessionOp) -> Turn
     }
 }
 
+/// The outcome is told, and nothing waits any more.
 pub fn told(mut session: State, outcome: Outcome) -> Turn
     ensures { result ≡ machine.tells session outcome }
 {
@@ -37,6 +40,7 @@ pub fn told(mut session: State, outcome: Outcome) -> Turn
     }
 }
 
+/// The outcome is told, and the session has ended.
 pub fn ended(mut session: State, outcome: Outcome) -> Turn
     ensures { result ≡ machine.ends session outcome }
 {

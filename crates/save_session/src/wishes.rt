@@ -25,6 +25,7 @@ fn is_free(session: &State) -> bool
     }
 }
 
+/// At Start.
 pub fn starting(session: State) -> Turn
     ensures { result ≡ machine.starts session }
 {
@@ -35,6 +36,7 @@ pub fn starting(session: State) -> Turn
     }
 }
 
+/// At Read.
 pub fn reading(session: State) -> Turn
     ensures { result ≡ machine.reads session }
 {
@@ -61,6 +63,7 @@ fn writing(mut session: State, contents: Bytes) -> Turn
     }
 }
 
+/// At Save: a PutFile under the present lock, or, where that lock was used, the relock that comes before it.
 pub fn saving(session: State, contents: Bytes) -> Turn
     ensures { result ≡ machine.asks_to_save session contents }
 {
@@ -84,6 +87,7 @@ fn under_lock(session: State, goal: Goal, op: SessionOp, input: Input) -> Turn
     }
 }
 
+/// At Refresh: the relock that is not settled yet, or else a RefreshLock.
 pub fn refreshing(session: State) -> Turn
     ensures { result ≡ machine.refreshes session }
 {
@@ -97,6 +101,7 @@ pub fn refreshing(session: State) -> Turn
     }
 }
 
+/// At Close: the relock that is not settled yet, or else an Unlock.
 pub fn closing(session: State) -> Turn
     ensures { result ≡ machine.closes session }
 {

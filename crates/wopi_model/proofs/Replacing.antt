@@ -57,7 +57,7 @@ create_free lock true false t free replaces = cc
 create_free None true true t free replaces = (refl, refl)
 create_free (Some held) true true t free replaces = cc
 
-delete_free : (lock : Option Lock) → table.is_locked_out lock asks.Delete ≡ false → lock ≡ None
+pub delete_free : (lock : Option Lock) → table.is_locked_out lock asks.Delete ≡ false → lock ≡ None
 delete_free None let_in = refl
 delete_free (Some held) let_in = cc
 

@@ -42,6 +42,7 @@ impl User {
         Some(User { bytes: inline })
     }
 
+    /// The letters of the name.
     pub fn as_slice(&self) -> &[u8]
         ensures value { result.now ≡ self.now }
         ensures form { IsUser self.now }

@@ -1,2 +1,3 @@
 pub mod IdLemmas
+pub mod Tests
 pub mod Utf8Bytes

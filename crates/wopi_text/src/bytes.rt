@@ -43,6 +43,7 @@ impl Bytes {
         self.items
     }
 
+    /// The bytes, which stay where they are.
     pub fn as_slice(&self) -> &[u8]
         ensures { result.now ≡ self.now }
     {

@@ -48,6 +48,7 @@ impl FileName {
         Ok(FileName { bytes: inline })
     }
 
+    /// The name as UTF-8.
     pub fn as_slice(&self) -> &[u8]
         ensures value { result.now ≡ self.now }
         ensures form { IsFileName self.now }
@@ -55,6 +56,7 @@ impl FileName {
         self.bytes.as_slice()
     }
 
+    /// The name as text.
     pub fn as_str(&self) -> &str
         ensures value { result.now ≡ self.now }
         ensures form { IsFileName self.now }

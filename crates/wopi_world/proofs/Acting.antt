@@ -15,6 +15,7 @@ use Rattle.wopi_model.specs.LockTable.{lock_after, spent_by}
 use Rattle.wopi_model.specs.Act.{lock_act}
 use Rattle.wopi_model.specs.Step.{Accept, is_missing, decision, effect, contents_after}
 use Rattle.wopi_model.specs.Safety.{Presents, IsSpentUntil}
+use Rattle.wopi_model.proofs.Replacing.{delete_free}
 use Rattle.wopi_model.proofs.Soundness.{passes, Passes, same_bytes}
 use Rattle.save_session.specs.LockIds.{lock_id}
 use Rattle.wopi_world.specs.Requests.{Sent, Info, TakeLock, Get, Put, Relock, RefreshLock, Unlock}
@@ -218,10 +219,6 @@ others_act client opened now file call s h other =
     ]
 
 -- a file with a lock is there
-
-delete_free : (lock : Option Lock) → table.is_locked_out lock asks.Delete ≡ false → lock ≡ None
-delete_free None let_in = refl
-delete_free (Some held) let_in = cc
 
 stays_there : (file : File) (asked : Act) (expires now : ℕ) (lock : Lock) → is_missing file asked ≡ false → table.is_locked_out file.lock (lock_act file asked) ≡ false →
     lock_after file.lock (lock_act file asked) expires now ≡ Some lock → is_some (contents_after file asked) ≡ true

@@ -187,13 +187,6 @@ not_ended client shard item m u stands no_unlock (inl expires) =
     true≢false (sym (subst (λ (l : Lock). is_over l (max shard.now (moment_of item)) ≡ true) (sym locks) expires.3) ∙ stands)
 not_ended client shard item m u stands no_unlock (inr unlocks) = no_unlock unlocks.0 unlocks.3
 
-gone_first : (client : Client) (m now : ℕ) (file : File) → (u : Under client m now file) → (HasGone client m now file → HasGone client 1 now file)
-gone_first client m now file u gone =
-    elim (cases_lt 1 m) [
-      | inl more ↦ u.lower 1 (omega arith) more
-      | inr one ↦ let same : m ≡ 1 = omega (arith, one, u.counted) in subst (λ (n : ℕ). HasGone client n now file) same gone
-    ]
-
 pub IsGone-happens : (client : Client) (j : ℕ) (shard : Shard) (item : Item) → IsGone client j shard → IsGone client j (happens shard item)
 IsGone-happens client j shard item gone = ended-happens client.token.file (lock_id client.nonce j) client.token.expires shard item gone
 
