@@ -3,3 +3,4 @@ pub mod OneReading
 pub mod PathLemmas
 pub mod Places
 pub mod Sizes
+pub mod Targets

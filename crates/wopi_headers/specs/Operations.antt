@@ -7,13 +7,13 @@ use Rattle.wopi_headers.specs.declared.ask.Ask.{Ask}
 use Rattle.wopi_headers.specs.declared.ask.AskFault.{AskFault}
 use Rattle.wopi_headers.specs.declared.ask.AskFault.TheVariants.{Refused, Memory}
 use Rattle.wopi_headers.specs.declared.ask.Op.{Op}
-use Rattle.wopi_headers.specs.declared.ask.Op.TheVariants.{Info, Get, Put, Lock, GetLock, Refresh, Unlock, Relock, Delete}
+use Rattle.wopi_headers.specs.declared.ask.Op.TheVariants.{Info, Get, Put, Lock, GetLock, Refresh, Unlock, Relock, PutRelative, Delete}
 use Rattle.wopi_headers.specs.declared.row.Row.{Row}
-use Rattle.wopi_headers.specs.declared.row.Row.TheVariants.{CheckFileInfo, GetFile, PutFile, Lock as LockRow, GetLock as GetLockRow, RefreshLock, Unlock as UnlockRow, DeleteFile}
+use Rattle.wopi_headers.specs.declared.row.Row.TheVariants.{CheckFileInfo, GetFile, PutFile, Lock as LockRow, GetLock as GetLockRow, RefreshLock, Unlock as UnlockRow, PutRelativeFile, DeleteFile}
 use Rattle.wopi_headers.specs.Targets.{path_of, token_of}
 use Rattle.wopi_headers.specs.Paths.{IsFilePath}
-use Rattle.wopi_headers.specs.Rows.{row_of}
-use Rattle.wopi_headers.specs.Readings.{override_name, lock_name, old_lock_name, value_named, IsMissing, IsLock, IsAnyLock, IsMost}
+use Rattle.wopi_headers.specs.Rows.{row_asked}
+use Rattle.wopi_headers.specs.Readings.{override_name, lock_name, old_lock_name, IsMissing, IsLock, IsAnyLock, IsMost, IsTarget}
 
 -- What the fields of a row say: the operation with its ids and sizes.
 abbrev pub Says : Row → List Field → Op → Type 0
@@ -25,6 +25,7 @@ Says LockRow fields (Relock old id) = IsLock lock_name fields id × IsLock old_l
 Says GetLockRow fields GetLock = ⊤
 Says RefreshLock fields (Refresh id) = IsLock lock_name fields id
 Says UnlockRow fields (Unlock id) = IsLock lock_name fields id
+Says PutRelativeFile fields (PutRelative target) = IsTarget fields target
 Says DeleteFile fields Delete = ⊤
 Says row fields op = ⊥
 
@@ -39,7 +40,7 @@ pub record AsksFor (q : Request) (a : Ask) : Type 0 where
   pub contents : Bool
   pub row : Row
   pub path : IsFilePath (path_of q.target) a.file contents
-  pub row_is : row_of q.method contents (value_named override_name q.fields) ≡ Some row
+  pub row_is : row_asked q.method contents q.fields ≡ Some row
   pub once : HasOneOverride row q.fields
   pub says : Says row q.fields a.op
   pub token_is : a.token ≡ token_of q.target
@@ -48,9 +49,9 @@ pub record AsksFor (q : Request) (a : Ask) : Type 0 where
 pub data IsRefusal (q : Request) (s : ℕ) : Type 0 where
   no_file : s ≡ 404 → ((name : List ℕ) (contents : Bool) → ¬ (IsFilePath (path_of q.target) name contents)) → IsRefusal q s
   no_row : s ≡ 501 → (name : List ℕ) (contents : Bool) → IsFilePath (path_of q.target) name contents
-      → row_of q.method contents (value_named override_name q.fields) ≡ None → IsRefusal q s
+      → row_asked q.method contents q.fields ≡ None → IsRefusal q s
   no_reading : s ≡ 400 → (name : List ℕ) (contents : Bool) (row : Row) → IsFilePath (path_of q.target) name contents
-      → row_of q.method contents (value_named override_name q.fields) ≡ Some row
+      → row_asked q.method contents q.fields ≡ Some row
       → ((op : Op) → HasOneOverride row q.fields → ¬ (Says row q.fields op)) → IsRefusal q s
 
 -- What is answered to the question which operation a request asks for.

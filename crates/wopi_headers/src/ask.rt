@@ -28,8 +28,19 @@ pub enum Op {
     Unlock { id: LockId },
     /// UnlockAndRelock: the old lock ends and the new one is taken.
     Relock { old: LockId, id: LockId },
+    /// PutRelativeFile: the body becomes a new file beside this one.
+    PutRelative { target: Target },
     /// DeleteFile.
     Delete,
+}
+
+/// How the name of a new file is asked for. Names are texts, in UTF-8, and not yet looked at.
+#[derive(Drop)]
+pub enum Target {
+    /// A name that the host may change, or, from a period on, an ending for the old name.
+    Suggested(Bytes),
+    /// Just this name, and whether a file that has it may be replaced.
+    Relative { name: Bytes, overwrite: bool },
 }
 
 /// Why a request asks for nothing.

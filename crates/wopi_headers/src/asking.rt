@@ -1,18 +1,19 @@
 //! Requests read as operations.
-ghost use Rattle.std.specs.Prelude.{ℕ, List, ◌≡◌, ◌↔◌, IsTrue, MatchOption};
+ghost use Rattle.std.specs.Prelude.{ℕ, List, ◌≡◌, ◌↔◌, IsTrue, IfOk, MatchOption};
 ghost use Rattle.wopi_headers.specs.declared.ask.Op.{Op};
-ghost use Rattle.wopi_headers.specs.declared.row.Row.TheVariants.{Lock, GetFile, PutFile, RefreshLock, Unlock};
+ghost use Rattle.wopi_headers.specs.declared.row.Row.TheVariants.{Lock, GetFile, PutFile, RefreshLock, Unlock, PutRelativeFile};
 ghost use Rattle.wopi_headers.specs.Readings.{lock_name, IsLock};
 ghost use Rattle.wopi_headers.specs.Operations.{Says, HasOneOverride, IsAnswerTo};
 
 use crate::ask::{Ask, AskFault, Op};
+use crate::naming::target_named;
 use crate::path::read_path;
-use crate::reading::{any_lock_named, is_missing, lock_named, most_named, value_named};
-use crate::row::{Row, row_of};
+use crate::reading::{any_lock_named, is_missing, lock_named, most_named};
+use crate::row::{Row, row_asked};
 use crate::target::{path_of, token_of};
 use std::alloc::Global;
 use wopi_http::{Field, Request, count_named};
-use wopi_text::LockId;
+use wopi_text::{LockId, Memory};
 
 /// Whether a request of this row names its operation once, where it has to.
 fn has_one_override(row: Row, fields: &[Field]) -> bool
@@ -82,24 +83,36 @@ fn read_unlock(fields: &[Field]) -> Option<Op>
     }
 }
 
-/// The operation that the fields of a row say.
-fn read_op(row: Row, fields: &[Field]) -> Option<Op>
-    ensures { MatchOption result ((op : Op) → ¬ (Says row fields.now op)) (Says row fields.now) }
+/// PutRelativeFile, with its target.
+fn read_copy(alloc: Global, fields: &[Field]) -> Result<Option<Op>, Memory>
+    ensures { IfOk result (λ found. MatchOption found ((op : Op) → ¬ (Says PutRelativeFile fields.now op)) (Says PutRelativeFile fields.now)) }
+{
+    match target_named(alloc, fields)? {
+        Some(target) => Ok(Some(Op::PutRelative { target })),
+        None => Ok(None),
+    }
+}
+
+/// The operation that the fields of a row say. Only a copy's takes memory.
+fn read_op(alloc: Global, row: Row, fields: &[Field]) -> Result<Option<Op>, Memory>
+    ensures { IfOk result (λ found. MatchOption found ((op : Op) → ¬ (Says row fields.now op)) (Says row fields.now)) }
 {
     match row {
-        Row::CheckFileInfo => Some(Op::Info),
-        Row::GetFile => read_get(fields),
-        Row::PutFile => read_put(fields),
-        Row::Lock => read_lock(fields),
-        Row::GetLock => Some(Op::GetLock),
-        Row::RefreshLock => read_refresh(fields),
-        Row::Unlock => read_unlock(fields),
-        Row::DeleteFile => Some(Op::Delete),
+        Row::CheckFileInfo => Ok(Some(Op::Info)),
+        Row::GetFile => Ok(read_get(fields)),
+        Row::PutFile => Ok(read_put(fields)),
+        Row::Lock => Ok(read_lock(fields)),
+        Row::GetLock => Ok(Some(Op::GetLock)),
+        Row::RefreshLock => Ok(read_refresh(fields)),
+        Row::Unlock => Ok(read_unlock(fields)),
+        Row::PutRelativeFile => read_copy(alloc, fields),
+        Row::DeleteFile => Ok(Some(Op::Delete)),
     }
 }
 
 /// What a request asks for. A request that asks for nothing is refused: with 404 where its path names
-/// no file, else with 501 where method, path and override are no row of the table, else with 400
+/// no file, else with 501 where method, path and override are no row of the table, or a copy is asked for
+/// under two names, else with 400
 /// where a header that the row reads is missing, stands twice or is out of form.
 pub fn ask_of(alloc: Global, request: &Request) -> Result<Ask, AskFault>
     ensures { IsAnswerTo request.now result }
@@ -109,16 +122,17 @@ pub fn ask_of(alloc: Global, request: &Request) -> Result<Ask, AskFault>
     let Some((file, contents)) = read_path(path_of(target)) else {
         return Err(AskFault::Refused { status: 404 });
     };
-    let named = value_named(fields, b"X-WOPI-Override");
-    let Some(row) = row_of(request.method, contents, named) else {
+    let Some(row) = row_asked(request.method, contents, fields) else {
         return Err(AskFault::Refused { status: 501 });
     };
     if !has_one_override(row, fields) {
         return Err(AskFault::Refused { status: 400 });
     }
-    let Some(op) = read_op(row, fields) else {
-        return Err(AskFault::Refused { status: 400 });
-    };
-    let token = token_of(alloc, target)?;
-    Ok(Ask { file, token, op })
+    match read_op(alloc, row, fields)? {
+        Some(op) => {
+            let token = token_of(alloc, target)?;
+            Ok(Ask { file, token, op })
+        }
+        None => Err(AskFault::Refused { status: 400 }),
+    }
 }

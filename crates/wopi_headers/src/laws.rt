@@ -14,3 +14,8 @@ pub fn a_refused_request_asks_for_nothing()
     ensures nothing { (q : Request) (a : Ask) (s : ℕ) → AsksFor q a → ¬ (IsRefusal q s) }
     ensures one_status { (q : Request) (s t : ℕ) → IsRefusal q s → IsRefusal q t → s ≡ t }
 {}
+
+/// No request neither asks for something nor is refused.
+pub fn every_request_asks_or_is_refused()
+    ensures { (q : Request) → ((a : Ask) → ¬ (AsksFor q a)) → ¬ ((s : ℕ) → ¬ (IsRefusal q s)) }
+{}

@@ -1,11 +1,14 @@
 //! What the header fields of a request say.
-ghost use Rattle.std.specs.Prelude.{ℕ, List, Option, ◌≡◌, ◌↔◌, IsTrue, MatchOption};
+ghost use Rattle.std.specs.Prelude.{ℕ, Bool, List, Option, ◌≡◌, ◌↔◌, IsTrue, IfOk, MatchOption};
 ghost use Rattle.std.specs.Option.{option_copied};
-ghost use Rattle.wopi_headers.specs.Readings.{value_named, most_name, IsMissing, IsLock, IsAnyLock, IsSize, IsMost};
+ghost use Rattle.wopi_headers.specs.Readings.{value_named, most_name, IsMissing, IsLock, IsAnyLock, IsSize, IsMost, IsText, IsWordOf, IsOverwrite};
+ghost use Rattle.utf7_text.specs.Readings.{IsReading};
 ghost use Rattle.wopi_headers.specs.Values.{IsValue};
 
+use std::alloc::Global;
+use utf7_text::{Utf7Fault, utf7_read};
 use wopi_http::{Field, count_named, first_named};
-use wopi_text::{LockId, digits_read};
+use wopi_text::{Bytes, LockId, Memory, digits_read};
 
 /// The most digits of a size.
 const MOST_DIGITS: usize = 19;
@@ -95,6 +98,56 @@ pub fn most_named(fields: &[Field]) -> Option<Option<u64>>
             Some(size) => Some(Some(size)),
             None => None,
         },
+        Value::Several => None,
+    }
+}
+
+/// The text that a value stands for.
+fn text_of(alloc: Global, value: &[u8]) -> Result<Option<Bytes>, Memory>
+    ensures { IfOk result (λ found. MatchOption found ((text : List ℕ) → ¬ (IsReading value.now text)) (IsReading value.now)) }
+{
+    match utf7_read(alloc, value) {
+        Ok(text) => Ok(Some(text)),
+        Err(Utf7Fault::Bad { .. }) => Ok(None),
+        Err(Utf7Fault::Memory) => Err(Memory),
+    }
+}
+
+/// The text that the field has, which is written in UTF-7.
+pub fn text_named(alloc: Global, fields: &[Field], name: &[u8]) -> Result<Option<Bytes>, Memory>
+    ensures { IfOk result (λ found. MatchOption found ((text : List ℕ) → ¬ (IsText name.now fields.now text)) (IsText name.now fields.now)) }
+{
+    match value_of(fields, name) {
+        Value::Once(value) => {
+            if value.is_empty() {
+                return Ok(None);
+            }
+            text_of(alloc, value)
+        }
+        _ => Ok(None),
+    }
+}
+
+/// The choice that a word stands for.
+fn choice_of(value: &[u8]) -> Option<bool>
+    ensures { MatchOption result ((choice : Bool) → ¬ (IsWordOf value.now choice)) (IsWordOf value.now) }
+{
+    if value.eq_ignore_ascii_case(b"true") {
+        return Some(true);
+    }
+    if value.eq_ignore_ascii_case(b"false") {
+        return Some(false);
+    }
+    None
+}
+
+/// Whether a file that has the name may be replaced: no, where the field is missing.
+pub fn overwrite_named(fields: &[Field]) -> Option<bool>
+    ensures { MatchOption result ((choice : Bool) → ¬ (IsOverwrite fields.now choice)) (IsOverwrite fields.now) }
+{
+    match value_of(fields, b"X-WOPI-OverwriteRelativeTarget") {
+        Value::Missing => Some(false),
+        Value::Once(value) => choice_of(value),
         Value::Several => None,
     }
 }

@@ -1,4 +1,4 @@
-use crate::{Answer, AskFault, BodyKind, Op, ask_of, reply_of};
+use crate::{Answer, AskFault, BodyKind, Op, Target, ask_of, reply_of};
 use std::alloc::Global;
 use std::test::Fail;
 use wopi_http::{Field, Fields, Method, Request};
@@ -92,6 +92,88 @@ fn each_lock_request_out_of_form_has_its_status(rt: HostRuntime) -> Result<(), F
     assert_eq!(rt; status(alloc, post, FILE, &[lock, id, id])?, 400);
     assert_eq!(rt; status(alloc, post, FILE, &[lock, lock, id])?, 400);
     assert_eq!(rt; status(alloc, post, FILE, &[lock, id])?, 200);
+    Ok(())
+}
+
+const SUGGESTED: &str = "X-WOPI-SuggestedTarget";
+
+const RELATIVE: &str = "X-WOPI-RelativeTarget";
+
+const OVERWRITE: &str = "X-WOPI-OverwriteRelativeTarget";
+
+/// The target of a copy that these fields ask for.
+fn target(
+    alloc: Global,
+    name: (&str, &str),
+    overwrite: Option<&str>,
+) -> Result<Option<Target>, Memory> {
+    let copy = ("X-WOPI-Override", "PUT_RELATIVE");
+    let asked = match overwrite {
+        Some(word) => {
+            let named = [copy, name, (OVERWRITE, word)];
+            ask_of(alloc, &request(alloc, Method::Post, FILE, &named)?)
+        }
+        None => ask_of(alloc, &request(alloc, Method::Post, FILE, &[copy, name])?),
+    };
+    match asked {
+        Ok(ask) => match ask.op {
+            Op::PutRelative { target } => Ok(Some(target)),
+            _ => Ok(None),
+        },
+        Err(AskFault::Refused { .. }) => Ok(None),
+        Err(AskFault::Memory) => Err(Memory),
+    }
+}
+
+#[test]
+fn a_copy_has_the_name_that_its_header_stands_for(rt: HostRuntime) -> Result<(), Fail> {
+    match target(rt.alloc(), (SUGGESTED, "+AOk-.csv"), None)? {
+        Some(Target::Suggested(name)) => assert_eq!(rt; name.as_slice(), "é.csv".as_bytes()),
+        _ => assert!(rt; false),
+    }
+    let choices = [(None, false), (Some("false"), false), (Some("True"), true)];
+    for (word, wanted) in choices {
+        match target(rt.alloc(), (RELATIVE, "b.csv"), word)? {
+            Some(Target::Relative { name, overwrite }) => {
+                assert_eq!(rt; name.as_slice(), b"b.csv".as_slice());
+                assert_eq!(rt; overwrite, wanted);
+            }
+            _ => assert!(rt; false),
+        }
+    }
+    Ok(())
+}
+
+#[test]
+fn each_copy_out_of_form_has_its_status(rt: HostRuntime) -> Result<(), Fail> {
+    let alloc = rt.alloc();
+    let post = Method::Post;
+    let copy = ("X-WOPI-Override", "PUT_RELATIVE");
+    let suggested = (SUGGESTED, ".txt");
+    let relative = (RELATIVE, "b.csv");
+    let yes = (OVERWRITE, "yes");
+    assert_eq!(rt; status(alloc, post, FILE, &[copy])?, 400);
+    assert_eq!(rt;
+        status(alloc, post, FILE, &[copy, suggested, relative])?,
+        501
+    );
+    assert_eq!(rt;
+        status(alloc, post, FILE, &[copy, suggested, suggested])?,
+        400
+    );
+    assert_eq!(rt; status(alloc, post, FILE, &[copy, (SUGGESTED, "")])?, 400);
+    assert_eq!(rt;
+        status(alloc, post, FILE, &[copy, (SUGGESTED, "+AOl-")])?,
+        400
+    );
+    assert_eq!(rt; status(alloc, post, FILE, &[copy, relative, yes])?, 400);
+    assert_eq!(rt;
+        status(alloc, post, FILE, &[copy, relative, (OVERWRITE, "")])?,
+        400
+    );
+    assert_eq!(rt; status(alloc, post, FILE, &[copy, suggested, yes])?, 200);
+    assert_eq!(rt; status(alloc, post, FILE, &[copy, copy, suggested])?, 400);
+    assert_eq!(rt; status(alloc, post, FILE, &[copy, relative])?, 200);
     Ok(())
 }
 

@@ -1,3 +1,4 @@
+use Rattle.std.proofs.lemmas.Option.{MatchOption-at_none}
 use Rattle.std.proofs.Common.{◌≡◌, ℕ, List, Bool, Option, Some, None, ◌∙◌, sym, ap, refl, subst}
 use Rattle.wopi_http.specs.declared.message.Field.{Field}
 use Rattle.wopi_http.specs.declared.message.Request.{Request}
@@ -5,21 +6,20 @@ use Rattle.wopi_headers.specs.declared.ask.Op.{Op}
 use Rattle.wopi_headers.specs.declared.row.Row.{Row}
 use Rattle.wopi_headers.specs.Targets.{path_of}
 use Rattle.wopi_headers.specs.Paths.{IsFilePath}
-use Rattle.wopi_headers.specs.Rows.{row_of}
-use Rattle.wopi_headers.specs.Readings.{override_name, value_named}
+use Rattle.wopi_headers.specs.Rows.{row_asked}
 use Rattle.wopi_headers.specs.Operations.{Says, HasOneOverride, IsRefusal}
 use Rattle.wopi_headers.specs.Operations.IsRefusal.{no_row, no_reading}
 use Rattle.wopi_headers.proofs.asking.ask_of.Goals as goal
 
 -- what was found of a request, in the slices that were looked at
-module _ (q : Request) (target path : List ℕ) (fields : List Field) (named : Option (List ℕ)) (name : List ℕ) (contents : Bool) (found : Option Row)
-    (target_is : target ≡ q.target) (fields_are : fields ≡ q.fields) (path_is : path ≡ path_of target) (named_is : named ≡ value_named override_name fields)
-    (place : IsFilePath path name contents) (found_is : found ≡ row_of q.method contents named) where
+module _ (q : Request) (target path : List ℕ) (fields : List Field) (name : List ℕ) (contents : Bool) (found : Option Row)
+    (target_is : target ≡ q.target) (fields_are : fields ≡ q.fields) (path_is : path ≡ path_of target)
+    (place : IsFilePath path name contents) (found_is : found ≡ row_asked q.method contents fields) where
   at_path : IsFilePath (path_of q.target) name contents
   at_path = let P : List ℕ → Type 0 = λ p. IsFilePath p name contents in subst P (path_is ∙ ap path_of target_is) place
 
-  row_is : row_of q.method contents (value_named override_name q.fields) ≡ found
-  row_is = sym (found_is ∙ ap (row_of q.method contents) (named_is ∙ ap (value_named override_name) fields_are))
+  row_is : row_asked q.method contents q.fields ≡ found
+  row_is = sym (found_is ∙ ap (row_asked q.method contents) fields_are)
 
   is_no_row : found ≡ None → IsRefusal q 501
   is_no_row none = no_row refl name contents at_path (row_is ∙ none)
@@ -29,17 +29,20 @@ module _ (q : Request) (target path : List ℕ) (fields : List Field) (named : O
       let P : List Field → Type 0 = λ fs. (op : Op) → HasOneOverride row fs → ¬ (Says row fs op) in
       no_reading refl name contents row at_path (row_is ∙ some) (subst P fields_are none)
 
-pub returns-in_default-row_of : goal.returns-in_default-row_of
-returns-in_default-row_of c =
-    is_no_row c.args.request.now _ _ _ _ _ _ _ c.as_slice-target.ensures c.as_slice-fields.ensures c.path_of.ensures c.value_named-named.ensures c.in-Some.ensures
-    c.row_of.ensures c.in_default-row_of.is
+pub returns-in_default-row_asked : goal.returns-in_default-row_asked
+returns-in_default-row_asked c =
+    is_no_row c.args.request.now _ _ _ _ _ _ c.as_slice-target.ensures c.as_slice-fields.ensures c.path_of.ensures c.in-Some.ensures
+    c.row_asked.ensures c.in_default-row_asked.is
 
 pub returns-then-not-has_one_override : goal.returns-then-not-has_one_override
 returns-then-not-has_one_override c =
-    is_no_reading c.args.request.now _ _ _ _ _ _ _ c.as_slice-target.ensures c.as_slice-fields.ensures c.path_of.ensures c.value_named-named.ensures c.in-Some.ensures
-    c.row_of.ensures _ c.in-Some-row_of.is (λ op once says. absurd (cc (c.if-not-has_one_override.ensures.1 once)))
+    is_no_reading c.args.request.now _ _ _ _ _ _ c.as_slice-target.ensures c.as_slice-fields.ensures c.path_of.ensures c.in-Some.ensures
+    c.row_asked.ensures _ c.in-Some-row_asked.is (λ op once says. absurd (cc (c.if-not-has_one_override.ensures.1 once)))
 
-pub returns-in_default-read_op : goal.returns-in_default-read_op
-returns-in_default-read_op c =
-    is_no_reading c.args.request.now _ _ _ _ _ _ _ c.as_slice-target.ensures c.as_slice-fields.ensures c.path_of.ensures c.value_named-named.ensures c.in-Some.ensures
-    c.row_of.ensures _ c.in-Some-row_of.is (λ op once says. c.in_default-read_op.ensures op says)
+pub returns-in-None : goal.returns-in-None
+returns-in-None c =
+    let fields = c.as_slice-fields.result.now in
+    let row = c.in-Some-row_asked.row in
+    let unread = MatchOption-at_none ((op : Op) → ¬ (Says row fields op)) (Says row fields) c.in-None.is c.in_ok-op.ensures in
+    is_no_reading c.args.request.now _ _ _ _ _ _ c.as_slice-target.ensures c.as_slice-fields.ensures c.path_of.ensures c.in-Some.ensures
+    c.row_asked.ensures _ c.in-Some-row_asked.is (λ op once says. unread op says)
