@@ -1,0 +1,40 @@
+-- How UTF-7 text is read. (RFC 2152 with the choices of `Pieces`; where a fault lies is own.)
+use Rattle.std.specs.Prelude.{ℕ, ◌+◌, ◌<◌, ◌≡◌, List, [], ◌∷◌, ◌++◌, flat_map, length, encode_utf8_all, ⊤}
+use Rattle.utf7_text.specs.Pieces.{Piece, bytes_of, characters_of, MayStand}
+use Rattle.utf7_text.specs.declared.fault.Utf7Fault.{Utf7Fault}
+use Rattle.utf7_text.specs.declared.fault.Utf7Fault.TheVariants.{Bad, Memory}
+
+-- the bytes are these pieces, and then the rest
+abbrev pub Cut : List ℕ → List Piece → List ℕ → Type 0
+Cut bytes [] rest = bytes ≡ rest
+Cut bytes (piece ∷ pieces) rest = (after : List ℕ) × (bytes ≡ bytes_of piece ++ after) × MayStand piece after × Cut after pieces rest
+
+-- the text, in UTF-8, that pieces stand for
+abbrev pub text_of : List Piece → List ℕ
+text_of pieces = encode_utf8_all (flat_map characters_of pieces)
+
+-- the bytes up to the rest stand for the text
+abbrev pub ReadsUpTo : List ℕ → List ℕ → List ℕ → Type 0
+ReadsUpTo bytes rest text = (pieces : List Piece) × Cut bytes pieces rest × (text ≡ text_of pieces)
+
+-- the bytes stand for the text, which is in UTF-8
+abbrev pub IsReading : List ℕ → List ℕ → Type 0
+IsReading bytes text = ReadsUpTo bytes [] text
+
+-- no piece begins the bytes
+abbrev pub BeginsNoPiece : List ℕ → Type 0
+BeginsNoPiece bytes = (piece : Piece) (after : List ℕ) → bytes ≡ bytes_of piece ++ after → MayStand piece after → ⊥
+
+-- what stands before the place is read, and at the place there is no piece: a byte that may not stand there, or the `+` of a shift that is none
+pub record IsBadAt (bytes : List ℕ) (at : ℕ) : Type 0 where
+  pub rest : List ℕ
+  pub text : List ℕ
+  pub before : ReadsUpTo bytes rest text
+  pub place : at + length rest ≡ length bytes
+  pub some : 0 < length rest
+  pub bad : BeginsNoPiece rest
+
+-- why the bytes aren't read
+abbrev pub IsFaultOf : List ℕ → Utf7Fault → Type 0
+IsFaultOf bytes (Bad at) = IsBadAt bytes at
+IsFaultOf bytes Memory = ⊤
