@@ -1,7 +1,7 @@
 -- The definitions at worked cases.
 use Rattle.std.proofs.Common.{◌≡◌, true, [], ◌∷◌, codes, refl, lit<, true≢false}
-use Rattle.utf7_text.specs.Pieces.{Direct, Plus, Shift, digits_of}
-use Rattle.utf7_text.specs.Readings.{IsReading}
+use Rattle.utf7_text.specs.Pieces.{AreUnits, Direct, Plus, Shift, digits_of}
+use Rattle.utf7_text.specs.Readings.{Cut, IsReading}
 use Rattle.utf7_text.specs.Writing.{written}
 use Rattle.std.specs.Str.{encode_utf8_all, chars}
 use Rattle.std.specs.Char.Utf16.{utf16_chars}
@@ -39,18 +39,14 @@ written_run = refl
 -- `a+-b` reads as `a+b`
 read_plus : IsReading (codes "a+-b") (codes "a+b")
 unfolding encode
-read_plus = (Direct 97 ∷ Plus ∷ Direct 98 ∷ [], (codes "+-b", refl, refl, (codes "b", refl, tt, ([], refl, refl, refl))), refl)
+read_plus =
+    (Direct 97 ∷ Plus ∷ Direct 98 ∷ [], (codes "+-b", (refl, refl), (codes "b", (refl, tt), ([], (refl, refl), refl))), refl)
 
 -- `+AOk-.csv` reads as `é.csv`
 read_accent : IsReading (codes "+AOk-.csv") (encode_utf8_all (0xE9 ∷ codes ".csv"))
 unfolding digits_of encode_symbols utf16_chars encode
-read_accent = (
-  Shift (0xE9 ∷ []) true ∷ Direct 46 ∷ Direct 99 ∷ Direct 115 ∷ Direct 118 ∷ [],
-  (
-    codes ".csv",
-    refl,
-    (record { some = lit< tt; small = (lit< tt, tt); paired = refl }, λ h. elim (true≢false h) [ ]),
-    (codes "csv", refl, refl, (codes "sv", refl, refl, (codes "v", refl, refl, ([], refl, refl, refl)))),
-  ),
-  refl,
-)
+read_accent =
+    let accent : AreUnits (0xE9 ∷ []) = record { some = lit< tt; small = (lit< tt, tt); paired = refl } in
+    let tail : Cut (codes ".csv") (Direct 46 ∷ Direct 99 ∷ Direct 115 ∷ Direct 118 ∷ []) [] =
+    (codes "csv", (refl, refl), (codes "sv", (refl, refl), (codes "v", (refl, refl), ([], (refl, refl), refl)))) in
+    (Shift (0xE9 ∷ []) true ∷ Direct 46 ∷ Direct 99 ∷ Direct 115 ∷ Direct 118 ∷ [], (codes ".csv", (refl, (accent, λ h. absurd (true≢false h))), tail), refl)

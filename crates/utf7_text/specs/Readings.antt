@@ -1,13 +1,17 @@
 -- How UTF-7 text is read. (RFC 2152 with the choices of `Pieces`; where a fault lies is own.)
-use Rattle.std.specs.Prelude.{ℕ, ◌+◌, ◌<◌, ◌≡◌, List, [], ◌∷◌, ◌++◌, flat_map, length, encode_utf8_all, ⊤}
+use Rattle.std.specs.Prelude.{Option, Some, None, drop, ◌≤◌, ℕ, ◌+◌, ◌<◌, ◌≡◌, List, [], ◌∷◌, ◌++◌, flat_map, length, encode_utf8_all, ⊤}
 use Rattle.utf7_text.specs.Pieces.{Piece, bytes_of, characters_of, MayStand}
 use Rattle.utf7_text.specs.declared.fault.Utf7Fault.{Utf7Fault}
 use Rattle.utf7_text.specs.declared.fault.Utf7Fault.TheVariants.{Bad, Memory}
 
+-- the piece begins the bytes, and may stand before those after it
+abbrev pub Begins : List ℕ → Piece → List ℕ → Type 0
+Begins bytes piece after = (bytes ≡ bytes_of piece ++ after) × MayStand piece after
+
 -- the bytes are these pieces, and then the rest
 abbrev pub Cut : List ℕ → List Piece → List ℕ → Type 0
 Cut bytes [] rest = bytes ≡ rest
-Cut bytes (piece ∷ pieces) rest = (after : List ℕ) × (bytes ≡ bytes_of piece ++ after) × MayStand piece after × Cut after pieces rest
+Cut bytes (piece ∷ pieces) rest = (after : List ℕ) × Begins bytes piece after × Cut after pieces rest
 
 -- the text, in UTF-8, that pieces stand for
 abbrev pub text_of : List Piece → List ℕ
@@ -23,7 +27,12 @@ IsReading bytes text = ReadsUpTo bytes [] text
 
 -- no piece begins the bytes
 abbrev pub BeginsNoPiece : List ℕ → Type 0
-BeginsNoPiece bytes = (piece : Piece) (after : List ℕ) → bytes ≡ bytes_of piece ++ after → MayStand piece after → ⊥
+BeginsNoPiece bytes = (piece : Piece) (after : List ℕ) → ¬ Begins bytes piece after
+
+-- The piece that begins the bytes takes so many of them, and what it stands for came to the end of the text; or no piece begins them.
+abbrev pub TakesPiece : List ℕ → List ℕ → List ℕ → Option ℕ → Type 0
+TakesPiece bytes old new (Some len) = (piece : Piece) × Begins bytes piece (drop len bytes) × (new ≡ old ++ encode_utf8_all (characters_of piece)) × (0 < len) × (len ≤ length bytes)
+TakesPiece bytes old new None = BeginsNoPiece bytes
 
 -- what stands before the place is read, and at the place there is no piece: a byte that may not stand there, or the `+` of a shift that is none
 pub record IsBadAt (bytes : List ℕ) (at : ℕ) : Type 0 where

@@ -8,9 +8,14 @@
 #![tactic(auto)]
 
 mod fault;
+pub mod laws;
 mod reading;
+mod shift;
 mod writing;
 
 pub use fault::Utf7Fault;
 pub use reading::utf7_read;
 pub use writing::utf7_write;
+
+#[cfg(test)]
+mod tests;
