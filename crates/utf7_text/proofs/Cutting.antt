@@ -1,10 +1,10 @@
 -- How bytes are cut into pieces: in one way.
-use Rattle.std.proofs.Common.{◌≡◌, ◌≢◌, ℕ, zero, suc, ◌+◌, ◌<◌, Bool, true, false, true≢false, List, [], ◌∷◌, ◌++◌, length, get_or, drop, flat_map, refl, sym, ap, ap₂, ◌∙◌, subst, arith, append_assoc, append-nil, length-append, encode_utf8_all}
+use Rattle.std.proofs.Common.{◌≡◌, ◌≢◌, ℕ, zero, suc, ◌+◌, ◌-◌, ◌<◌, ◌≤◌, Some, None, take, take_all, length-drop, drop-drop, subst₂, Bool, true, false, true≢false, List, [], ◌∷◌, ◌++◌, length, get_or, drop, flat_map, refl, sym, ap, ap₂, ◌∙◌, subst, arith, append_assoc, append-nil, length-append, encode_utf8_all}
 use Rattle.std.proofs.lemmas.Bool.{and_parts}
 use Rattle.std.proofs.lemmas.Grind.{flat_map-append}
 use Rattle.std.proofs.lemmas.Str.{encodes-append}
 use Rattle.utf7_text.specs.Pieces.{AreUnits, EndsShift, MayStand, Piece, Direct, Plus, Shift, bytes_of, characters_of, digits_of, is_digit, is_direct}
-use Rattle.utf7_text.specs.Readings.{Begins, BeginsNoPiece, Cut, IsBadAt, IsReading, ReadsUpTo, text_of}
+use Rattle.utf7_text.specs.Readings.{Begins, BeginsNoPiece, Cut, IsBadAt, IsReading, ReadsUpTo, TakesPiece, text_of}
 use Rattle.utf7_text.proofs.Digits.{StopsDigits, digits_pass, digits_same, some_digit, split_same}
 use Rattle.std.specs.List.{list_all}
 
@@ -13,7 +13,7 @@ abbrev pub dash : Bool → List ℕ
 dash true = 45 ∷ []
 dash false = []
 
-shift_stops : (closed : Bool) (after : List ℕ) → (closed ≡ false → EndsShift after) → StopsDigits (dash closed ++ after)
+pub shift_stops : (closed : Bool) (after : List ℕ) → (closed ≡ false → EndsShift after) → StopsDigits (dash closed ++ after)
 shift_stops true after ends = refl
 shift_stops false [] ends = tt
 shift_stops false (b ∷ after) ends = (ends refl).0
@@ -29,7 +29,7 @@ heads x y xs ys same = ap (λ zs. get_or zs 0 0) same
 tails : (x y : ℕ) (xs ys : List ℕ) → x ∷ xs ≡ y ∷ ys → xs ≡ ys
 tails x y xs ys same = ap (drop 1) same
 
-plus_not_direct : (x : ℕ) → x ≡ 43 → is_direct x ≡ true → ⊥
+pub plus_not_direct : (x : ℕ) → x ≡ 43 → is_direct x ≡ true → ⊥
 plus_not_direct x is direct = true≢false (sym direct ∙ ap is_direct is)
 
 -- digits don't begin with `-`
@@ -132,3 +132,27 @@ text_more ps p =
 pub read_more : (bytes rest after text : List ℕ) (p : Piece) → ReadsUpTo bytes rest text → Begins rest p after → ReadsUpTo bytes after (text ++ encode_utf8_all (characters_of p))
 read_more bytes rest after text p read begins =
     (read.0 ++ p ∷ [], cut_more read.0 p bytes rest after read.1 begins, ap (λ t. t ++ encode_utf8_all (characters_of p)) read.2 ∙ sym (text_more read.0 p))
+
+whole_rest : (bytes : List ℕ) (at : ℕ) → take (length bytes - at) (drop at bytes) ≡ drop at bytes
+whole_rest bytes at = let len = length-drop at bytes in take_all (length bytes - at) (drop at bytes) (omega (arith, len))
+
+-- one piece more is read, at its place
+pub read_on : (bytes text new : List ℕ) (at len : ℕ) → at ≤ length bytes → ReadsUpTo bytes (drop at bytes) text → TakesPiece (take (length bytes - at) (drop at bytes)) text new (Some len) → (at + len ≤ length bytes) × ReadsUpTo bytes (drop (at + len) bytes) new
+read_on bytes text new at len inside read taken =
+    let took = subst (λ xs. TakesPiece xs text new (Some len)) (whole_rest bytes at) taken in
+    let left = length-drop at bytes in
+    let bound = took.4 in
+    (omega (arith, inside, left, bound), subst₂ (ReadsUpTo bytes) (drop-drop len at bytes) (sym took.2) (read_more bytes (drop at bytes) (drop len (drop at bytes)) text took.0 read took.1))
+
+-- no piece stands at the place up to which the bytes are read
+pub bad_at : (bytes text new : List ℕ) (at : ℕ) → at < length bytes → ReadsUpTo bytes (drop at bytes) text → TakesPiece (take (length bytes - at) (drop at bytes)) text new None → IsBadAt bytes at
+bad_at bytes text new at inside read stuck =
+    let left = length-drop at bytes in
+    record {
+      rest = drop at bytes;
+      text = text;
+      before = read;
+      place = omega (arith, inside, left);
+      some = omega (arith, inside, left);
+      bad = subst (λ xs. TakesPiece xs text new None) (whole_rest bytes at) stuck;
+    }

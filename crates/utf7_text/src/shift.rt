@@ -1,9 +1,9 @@
 //! What a shift holds: base64 of UTF-16.
-ghost use Rattle.std.specs.Prelude.{◌≡◌, ◌≢◌, ◌++◌, ◌<◌, ◌%◌, ◌^◌, length, take_while, flat_map, string_bytes, encode_utf8_all, true, IfOk, OnOk, IfSome, IfNone, List, ℕ};
-ghost use Rattle.std.specs.Char.Utf16.{utf16_lossy_chars};
+ghost use Rattle.std.specs.Prelude.{◌≡◌, ◌≢◌, ◌++◌, ◌<◌, ◌%◌, ◌^◌, length, take_while, flat_map, string_bytes, true, IfOk, OnOk, IfSome, IfNone, List, ℕ};
 ghost use Rattle.std.specs.Int.{w16, to_be_bytes};
 ghost use Rattle.std.specs.List.{AllByRecursion};
 ghost use Rattle.utf7_text.specs.Pieces.{AreUnits, Shift, bytes_of, digits_of, is_digit};
+ghost use Rattle.utf7_text.specs.Readings.{IsShifted};
 
 use base64::DecodeAllocError;
 use base64::engine::general_purpose::STANDARD_NO_PAD;
@@ -26,7 +26,7 @@ pub(crate) fn digits_len(bytes: &[u8]) -> usize
 
 /// The text of the shift that has these digits; nothing where no shift has them.
 pub(crate) fn shift_text(alloc: Global, digits: &[u8]) -> Result<Option<String>, Memory>
-    ensures some { IfOk result (λ found. IfSome found (λ text. (units : List ℕ) × AreUnits units × (digits.now ≡ digits_of units) × (string_bytes text ≡ encode_utf8_all (utf16_lossy_chars units)))) }
+    ensures some { IfOk result (λ found. IfSome found (λ text. IsShifted digits.now (string_bytes text))) }
     ensures none { IfOk result (λ found. IfNone found ((units : List ℕ) → AreUnits units → digits.now ≢ digits_of units)) }
 {
     let Some(units) = units_of(alloc, digits)? else {
