@@ -69,7 +69,7 @@ abbrev pub body : Sent → List ℕ
 body (Put number contents) = contents
 body _ = []
 
--- The one act that an operation with that body is for the host. (MS-WOPI.)
+-- The one act that an operation with that body is for the host; a copy, which no session asks for, begins with a look. (MS-WOPI.)
 abbrev pub act_with : List ℕ → Op → Act
 act_with contents ask.Info = act.Info
 act_with contents (ask.Get most) = act.Get most
@@ -79,6 +79,7 @@ act_with contents ask.GetLock = act.GetLock
 act_with contents (ask.Refresh id) = act.Refresh id
 act_with contents (ask.Unlock id) = act.Unlock id
 act_with contents (ask.Relock old id) = act.Relock old id
+act_with contents (ask.PutRelative target) = act.Look
 act_with contents ask.Delete = act.Delete
 
 abbrev pub act_of : List ℕ → Sent → Act
