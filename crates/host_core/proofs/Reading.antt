@@ -6,7 +6,6 @@ use Rattle.std.specs.List.{list_any}
 use Rattle.std.specs.Ordering.{on, nat_cmp}
 use Rattle.std.specs.Cmp.Lexicographic.{slice_cmp}
 use Rattle.outside.specs.Folder.{Files, Keeps}
-use Rattle.outside.specs.Faults.{Rose}
 use Rattle.wopi_model.specs.Host.{most_kept}
 use Rattle.file_versions.specs.Versions.{kept_in}
 use Rattle.host_core.specs.declared.by_bytes.ByBytes.{ByBytes}

@@ -1,3 +1,3 @@
+pub mod Disjunctions
 pub mod IdLemmas
-pub mod Tests
 pub mod Utf8Bytes
