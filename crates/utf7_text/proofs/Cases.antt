@@ -1,14 +1,12 @@
 -- The definitions at worked cases.
-use Rattle.std.proofs.Common.{◌≡◌, true, [], ◌∷◌, codes, refl, lit<, true≢false}
+use Rattle.std.proofs.Common.{◌≡◌, true, [], ◌∷◌, codes, refl, ap, arith, lit<, true≢false}
 use Rattle.utf7_text.specs.Pieces.{AreUnits, Direct, Plus, Shift, base64_of}
 use Rattle.utf7_text.specs.Readings.{Cut, IsBadAt, IsReading}
 use Rattle.utf7_text.specs.Writing.{written}
-use Rattle.std.specs.Prelude.{ℕ, Option, Some, None}
-use Rattle.std.proofs.Common.{ap, arith}
 use Rattle.base64.specs.Decode.{groups_error, scan_steps}
 use Rattle.base64.specs.declared.decode.DecodeError.TheVariants.{InvalidLastSymbol}
 use Rattle.utf7_text.proofs.Digits.{not_refused}
-use Rattle.utf7_text.proofs.Pushing.{no_shift_begins}
+use Rattle.utf7_text.proofs.Pushing.{no_shift_begins, value}
 use Rattle.std.specs.Str.{encode_utf8_all, chars}
 use Rattle.std.specs.Char.Utf16.{utf16_chars}
 use Rattle.base64.specs.Rfc4648.{encode_symbols}
@@ -57,13 +55,9 @@ read_accent =
     (codes "csv", (refl, refl), (codes "sv", (refl, refl), (codes "v", (refl, refl), ([], (refl, refl), refl)))) in
     (Shift (0xE9 ∷ []) true ∷ Direct 46 ∷ Direct 99 ∷ Direct 115 ∷ Direct 118 ∷ [], (codes ".csv", (refl, (accent, λ h. absurd (true≢false h))), tail), refl)
 
-byte : Option ℕ → ℕ
-byte (Some b) = b
-byte None = 0
-
 -- `+AOl-` is bad at 0: bits are left that aren't zero
 bad_accent : IsBadAt (codes "+AOl-") 0
-unfolding byte groups_error scan_steps
+unfolding groups_error scan_steps
 bad_accent =
     record {
       rest = codes "+AOl-";
@@ -71,5 +65,5 @@ bad_accent =
       before = ([], refl, refl);
       place = refl;
       some = lit< tt;
-      bad = no_shift_begins (codes "+AOl-") (codes "AOl-") 3 refl refl refl (λ same. omega (arith, ap byte same)) (λ units are same. not_refused (codes "AOl") units (InvalidLastSymbol 2 108 37) same refl);
+      bad = no_shift_begins (codes "+AOl-") (codes "AOl-") 3 refl refl refl (λ same. omega (arith, ap value same)) (λ units are same. not_refused (codes "AOl") units (InvalidLastSymbol 2 108 37) same refl);
     }

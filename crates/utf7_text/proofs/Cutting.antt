@@ -1,5 +1,5 @@
 -- How bytes are cut into pieces: in one way.
-use Rattle.std.proofs.Common.{◌≡◌, ◌≢◌, ℕ, zero, suc, ◌+◌, ◌-◌, ◌<◌, ◌≤◌, Some, None, take, take_all, length-drop, drop-drop, subst₂, Bool, true, false, true≢false, List, [], ◌∷◌, ◌++◌, length, get_or, drop, flat_map, refl, sym, ap, ap₂, ◌∙◌, subst, arith, append_assoc, append-nil, get_or-append-add, inl, inr, length-append, encode_utf8_all}
+use Rattle.std.proofs.Common.{◌≡◌, ℕ, ◌+◌, ◌-◌, ◌<◌, ◌≤◌, Some, None, take, take_all, length-drop, drop-drop, subst₂, Bool, true, false, true≢false, List, [], ◌∷◌, ◌++◌, length, get_or, drop, flat_map, refl, sym, ap, ap₂, ◌∙◌, subst, arith, append_assoc, append-nil, get_or-append-add, inl, inr, length-append, encode_utf8_all}
 use Rattle.std.proofs.lemmas.Bool.{and_parts, cases_Bool}
 use Rattle.std.proofs.lemmas.Grind.{flat_map-append}
 use Rattle.std.proofs.lemmas.Str.{encodes-append}

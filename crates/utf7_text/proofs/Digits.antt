@@ -1,8 +1,8 @@
 -- The digits of a shift's units.
-use Rattle.std.proofs.Common.{◌≡◌, ℕ, zero, suc, ◌+◌, ◌*◌, ◌/◌, ◌%◌, ◌<◌, ◌^◌, Bool, true, false, true≢false, cond, ◌&&◌, List, [], ◌∷◌, ◌++◌, length, get_or, take, drop, take_while, flat_map, Result, Ok, Err, is_ok, refl, sym, ap, ap₂, ◌∙◌, subst, arith, lit<, append-nil, append_assoc, inl, inr}
+use Rattle.std.proofs.Common.{◌≡◌, ℕ, zero, suc, ◌+◌, ◌*◌, ◌/◌, ◌%◌, ◌<◌, ◌^◌, true, false, true≢false, cond, List, [], ◌∷◌, ◌++◌, length, get_or, take, drop, take_while, flat_map, Result, Ok, Err, is_ok, refl, sym, ap, ap₂, ◌∙◌, subst, arith, lit<, append-nil, append_assoc, inl, inr}
 use Rattle.std.proofs.lemmas.Bool.{and_parts, cases_Bool}
 use Rattle.std.proofs.lemmas.List.{append_cancel_left}
-use Rattle.std.proofs.lemmas.List.Folds.{list_all_at, list_all-append}
+use Rattle.std.proofs.lemmas.List.Folds.{list_all_at}
 use Rattle.std.proofs.lemmas.List.Sums.{take_while-cons}
 use Rattle.std.proofs.lemmas.Nat.{from_be_bytes-to_be_bytes_2}
 use Rattle.std.specs.Bool.{⊤}

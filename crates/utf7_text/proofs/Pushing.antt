@@ -1,20 +1,20 @@
 -- Which piece begins the bytes, by what the code has tested.
-use Rattle.std.proofs.Common.{◌≡◌, ◌≢◌, ℕ, zero, suc, ◌+◌, ◌<◌, ◌≤◌, Bool, true, false, true≢false, List, [], ◌∷◌, ◌++◌, Option, Some, None, is_some, length, get_or, take, drop, take_while, slice_get, refl, sym, ap, ◌∙◌, subst, arith, inl, inr, drop-cons, drop_of_length-le, take-append-drop, take_all, encode_utf8_all, IfSome}
+use Rattle.std.proofs.Common.{◌≡◌, ◌≢◌, ℕ, suc, ◌+◌, ◌<◌, ◌≤◌, true, false, true≢false, List, [], ◌∷◌, ◌++◌, Option, Some, None, is_some, length, get_or, take, drop, take_while, slice_get, sym, ap, ◌∙◌, subst, arith, inl, inr, drop-cons, drop_of_length-le, take-append-drop}
 use Rattle.std.proofs.lemmas.Bool.{cases_lt}
 use Rattle.std.proofs.lemmas.List.Folds.{length-prefix_len}
 use Rattle.std.proofs.lemmas.List.Sums.{prefix_len_stops, prefix_len-le-length}
 use Rattle.std.specs.List.{prefix_len}
-use Rattle.utf7_text.specs.Pieces.{AreUnits, EndsShift, Piece, Direct, Plus, Shift, bytes_of, characters_of, base64_of, is_base64, is_direct}
+use Rattle.utf7_text.specs.Pieces.{AreUnits, EndsShift, Piece, Direct, Plus, Shift, base64_of, is_base64, is_direct}
 use Rattle.utf7_text.specs.Readings.{Begins, BeginsNoPiece, IsShifted, TakesPiece}
 use Rattle.utf7_text.proofs.Digits.{digits_pass, digits_stop}
 use Rattle.utf7_text.proofs.Cutting.{dash, plus_not_direct, shift_bytes, shift_stops}
 
-value : Option ℕ → ℕ
+-- a number, if there is one
+abbrev pub value : Option ℕ → ℕ
 value (Some x) = x
 value None = 0
 
 pub begins_with : (bytes : List ℕ) (x : ℕ) → slice_get bytes 0 ≡ Some x → bytes ≡ x ∷ drop 1 bytes
-unfolding value
 begins_with [] x first = absurd (true≢false (sym (ap is_some first)))
 begins_with (b ∷ bytes) x first = ap (λ y. y ∷ bytes) (ap value first)
 

@@ -17,11 +17,11 @@ pub data Piece : Type 0 where
 abbrev pub is_direct : ℕ → Bool
 is_direct byte = nat_le 32 byte && nat_le byte 126 && not (byte == 43)
 
--- a character of the base64 alphabet
+-- a character of the base64 alphabet, a digit
 abbrev pub is_base64 : ℕ → Bool
 is_base64 byte = is_ascii_alphanumeric byte || byte == 43 || byte == 47
 
--- the units, of two bytes each and the high one first, in base64 without padding
+-- the units, of two bytes each and the high one first, in base64 without padding: six bits a character, and zero bits after the last unit
 unfoldable pub base64_of : List ℕ → List ℕ
 base64_of units = encode_of standard_no_pad (flat_map (to_be_bytes w16) units)
 

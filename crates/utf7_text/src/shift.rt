@@ -10,7 +10,7 @@ use base64::engine::general_purpose::STANDARD_NO_PAD;
 use std::alloc::Global;
 use wopi_text::Memory;
 
-/// A character of the base64 alphabet.
+/// Whether the byte is a character of the base64 alphabet, a digit.
 fn is_base64(byte: u8) -> bool
     ensures { result ≡ is_base64 byte }
 {
@@ -71,7 +71,7 @@ fn units_of_bytes(alloc: Global, bytes: &[u8]) -> Result<Vec<u16>, Memory>
 }
 
 /// Appends the shift of the units, with a `-` after it.
-pub(crate) fn push_shift(alloc: Global, out: &mut String, units: &[u16]) -> Result<(), Memory>
+pub(crate) fn write_shift(alloc: Global, out: &mut String, units: &[u16]) -> Result<(), Memory>
     ensures { OnOk result (string_bytes out.new ≡ string_bytes out.old ++ bytes_of (Shift units.now true)) }
 {
     let bytes = bytes_of_units(alloc, units)?;

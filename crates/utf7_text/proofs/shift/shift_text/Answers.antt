@@ -1,4 +1,4 @@
-use Rattle.std.proofs.Common.{◌≡◌, ℕ, IfSome, List, length, is_err, vec_len, eqb-true, refl, sym, ap, ◌∙◌, subst, arith, true≢false}
+use Rattle.std.proofs.Common.{◌≡◌, IfSome, length, is_err, vec_len, eqb-true, sym, ap, ◌∙◌, subst, arith, true≢false}
 use Rattle.std.specs.Char.Utf16.{has_unpaired_surrogate}
 use Rattle.utf7_text.specs.Pieces.{base64_of}
 use Rattle.utf7_text.proofs.Digits.{AreSmall, digits_same}

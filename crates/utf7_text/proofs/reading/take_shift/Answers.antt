@@ -1,8 +1,8 @@
-use Rattle.std.proofs.Common.{◌≡◌, ◌≢◌, ◌-◌, ◌≤◌, ◌<◌, ◌++◌, ◌∙◌, ap, List, ℕ, IfSome, IfNone, arith, drop, get_or, length, length-drop, string_bytes, subst, take, take_all, encode_utf8_all}
+use Rattle.std.proofs.Common.{◌≢◌, ◌-◌, ◌++◌, ◌∙◌, ap, List, ℕ, IfSome, IfNone, arith, drop, length, string_bytes, subst, take}
 use Rattle.utf7_text.proofs.Cutting.{whole_rest}
 use Rattle.utf7_text.proofs.Pushing.{closed_shift, no_shift_begins, open_shift}
-use Rattle.utf7_text.proofs.reading.push_shift.Goals as goal
-use Rattle.utf7_text.proofs.reading.push_shift.Goals.{else-len-rest-via-then-len-rest+else-rest-len-eq45, else-len-rest-via-else-len-rest}
+use Rattle.utf7_text.proofs.reading.take_shift.Goals as goal
+use Rattle.utf7_text.proofs.reading.take_shift.Goals.{else-len-rest-via-then-len-rest+else-rest-len-eq45, else-len-rest-via-else-len-rest}
 use Rattle.utf7_text.specs.Pieces.{AreUnits, base64_of}
 use Rattle.utf7_text.specs.Readings.{IsShifted}
 

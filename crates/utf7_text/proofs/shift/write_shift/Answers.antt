@@ -1,9 +1,9 @@
-use Rattle.std.proofs.Common.{◌≡◌, ◌++◌, encode_utf8, lit<, string_bytes, ap, ◌∙◌}
+use Rattle.std.proofs.Common.{◌++◌, encode_utf8, lit<, string_bytes, ap, ◌∙◌}
 use Rattle.base64.specs.Engines.{standard_no_pad}
 use Rattle.base64.specs.GeneralPurpose.{encode_of}
 use Rattle.utf7_text.specs.Pieces.{base64_of}
 use Rattle.utf7_text.proofs.Digits.{three_parts}
-use Rattle.utf7_text.proofs.shift.push_shift.Goals as goal
+use Rattle.utf7_text.proofs.shift.write_shift.Goals as goal
 
 pub returns : goal.returns
 unfolding base64_of
