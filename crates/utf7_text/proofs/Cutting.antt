@@ -1,9 +1,9 @@
 -- How bytes are cut into pieces: in one way.
-use Rattle.std.proofs.Common.{◌≡◌, ◌≢◌, ℕ, zero, suc, ◌+◌, ◌-◌, ◌<◌, ◌≤◌, Some, None, take, take_all, length-drop, drop-drop, subst₂, Bool, true, false, true≢false, List, [], ◌∷◌, ◌++◌, length, get_or, drop, flat_map, refl, sym, ap, ap₂, ◌∙◌, subst, arith, append_assoc, append-nil, length-append, encode_utf8_all}
-use Rattle.std.proofs.lemmas.Bool.{and_parts}
+use Rattle.std.proofs.Common.{◌≡◌, ℕ, ◌+◌, ◌-◌, ◌<◌, ◌≤◌, Some, None, take, take_all, length-drop, drop-drop, subst₂, Bool, true, false, true≢false, List, [], ◌∷◌, ◌++◌, length, get_or, drop, flat_map, refl, sym, ap, ap₂, ◌∙◌, subst, arith, append_assoc, append-nil, get_or-append-add, inl, inr, length-append, encode_utf8_all}
+use Rattle.std.proofs.lemmas.Bool.{and_parts, cases_Bool}
 use Rattle.std.proofs.lemmas.Grind.{flat_map-append}
 use Rattle.std.proofs.lemmas.Str.{encodes-append}
-use Rattle.utf7_text.specs.Pieces.{AreUnits, EndsShift, MayStand, Piece, Direct, Plus, Shift, bytes_of, characters_of, digits_of, is_digit, is_direct}
+use Rattle.utf7_text.specs.Pieces.{AreUnits, EndsShift, MayStand, Piece, Direct, Plus, Shift, bytes_of, characters_of, base64_of, is_base64, is_direct}
 use Rattle.utf7_text.specs.Readings.{Begins, BeginsNoPiece, Cut, IsBadAt, IsReading, ReadsUpTo, TakesPiece, text_of}
 use Rattle.utf7_text.proofs.Digits.{StopsDigits, digits_pass, digits_same, some_digit, split_same}
 use Rattle.std.specs.List.{list_all}
@@ -19,9 +19,9 @@ shift_stops false [] ends = tt
 shift_stops false (b ∷ after) ends = (ends refl).0
 
 -- a shift, its digits and what stands after those
-pub shift_bytes : (units after : List ℕ) (closed : Bool) → bytes_of (Shift units closed) ++ after ≡ 43 ∷ (digits_of units ++ (dash closed ++ after))
-shift_bytes units after true = ap (λ xs. 43 ∷ xs) (append_assoc (digits_of units) (45 ∷ []) after)
-shift_bytes units after false = ap (λ xs. 43 ∷ xs) (append_assoc (digits_of units) [] after)
+pub shift_bytes : (units after : List ℕ) (closed : Bool) → bytes_of (Shift units closed) ++ after ≡ 43 ∷ (base64_of units ++ (dash closed ++ after))
+shift_bytes units after true = ap (λ xs. 43 ∷ xs) (append_assoc (base64_of units) (45 ∷ []) after)
+shift_bytes units after false = ap (λ xs. 43 ∷ xs) (append_assoc (base64_of units) [] after)
 
 heads : (x y : ℕ) (xs ys : List ℕ) → x ∷ xs ≡ y ∷ ys → x ≡ y
 heads x y xs ys same = ap (λ zs. get_or zs 0 0) same
@@ -33,10 +33,10 @@ pub plus_not_direct : (x : ℕ) → x ≡ 43 → is_direct x ≡ true → ⊥
 plus_not_direct x is direct = true≢false (sym direct ∙ ap is_direct is)
 
 -- digits don't begin with `-`
-first_digit : (ds more after : List ℕ) → 0 < length ds → list_all is_digit ds ≡ true → ds ++ more ≡ 45 ∷ after → ⊥
+first_digit : (ds more after : List ℕ) → 0 < length ds → list_all is_base64 ds ≡ true → ds ++ more ≡ 45 ∷ after → ⊥
 first_digit [] more after some all same = absurd (omega (arith, some))
 first_digit (d ∷ ds) more after some all same =
-    true≢false (sym (and_parts _ _ all).0 ∙ ap is_digit (heads d 45 (ds ++ more) after same))
+    true≢false (sym (and_parts _ _ all).0 ∙ ap is_base64 (heads d 45 (ds ++ more) after same))
 
 dashes : (c d : Bool) (a b : List ℕ) → (c ≡ false → EndsShift a) → (d ≡ false → EndsShift b) → dash c ++ a ≡ dash d ++ b → (c ≡ d) × (a ≡ b)
 dashes true true a b _ _ same = (refl, tails 45 45 a b same)
@@ -48,16 +48,16 @@ dashes false true (x ∷ a) b ends _ same = absurd ((ends refl).1 (heads x 45 a 
 
 pub not_plus_shift : (after units more : List ℕ) (closed : Bool) → AreUnits units → 43 ∷ 45 ∷ after ≡ bytes_of (Shift units closed) ++ more → ⊥
 not_plus_shift after units more closed are same =
-    first_digit (digits_of units) (dash closed ++ more) after (some_digit units are.some) (digits_pass units)
-    (sym (tails 43 43 (45 ∷ after) (digits_of units ++ (dash closed ++ more)) (same ∙ shift_bytes units more closed)))
+    first_digit (base64_of units) (dash closed ++ more) after (some_digit units are.some) (digits_pass units)
+    (sym (tails 43 43 (45 ∷ after) (base64_of units ++ (dash closed ++ more)) (same ∙ shift_bytes units more closed)))
 
 not_direct_shift : (x : ℕ) (after units more : List ℕ) (closed : Bool) → is_direct x ≡ true → x ∷ after ≡ bytes_of (Shift units closed) ++ more → ⊥
 not_direct_shift x after units more closed direct same =
-    plus_not_direct x (heads x 43 after (digits_of units ++ (dash closed ++ more)) (same ∙ shift_bytes units more closed)) direct
+    plus_not_direct x (heads x 43 after (base64_of units ++ (dash closed ++ more)) (same ∙ shift_bytes units more closed)) direct
 
 shifts_same : (us vs a b : List ℕ) (c d : Bool) → MayStand (Shift us c) a → MayStand (Shift vs d) b → bytes_of (Shift us c) ++ a ≡ bytes_of (Shift vs d) ++ b → (Shift us c ≡ Shift vs d) × (a ≡ b)
 shifts_same us vs a b c d stands other same =
-    let inner = tails 43 43 (digits_of us ++ (dash c ++ a)) (digits_of vs ++ (dash d ++ b)) (sym (shift_bytes us a c) ∙ same ∙ shift_bytes vs b d) in
+    let inner = tails 43 43 (base64_of us ++ (dash c ++ a)) (base64_of vs ++ (dash d ++ b)) (sym (shift_bytes us a c) ∙ same ∙ shift_bytes vs b d) in
     let split = split_same us vs (dash c ++ a) (dash d ++ b) (shift_stops c a stands.1) (shift_stops d b other.1) inner in
     let ends = dashes c d a b stands.1 other.1 split.1 in
     (ap₂ Shift (digits_same us vs stands.0.small other.0.small split.0) ends.0, ends.1)
@@ -133,7 +133,8 @@ pub read_more : (bytes rest after text : List ℕ) (p : Piece) → ReadsUpTo byt
 read_more bytes rest after text p read begins =
     (read.0 ++ p ∷ [], cut_more read.0 p bytes rest after read.1 begins, ap (λ t. t ++ encode_utf8_all (characters_of p)) read.2 ∙ sym (text_more read.0 p))
 
-whole_rest : (bytes : List ℕ) (at : ℕ) → take (length bytes - at) (drop at bytes) ≡ drop at bytes
+-- what a slice from a place on is
+pub whole_rest : (bytes : List ℕ) (at : ℕ) → take (length bytes - at) (drop at bytes) ≡ drop at bytes
 whole_rest bytes at = let len = length-drop at bytes in take_all (length bytes - at) (drop at bytes) (omega (arith, len))
 
 -- one piece more is read, at its place
@@ -156,3 +157,30 @@ bad_at bytes text new at inside read stuck =
       some = omega (arith, inside, left);
       bad = subst (λ xs. TakesPiece xs text new None) (whole_rest bytes at) stuck;
     }
+
+pub bad_inside : (bytes : List ℕ) (at : ℕ) → IsBadAt bytes at → at < length bytes
+bad_inside bytes at bad = let place = bad.place in let some = bad.some in omega (arith, place, some)
+
+-- the rest is what stands after some bytes
+cut_end : (ps : List Piece) (bytes rest : List ℕ) → Cut bytes ps rest → (front : List ℕ) × (bytes ≡ front ++ rest)
+cut_end [] bytes rest cut = ([], cut)
+cut_end (p ∷ ps) bytes rest cut =
+    let end = cut_end ps cut.0 rest cut.2 in
+    (bytes_of p ++ end.0, cut.1.0 ∙ ap (λ xs. bytes_of p ++ xs) end.1 ∙ sym (append_assoc (bytes_of p) end.0 rest))
+
+first_not_direct : (rest : List ℕ) → 0 < length rest → BeginsNoPiece rest → is_direct (get_or rest 0 0) ≡ false
+first_not_direct [] some stuck = absurd (omega (arith, some))
+first_not_direct (x ∷ rest) some stuck = elim (cases_Bool (is_direct x)) [
+  | inl direct ↦ absurd (stuck (Direct x) rest (refl, direct))
+  | inr other ↦ other
+]
+
+-- a fault lies at a byte that doesn't stand for itself
+pub bad_not_direct : (bytes : List ℕ) (at : ℕ) → IsBadAt bytes at → is_direct (get_or bytes at 0) ≡ false
+bad_not_direct bytes at bad =
+    let end = cut_end bad.before.0 bytes bad.rest bad.before.1 in
+    let len = ap length end.1 ∙ length-append end.0 bad.rest in
+    let place = bad.place in
+    let here : at ≡ length end.0 + 0 = omega (arith, len, place) in
+    let byte : get_or bytes at 0 ≡ get_or bad.rest 0 0 = ap₂ (λ xs n. get_or xs n 0) end.1 here ∙ get_or-append-add end.0 bad.rest 0 0 in
+    ap is_direct byte ∙ first_not_direct bad.rest bad.some bad.bad

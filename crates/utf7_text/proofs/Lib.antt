@@ -1,6 +1,6 @@
-pub mod Cases
-pub mod Digits
+mod Cases
 pub mod Cutting
-pub mod Pushing
-pub mod Units
+mod Digits
+mod Pushing
 pub mod Runs
+mod Units

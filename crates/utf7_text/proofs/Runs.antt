@@ -1,9 +1,10 @@
 -- Texts cut into runs, as they are written.
-use Rattle.std.proofs.Common.{◌≡◌, ℕ, ◌+◌, ◌<◌, ◌≤◌, ◌==◌, ◌||◌, ◌&&◌, tests, ne_eqb, length-append, Bool, true, false, true≢false, cond, if◌then◌else◌, List, [], ◌∷◌, ◌++◌, length, flat_map, refl, sym, ap, ap₂, ◌∙◌, subst, arith, inl, inr, append-nil, append_assoc, chars, IsUtf8, encode_utf8, encode_utf8_all}
+use Rattle.std.proofs.Common.{◌≡◌, ℕ, ◌<◌, ◌==◌, tests, ne_eqb, length-append, Bool, true, false, true≢false, cond, if◌then◌else◌, List, [], ◌∷◌, ◌++◌, length, flat_map, refl, sym, ap, ap₂, ◌∙◌, subst, arith, inl, inr, append-nil, append_assoc, chars, IsUtf8, encode_utf8, encode_utf8_all}
 use Rattle.std.proofs.Math.Utf8.{scalar}
 use Rattle.std.proofs.lemmas.Bool.{and_parts, cases_Bool}
 use Rattle.std.proofs.lemmas.Bool.Decides.{nat_tests}
 use Rattle.std.proofs.lemmas.Str.{IsUtf8-past_char, chars-nil, chars_past_char, encodes-chars, scalars-chars}
+use Rattle.std.specs.Cmp.Derive.{both_true}
 use Rattle.std.specs.Char.Escape.{encode_utf16}
 use Rattle.std.specs.Char.Utf16.{utf16_lossy_chars}
 use Rattle.std.specs.List.{AllByRecursion}
@@ -31,19 +32,15 @@ IsRun (Shift units closed) = Closes units closed
 plain_direct : (c : ℕ) → is_plain c ≡ true → is_direct c ≡ true
 plain_direct c plain = grind (arith, tests, nat_tests)
 
-both : {a b : Bool} → a ≡ true → b ≡ true → (a && b) ≡ true
-both {a = true} {b = b} h g = g
-both {a = false} {b = b} h g = h
-
 one_closes : (c : ℕ) → scalar c ≡ true → Closes (encode_utf16 c) true
 one_closes c s =
-    record { end = refl; spelled = c ∷ []; scalars = both s refl; are = sym (append-nil (encode_utf16 c)); some = some_unit c s }
+    record { end = refl; spelled = c ∷ []; scalars = both_true s refl; are = sym (append-nil (encode_utf16 c)); some = some_unit c s }
 
 more_closes : (c : ℕ) (more : List ℕ) (closed : Bool) → scalar c ≡ true → Closes more closed → Closes (encode_utf16 c ++ more) closed
 more_closes c more closed s closes =
     let len = length-append (encode_utf16 c) more in
     let some = some_unit c s in
-    record { end = closes.end; spelled = c ∷ closes.spelled; scalars = both s closes.scalars; are = ap (λ us. encode_utf16 c ++ us) closes.are; some = omega (arith, len, some) }
+    record { end = closes.end; spelled = c ∷ closes.spelled; scalars = both_true s closes.scalars; are = ap (λ us. encode_utf16 c ++ us) closes.are; some = omega (arith, len, some) }
 
 stands_for : (units : List ℕ) (closed : Bool) → (closes : Closes units closed) → utf16_lossy_chars units ≡ closes.spelled
 stands_for units closed closes = ap utf16_lossy_chars closes.are ∙ lossy_units closes.spelled closes.scalars

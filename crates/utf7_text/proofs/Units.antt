@@ -1,22 +1,16 @@
 -- The UTF-16 units of characters stand for those characters.
-use Rattle.std.proofs.Common.{◌≡◌, ℕ, ◌+◌, ◌-◌, ◌*◌, ◌/◌, ◌%◌, ◌<◌, ◌≤◌, ◌^◌, Bool, true, false, not, cond, List, [], ◌∷◌, ◌++◌, Some, None, is_some, map, length, get_or, flat_map, refl, sym, ap, ◌∙◌, subst, arith, inl, inr, ◌⊎◌, lt-ltb, le-ltb}
+use Rattle.std.proofs.Common.{◌≡◌, ℕ, ◌+◌, ◌-◌, ◌/◌, ◌%◌, ◌<◌, ◌≤◌, true, false, not, List, [], ◌∷◌, ◌++◌, Some, is_some, map, length, flat_map, refl, sym, ap, ◌∙◌, subst, arith, inl, inr, ◌⊎◌}
 use Rattle.std.proofs.Math.Utf8.{scalar, scalar_cases}
 use Rattle.std.proofs.lemmas.Bool.{and_parts, cases_lt}
 use Rattle.std.proofs.lemmas.Str.{utf16_chars-nil, utf16_chars_lone, utf16_chars_pair}
-use Rattle.std.proofs.str.Utf16.{IsPair, lone_unit_char_low, lone_unit_char_high}
+use Rattle.std.proofs.str.Utf16.{lone_unit_char_low, lone_unit_char_high, one_unit, two_units}
 use Rattle.std.specs.Char.Escape.{encode_utf16}
-use Rattle.std.specs.Char.Utf16.{has_unpaired_surrogate, surrogate_pair_char, utf16_chars, utf16_lossy_chars}
-use Rattle.std.specs.List.{AllByRecursion, list_any}
+use Rattle.std.specs.Char.Utf16.{surrogate_pair_char, utf16_chars, utf16_lossy_chars}
+use Rattle.std.specs.List.{list_any}
 use Rattle.std.specs.Option.{unwrap_or}
 use Rattle.std.specs.Str.{all_scalars}
 use Rattle.utf7_text.specs.Pieces.{AreUnits}
 use Rattle.utf7_text.proofs.Digits.{AreSmall}
-
-one_unit : (c : ℕ) → c < 0x1_0000 → encode_utf16 c ≡ c ∷ []
-one_unit c h = rw (lt-ltb c 0x1_0000 h) refl
-
-two_units : (c : ℕ) → 0x1_0000 ≤ c → encode_utf16 c ≡ (0xD800 + (c - 0x1_0000) / 0x400) ∷ (0xDC00 + (c - 0x1_0000) % 0x400) ∷ []
-two_units c h = rw (le-ltb c 0x1_0000 h) refl
 
 -- what is shown of one unit and of two holds of the units of a character
 by_units : (P : List ℕ → Type 0) (c : ℕ) → scalar c ≡ true

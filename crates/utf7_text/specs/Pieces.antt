@@ -17,19 +17,19 @@ pub data Piece : Type 0 where
 abbrev pub is_direct : ℕ → Bool
 is_direct byte = nat_le 32 byte && nat_le byte 126 && not (byte == 43)
 
--- a character of the base64 alphabet
-abbrev pub is_digit : ℕ → Bool
-is_digit byte = is_ascii_alphanumeric byte || byte == 43 || byte == 47
+-- a character of the base64 alphabet, a digit
+abbrev pub is_base64 : ℕ → Bool
+is_base64 byte = is_ascii_alphanumeric byte || byte == 43 || byte == 47
 
--- the units, of two bytes each and the high one first, in base64 without padding
-unfoldable pub digits_of : List ℕ → List ℕ
-digits_of units = encode_of standard_no_pad (flat_map (to_be_bytes w16) units)
+-- the units, of two bytes each and the high one first, in base64 without padding: six bits a character, and zero bits after the last unit
+unfoldable pub base64_of : List ℕ → List ℕ
+base64_of units = encode_of standard_no_pad (flat_map (to_be_bytes w16) units)
 
 -- the bytes of a piece
 abbrev pub bytes_of : Piece → List ℕ
 bytes_of (Direct byte) = byte ∷ []
 bytes_of Plus = codes "+-"
-bytes_of (Shift units closed) = 43 ∷ (digits_of units ++ (if closed then 45 ∷ [] else []))
+bytes_of (Shift units closed) = 43 ∷ (base64_of units ++ (if closed then 45 ∷ [] else []))
 
 -- the characters that a piece stands for
 abbrev pub characters_of : Piece → List ℕ
@@ -46,7 +46,7 @@ pub record AreUnits (units : List ℕ) : Type 0 where
 -- a shift without a `-` ends before these bytes
 abbrev pub EndsShift : List ℕ → Type 0
 EndsShift [] = ⊤
-EndsShift (byte ∷ bytes) = (is_digit byte ≡ false) × (byte ≢ 45)
+EndsShift (byte ∷ bytes) = (is_base64 byte ≡ false) × (byte ≢ 45)
 
 -- the piece may stand before these bytes
 abbrev pub MayStand : Piece → List ℕ → Type 0

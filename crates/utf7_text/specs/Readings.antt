@@ -1,7 +1,7 @@
 -- How UTF-7 text is read. (RFC 2152 with the choices of `Pieces`; where a fault lies is own.)
 use Rattle.std.specs.Prelude.{Option, Some, None, drop, ◌≤◌, ℕ, ◌+◌, ◌<◌, ◌≡◌, List, [], ◌∷◌, ◌++◌, flat_map, length, encode_utf8_all, ⊤}
 use Rattle.std.specs.Char.Utf16.{utf16_lossy_chars}
-use Rattle.utf7_text.specs.Pieces.{AreUnits, Piece, bytes_of, characters_of, digits_of, MayStand}
+use Rattle.utf7_text.specs.Pieces.{AreUnits, Piece, bytes_of, characters_of, base64_of, MayStand}
 use Rattle.utf7_text.specs.declared.fault.Utf7Fault.{Utf7Fault}
 use Rattle.utf7_text.specs.declared.fault.Utf7Fault.TheVariants.{Bad, Memory}
 
@@ -32,7 +32,7 @@ BeginsNoPiece bytes = (piece : Piece) (after : List ℕ) → ¬ Begins bytes pie
 
 -- the digits are those of a shift, which stands for the text
 abbrev pub IsShifted : List ℕ → List ℕ → Type 0
-IsShifted digits text = (units : List ℕ) × AreUnits units × (digits ≡ digits_of units) × (text ≡ encode_utf8_all (utf16_lossy_chars units))
+IsShifted digits text = (units : List ℕ) × AreUnits units × (digits ≡ base64_of units) × (text ≡ encode_utf8_all (utf16_lossy_chars units))
 
 -- The piece that begins the bytes takes so many of them, and what it stands for came to the end of the text; or no piece begins them.
 abbrev pub TakesPiece : List ℕ → List ℕ → List ℕ → Option ℕ → Type 0

@@ -2,7 +2,6 @@
 ghost use Rattle.std.specs.Prelude.{◌≡◌};
 ghost use Rattle.utf7_text.specs.declared.fault.Utf7Fault.TheVariants as fault;
 
-use std::alloc::{AllocError, AllocFailed};
 use thiserror::Error;
 
 /// Why bytes are not read.

@@ -8,7 +8,9 @@ use crate::shift::{digits_len, shift_text};
 use std::alloc::Global;
 use wopi_text::{Bytes, Memory};
 
-/// The text, in UTF-8, that the bytes stand for.
+/// The text, in UTF-8, that the bytes stand for (RFC 2152). Forms that [`crate::utf7_write`] doesn't
+/// write are read too: `+-`, a shift without a `-` after it, and a shift of characters that could
+/// stand for themselves.
 pub fn utf7_read(alloc: Global, bytes: &[u8]) -> Result<Bytes, Utf7Fault>
     ensures ok { IfOk result (IsReading bytes.now) }
     ensures utf8 { IfOk result IsUtf8 }
@@ -18,7 +20,7 @@ pub fn utf7_read(alloc: Global, bytes: &[u8]) -> Result<Bytes, Utf7Fault>
     let mut text = String::new(alloc);
     let mut at = 0;
     'pieces: while at < bytes.len() {
-        let Some(len) = push_piece(alloc, &mut text, &bytes[at..])? else {
+        let Some(len) = take_piece(alloc, &mut text, &bytes[at..])? else {
             return Err(Utf7Fault::Bad { at });
         };
         at += len;
@@ -28,7 +30,7 @@ pub fn utf7_read(alloc: Global, bytes: &[u8]) -> Result<Bytes, Utf7Fault>
 
 /// Appends what the piece at the front stands for, and answers how many bytes it takes; nothing
 /// where no piece begins the bytes.
-fn push_piece(alloc: Global, text: &mut String, bytes: &[u8]) -> Result<Option<usize>, Memory>
+fn take_piece(alloc: Global, text: &mut String, bytes: &[u8]) -> Result<Option<usize>, Memory>
     requires { 0 < length bytes.now }
     ensures { IfOk result (TakesPiece bytes.now (string_bytes text.old) (string_bytes text.new)) }
 {
@@ -37,7 +39,7 @@ fn push_piece(alloc: Global, text: &mut String, bytes: &[u8]) -> Result<Option<u
             text.push('+')?;
             return Ok(Some(2));
         }
-        return push_shift(alloc, text, bytes);
+        return take_shift(alloc, text, bytes);
     }
     if is_direct(bytes[0]) {
         text.push(char::from(bytes[0]))?;
@@ -47,7 +49,7 @@ fn push_piece(alloc: Global, text: &mut String, bytes: &[u8]) -> Result<Option<u
 }
 
 /// The same where a `+` is the first byte, and no `-` the second.
-fn push_shift(alloc: Global, text: &mut String, bytes: &[u8]) -> Result<Option<usize>, Memory>
+fn take_shift(alloc: Global, text: &mut String, bytes: &[u8]) -> Result<Option<usize>, Memory>
     requires plus { slice_get bytes.now 0 ≡ Some 43 }
     requires no_dash { slice_get bytes.now 1 ≢ Some 45 }
     ensures { IfOk result (TakesPiece bytes.now (string_bytes text.old) (string_bytes text.new)) }

@@ -5,11 +5,12 @@ ghost use Rattle.utf7_text.specs.Pieces.{Shift, bytes_of};
 ghost use Rattle.utf7_text.specs.Readings.{IsReading};
 ghost use Rattle.utf7_text.specs.Writing.{is_plain, written};
 
-use crate::shift::push_shift;
+use crate::shift::write_shift;
 use std::alloc::Global;
 use wopi_text::{Bytes, Memory};
 
-/// The text in UTF-7.
+/// The one form in which a text is written: letters and digits of ASCII, the space and `'(),-./:?`
+/// as they are, and each longest run of other characters as one shift with a `-` after it.
 pub fn utf7_write(alloc: Global, text: &str) -> Result<Bytes, Memory>
     ensures text { IfOk result (λ bytes. bytes ≡ written text.now) }
     ensures reads_back { IfOk result (λ bytes. IsReading bytes text.now) }
@@ -56,7 +57,7 @@ fn close(alloc: Global, out: &mut String, held: &mut Vec<u16>) -> Result<(), Mem
     if held.is_empty() {
         return Ok(());
     }
-    push_shift(alloc, out, held)?;
+    write_shift(alloc, out, held)?;
     held.clear();
     Ok(())
 }

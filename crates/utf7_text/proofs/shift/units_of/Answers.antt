@@ -1,7 +1,7 @@
-use Rattle.std.proofs.Common.{◌≡◌, ℕ, ◌%◌, List, Ok, length, refl, sym, ap, ◌∙◌, subst, arith}
+use Rattle.std.proofs.Common.{length, refl, sym, ap, ◌∙◌, subst, arith}
 use Rattle.base64.specs.Engines.{standard_no_pad}
 use Rattle.base64.specs.GeneralPurpose.{IsDecodeFailure, encode_of}
-use Rattle.utf7_text.specs.Pieces.{digits_of}
+use Rattle.utf7_text.specs.Pieces.{base64_of}
 use Rattle.utf7_text.proofs.Digits.{decoded, even_bytes, not_refused}
 use Rattle.utf7_text.proofs.shift.units_of.Goals as goal
 
@@ -16,6 +16,6 @@ returns-then-len-ne0-clause-none c units small same =
     omega (arith, bytes, even)
 
 pub returns-clause-some : goal.returns-clause-some
-unfolding digits_of
+unfolding base64_of
 returns-clause-some c =
     (c.in-Ok.ensures.exact (refl, refl) ∙ ap (encode_of standard_no_pad) (sym c.deref.ensures.value ∙ c.in_ok-units_of_bytes.ensures.bytes), c.in_ok-units_of_bytes.ensures.small)

@@ -1,5 +1,5 @@
-use Rattle.std.proofs.Common.{◌≡◌, ◌++◌, ◌∷◌, [], List, ℕ, IsUtf8, ap, arith, chars, lit<, string_bytes, subst, sym, ◌∙◌}
-use Rattle.utf7_text.proofs.Runs.{Writes, closing, next_char, plain_below, reads_back, writes_end, writes_other, writes_plain}
+use Rattle.std.proofs.Common.{◌≡◌, ◌++◌, ap, chars, string_bytes, subst, sym, ◌∙◌}
+use Rattle.utf7_text.proofs.Runs.{Writes, next_char, plain_below, reads_back, writes_end, writes_other, writes_plain}
 use Rattle.utf7_text.specs.Readings.{IsReading}
 use Rattle.utf7_text.specs.Writing.{written}
 use Rattle.utf7_text.proofs.writing.utf7_write.Goals as goal

@@ -1,7 +1,7 @@
-use Rattle.std.proofs.Common.{◌≡◌, ◌<◌, ◌++◌, append-nil, encode_utf8, string_bytes, refl, sym, ap, ◌∙◌, arith, get_or, drop, length}
+use Rattle.std.proofs.Common.{◌++◌, append-nil, encode_utf8, string_bytes, refl, sym, ap, ◌∙◌, arith, get_or}
 use Rattle.utf7_text.specs.Pieces.{Direct}
 use Rattle.utf7_text.proofs.Pushing.{direct_begins}
-use Rattle.utf7_text.proofs.reading.push_piece.Goals as goal
+use Rattle.utf7_text.proofs.reading.take_piece.Goals as goal
 
 pub returns-then-is_direct : goal.returns-then-is_direct
 returns-then-is_direct c =
