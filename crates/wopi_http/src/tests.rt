@@ -140,6 +140,10 @@ fn each_limit_is_exact(rt: HostRuntime) -> Result<(), Fail> {
     let line = b"GET / HTTP/1.1\r\nHost: a\r\nTransfer-Encoding: chunked\r\n\r\n0;".as_slice();
     let large =
         b"GET / HTTP/1.1\r\nHost: a\r\nTransfer-Encoding: chunked\r\n\r\n1000001;".as_slice();
+    let trailer =
+        b"GET / HTTP/1.1\r\nHost: a\r\nTransfer-Encoding: chunked\r\n\r\n0\r\na:".as_slice();
+    let whole =
+        b"GET / HTTP/1.1\r\nHost: a\r\nTransfer-Encoding: chunked\r\n\r\n1000000\r\n".as_slice();
     let sized = b"GET / HTTP/1.1\r\nHost: a\r\nContent-Length: 16777216\r\n\r\n".as_slice();
     let end = b"\r\n\r\n".as_slice();
     let cases = [
@@ -187,8 +191,23 @@ fn each_limit_is_exact(rt: HostRuntime) -> Result<(), Fail> {
         (large, b"a".as_slice(), 1021, end, 400),
         (last, b"a:b\r\n".as_slice(), 64, b"\r\n".as_slice(), 200),
         (last, b"a:b\r\n".as_slice(), 65, b"\r\n".as_slice(), 400),
+        (trailer, b"a".as_slice(), 16378, end, 200),
+        (trailer, b"a".as_slice(), 16379, end, 400),
+        (
+            whole,
+            b"a".as_slice(),
+            16777216,
+            b"\r\n0\r\n\r\n".as_slice(),
+            200,
+        ),
+        (
+            whole,
+            b"a".as_slice(),
+            16777216,
+            b"\r\n1\r\n".as_slice(),
+            413,
+        ),
         (sized, b"a".as_slice(), 16777216, b"".as_slice(), 200),
-        (sized, b"a".as_slice(), 16777215, b"".as_slice(), 400),
     ];
     for (front, text, count, back, status) in cases {
         let input = joined(alloc, front, &repeated(alloc, text, count)?, back)?;
