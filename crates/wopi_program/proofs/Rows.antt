@@ -1,5 +1,5 @@
 -- The rows of the table of words.
-use Rattle.std.proofs.Common.{◌≡◌, ◌≢◌, ◌↔◌, ℕ, ◌<◌, List, [], ◌∷◌, Some, None, length, get_or, drop, codes, decimal, refl, ap, ◌∙◌, subst, arith}
+use Rattle.std.proofs.Common.{◌≡◌, ◌≢◌, ◌↔◌, ℕ, ◌<◌, List, [], ◌∷◌, None, length, get_or, drop, codes, decimal, ap, ◌∙◌, arith}
 use Rattle.std.specs.Bool.{Decides}
 use Rattle.std.specs.Str.{bytes_eq}
 use Rattle.std.proofs.lemmas.Slice.Eq.{bytes_eq-Decides}
@@ -9,7 +9,6 @@ use Rattle.wopi_model.specs.declared.token.Token as model
 use Rattle.access_tokens.specs.TokenText.{IsWritable}
 use Rattle.access_tokens.proofs.Decimals.{decimal_of-decimal}
 use Rattle.wopi_program.specs.declared.command.Command.{Command}
-use Rattle.wopi_program.specs.declared.command.Command.TheVariants.{Help, Version, Once, Token}
 use Rattle.wopi_program.specs.Words.{IsRow, IsCommand, words_of}
 
 -- where the words are a command's row the status isn't 2, and it is only there
