@@ -1,5 +1,5 @@
 mod Blocks
 mod Bytes
-mod Decimals
+pub mod Decimals
 mod Parts
 mod Readings

@@ -13,8 +13,8 @@ pub(crate) fn rights_of(write: bool) -> &'static [u8]
     if write { b"w" } else { b"r" }
 }
 
-/// Whether the rights allow to write, if they are rights.
-pub(crate) fn may_write(rights: &[u8]) -> Option<bool>
+/// Whether the rights of a token allow to write, if they are rights: `r` or `w`.
+pub fn may_write(rights: &[u8]) -> Option<bool>
     ensures { (write : Bool) → (result ≡ Some write) ↔ (rights.now ≡ rights_of write) }
 {
     match rights {

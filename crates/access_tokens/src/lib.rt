@@ -9,7 +9,8 @@
 //! [`mint`] writes a token under a key and [`read`] reads one, where its text has the form and its
 //! code is right. [`live`] says whether a token that was read counts at a moment: what it allows
 //! is for the caller to judge. A text has one reading at most, and what is minted is read back
-//! (the functions of [`laws`]). Nothing but [`mint`] takes memory.
+//! (the functions of [`laws`]). [`may_write`] and [`moment_read`] read single fields. Nothing but
+//! [`mint`] takes memory.
 #![tactic(auto)]
 
 mod fields;
@@ -21,11 +22,12 @@ mod mac;
 mod minting;
 mod reading;
 
+pub use form::may_write;
 pub use key::Key;
 pub use life::live;
 pub use mac::hmac;
 pub use minting::mint;
-pub use reading::{TokenFault, read};
+pub use reading::{TokenFault, moment_read, read};
 pub use wopi_model::{Token, User};
 
 #[cfg(test)]

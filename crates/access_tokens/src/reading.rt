@@ -79,8 +79,9 @@ fn number_read(digits: &[u8]) -> Option<u64>
     decimal_read(digits)
 }
 
-/// The moment with these digits, if they are a canonical decimal below the end of moments.
-fn moment_read(digits: &[u8]) -> Option<u64>
+/// The moment with these digits, if they are a canonical decimal below the end of moments, the
+/// year 10,000. It takes no memory.
+pub fn moment_read(digits: &[u8]) -> Option<u64>
     ensures { (moment : ℕ) → (result ≡ Some moment) ↔ (IsMoment moment × (digits.now ≡ decimal moment)) }
 {
     let moment = number_read(digits)?;

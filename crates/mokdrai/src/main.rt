@@ -1,8 +1,8 @@
 //! Makes the real streams, folders and clocks, hands them to the top call, and ends with its status.
 #![tactic(auto)]
 
-ghost use Rattle.std.specs.Prelude.{◌≡◌, IfOk, length, map, string_bytes, vec_len, Some, None};
-ghost use Rattle.wopi_program.specs.Words.{command_of};
+ghost use Rattle.std.specs.Prelude.{◌≡◌, ◌↔◌, IfOk, IsTrue, map, string_bytes, vec_len};
+ghost use Rattle.wopi_program.specs.Words.{IsRow};
 
 use outside::{DirFolder, StdSink, StdSource, SystemClock, TcpDialer, TcpListen};
 use std::alloc::Global;
@@ -13,16 +13,29 @@ use std::time;
 use wopi_program::{Command, Outside, read_words, run};
 use wopi_text::Memory;
 
+/// Whether the words' command works with a folder and a clock.
+fn has_folder(words: &[String]) -> bool
+    ensures { IsTrue result ↔ IsRow (map string_bytes words.now) Command.Once }
+{
+    match read_words(words) {
+        Some(Command::Once) => true,
+        Some(Command::Token) => false,
+        Some(Command::Help) => false,
+        Some(Command::Version) => false,
+        None => false,
+    }
+}
+
 /// The folder of the words, where their command has one.
 fn folders<'a, R: Files>(
     alloc: Global,
     rt: &'a R,
     words: &[String],
 ) -> Result<Vec<DirFolder<'a, R>>, Memory>
-    ensures { command_of (map string_bytes words.now) ≡ Some Command.Once → IfOk result (λ all. vec_len all ≡ 1) }
+    ensures { IsRow (map string_bytes words.now) Command.Once → IfOk result (λ all. vec_len all ≡ 1) }
 {
     let mut all = Vec::new(alloc);
-    if let Some(Command::Once) = read_words(words) {
+    if has_folder(words) {
         let name = match words {
             [_, folder, ..] => folder.as_str(),
             _ => "",
@@ -38,10 +51,10 @@ fn clocks<'a, T: time::Clock>(
     clock: &'a T,
     words: &[String],
 ) -> Result<Vec<SystemClock<'a, T>>, Memory>
-    ensures { command_of (map string_bytes words.now) ≡ Some Command.Once → IfOk result (λ all. vec_len all ≡ 1) }
+    ensures { IsRow (map string_bytes words.now) Command.Once → IfOk result (λ all. vec_len all ≡ 1) }
 {
     let mut all = Vec::new(alloc);
-    if let Some(Command::Once) = read_words(words) {
+    if has_folder(words) {
         all.push(SystemClock::new(clock))?;
     }
     Ok(all)

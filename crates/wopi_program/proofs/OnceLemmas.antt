@@ -1,63 +1,18 @@
 -- From a shard that was served to a run of `once`.
-use Rattle.std.proofs.Common.{◌≡◌, ℕ, zero, suc, ◌*◌, ◌%◌, ◌<◌, ◌≤◌, Bool, true, false, cond, List, [], ◌∷◌, length, get_or, set, Option, Some, None, refl, sym, ap, ◌∙◌, subst, arith, eqb-true}
-use Rattle.std.specs.Str.{bytes_eq}
-use Rattle.std.specs.Prelude.{codes, not, ◌==◌, ◌&&◌, nat_le}
-use Rattle.std.specs.List.{list_all, AllPass}
-use Rattle.std.proofs.lemmas.Bool.{and_parts, leb-true}
-use Rattle.std.proofs.lemmas.List.Sums.{AllPass-from_list_all}
-use Rattle.hex.specs.Hex.{is_hex_digit, decode_of}
-use Rattle.hex.proofs.HexLemmas.{decode_of-digits, decode_of-ok}
+use Rattle.std.proofs.Common.{◌≡◌, ◌≢◌, ℕ, false, List, [], Option, None, sym, ap, ◌∙◌, subst, inl, inr, arith}
 use Rattle.outside.specs.Folder.{Files}
 use Rattle.outside.specs.Clock.{Gives}
-use Rattle.access_tokens.specs.Key.{IsHexOf}
 use Rattle.host_core.specs.Value.{Book, IsLawful}
 use Rattle.host_core.specs.Opening.{IsOpening, Fits}
 use Rattle.host_core.specs.Single.{sight_of, SeesItsOwn}
-use Rattle.host_server.specs.Bases.{is_base}
 use Rattle.host_server.specs.declared.desk.Desk.{Desk}
 use Rattle.host_server.specs.declared.connection.ConnEnd.{ConnEnd}
+use Rattle.host_server.specs.declared.connection.ConnEnd.TheVariants as conn
 use Rattle.host_server.specs.Connection.{Serves}
-use Rattle.wopi_program.specs.declared.command.Command.{Command}
-use Rattle.wopi_program.specs.declared.command.Command.TheVariants.{Help, Version, Once}
-use Rattle.wopi_program.specs.Words.{command_of, is_key, key_word, base_word}
-use Rattle.wopi_program.specs.Once.{IsFresh, ServesShard, OpensAndServes, told_by}
-
-nonzero : (n : ℕ) → not (n == 0) ≡ true → 0 < n
-nonzero zero e = absurd (cc e)
-nonzero (suc n) e = omega arith
-
--- a key's word is the hex of a key
-pub is_key_hex : (word : List ℕ) → is_key word ≡ true → (key : List ℕ) × IsHexOf key word
-is_key_hex word h =
-    let whole = and_parts _ _ h in
-    let front = and_parts _ _ whole.0 in
-    let sizes = and_parts _ _ front.0 in
-    let even : length word % 2 ≡ 0 = eqb-true _ _ front.1 in
-    let decoded = decode_of-digits word even (AllPass-from_list_all is_hex_digit word whole.1) in
-    let ok = decode_of-ok word decoded.0 decoded.1 in
-    let len = ok.2 in
-    let some = nonzero (length word) sizes.0 in
-    let few = leb-true (length word) 128 sizes.1 in
-    (decoded.0, ((omega (arith, len, some), omega (arith, len, few)), decoded.1))
-
-some_once : (b : Bool) → cond b (Some Once) None ≡ Some Once → b ≡ true
-some_once true e = refl
-some_once false e = absurd (cc e)
-
-no_once : (a b : Bool) → ¬ (cond a (Some Help) (cond b (Some Version) None) ≡ Some Once)
-no_once true b e = absurd (cc e)
-no_once false true e = absurd (cc e)
-no_once false false e = absurd (cc e)
-
-pub once_words : (words : List (List ℕ)) → command_of words ≡ Some Once → (is_key (key_word words) ≡ true) × (is_base (base_word words) ≡ true)
-once_words [] e = absurd (cc e)
-once_words (word ∷ []) e = absurd (no_once (bytes_eq word (codes "--help")) (bytes_eq word (codes "--version")) e)
-once_words (word ∷ folder ∷ []) e = absurd (cc e)
-once_words (word ∷ folder ∷ key ∷ []) e = absurd (cc e)
-once_words (word ∷ folder ∷ key ∷ base ∷ []) e =
-    let all = and_parts _ _ (some_once (bytes_eq word (codes "once") && not (length folder == 0) && is_key key && is_base base) e) in
-    ((and_parts _ _ all.0).1, all.1)
-once_words (word ∷ folder ∷ key ∷ base ∷ more ∷ rest) e = absurd (cc e)
+use Rattle.wopi_program.specs.declared.outside_world.Outside.{Outside}
+use Rattle.wopi_program.specs.declared.once.OnceEnd.{OnceEnd}
+use Rattle.wopi_program.specs.declared.once.OnceEnd.TheVariants.{Served, FolderFault, TooLarge, Memory}
+use Rattle.wopi_program.specs.Once.{IsFresh, ServesShard, OpensAndServes, Finishes, OnceEnds}
 
 module _ {F : Type 0} (files : F → Option Files) (faults : F → ℕ) where
   pub shard_serves : (desk : Desk) (end : ConnEnd) (left clock clock' held held' : Option (List ℕ)) (first began ended last : Book F) (folder : F)
@@ -102,9 +57,22 @@ module _ {F : Type 0} (files : F → Option Files) (faults : F → ℕ) where
     serves = serves;
   }
 
--- one clock of one
-pub told_one : {C : Type 0} (moments : C → Option (List ℕ)) (clocks : List C) (clock : C) → length clocks ≡ 1 → clock ≡ get_or clocks 0 clock
-    → told_by moments clocks ≡ moments clock
-told_one moments [] clock one is = absurd (omega (arith, one))
-told_one moments (first ∷ []) clock one is = ap moments (sym is)
-told_one moments (first ∷ second ∷ clocks) clock one is = absurd (omega (arith, one))
+Finishes-known : {K : Type 0} (held : K → Option (List ℕ)) (count : K → ℕ) (status : ℕ) (old new : K) (end : OnceEnd)
+    → Finishes held count status old new end → status ≢ 2
+Finishes-known held count status old new (Served conn.Done) is two = absurd (omega (arith, is.0, two))
+Finishes-known held count status old new (Served conn.ReadFault) is two = absurd (omega (arith, is.0, two))
+Finishes-known held count status old new (Served conn.WriteFault) is two = absurd (omega (arith, is.0, two))
+Finishes-known held count status old new (Served conn.Memory) is two = absurd (omega (arith, is.0, two))
+Finishes-known held count status old new FolderFault is two = absurd (omega (arith, is.0, two))
+Finishes-known held count status old new (TooLarge name) (inl told) two = absurd (omega (arith, told.0, two))
+Finishes-known held count status old new (TooLarge name) (inr want) two = absurd (omega (arith, want.0, two))
+Finishes-known held count status old new Memory is two = absurd (omega (arith, is.0, two))
+
+-- a run of `once` doesn't end as words that are no command
+pub OnceEnds-known : {S K F N D C : Type 0} (left : S → Option (List ℕ)) (read_faults : S → ℕ) (held : K → Option (List ℕ)) (write_faults : K → ℕ)
+    (files : F → Option Files) (faults : F → ℕ) (moments : C → Option (List ℕ)) (words : List (List ℕ)) (status : ℕ) (old new : Outside S K F N D C)
+    → OnceEnds left read_faults held write_faults files faults moments words status old new → status ≢ 2
+OnceEnds-known left read_faults held write_faults files faults moments words status old new (inl want) =
+    λ two. let six = want.status_is in absurd (omega (arith, six, two))
+OnceEnds-known left read_faults held write_faults files faults moments words status old new (inr ran) =
+    Finishes-known held write_faults status old.notes new.notes ran.end ran.finishes

@@ -1,4 +1,6 @@
 pub mod Words
 pub mod Notes
+pub mod Telling
 pub mod Once
+pub mod Token
 pub mod Runs

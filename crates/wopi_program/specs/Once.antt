@@ -1,10 +1,9 @@
 -- What a run of `once` promises.
-use Rattle.std.specs.Prelude.{◌≡◌, ◌⊎◌, ⊤, ℕ, Bool, false, List, [], ◌∷◌, ◌++◌, Option, None, Some, codes}
+use Rattle.std.specs.Prelude.{◌≡◌, ◌⊎◌, ⊤, ℕ, false, List, [], ◌∷◌, ◌++◌, Option, None, codes}
 use Rattle.outside.specs.Faults.{Rose}
 use Rattle.outside.specs.Clock.{Gives}
 use Rattle.outside.specs.Folder.{Files, Keeps}
 use Rattle.wopi_text.specs.Ids.{id_of}
-use Rattle.access_tokens.specs.Key.{IsHexOf}
 use Rattle.host_core.specs.declared.opening.StartFault.{StartFault}
 use Rattle.host_core.specs.declared.opening.StartFault.TheVariants as start
 use Rattle.host_core.specs.Value.{Book, IsLawful}
@@ -18,7 +17,8 @@ use Rattle.wopi_program.specs.declared.outside_world.Outside.{Outside}
 use Rattle.wopi_program.specs.declared.once.OnceEnd.{OnceEnd}
 use Rattle.wopi_program.specs.declared.once.OnceEnd.TheVariants.{Served, FolderFault, TooLarge, Memory}
 use Rattle.wopi_program.specs.Notes.{Notes, NotesFor}
-use Rattle.wopi_program.specs.Words.{key_word, base_word}
+use Rattle.wopi_program.specs.Words.{IsOnceRow}
+use Rattle.wopi_program.specs.Telling.{Wants}
 
 -- the status of a connection's end
 abbrev pub status_of : ConnEnd → ℕ
@@ -117,20 +117,15 @@ abbrev pub Untouched : {S K : Type 0} → OnceEnd → S → S → K → K → Ty
 Untouched (Served end) source source' sink sink' = ⊤
 Untouched end source source' sink sink' = (source' ≡ source) × (sink' ≡ sink)
 
--- There was no memory to begin: all but the notes stays.
-pub record OnceWants {S K F N D C : Type 0} (held : K → Option (List ℕ)) (write_faults : K → ℕ) (status : ℕ) (old new : Outside S K F N D C) : Type 0 where
-  pub status_is : status ≡ 6
-  pub notes : NotesFor held write_faults 6 old.notes new.notes
-  pub others : new ≡ record old { notes = new.notes }
-
 -- A run under the key and the base of the words: what it did, the causes of the faults, the status's line on the notes; and all else stays.
 pub record OnceRan {S K F N D C : Type 0} (left : S → Option (List ℕ)) (read_faults : S → ℕ) (held : K → Option (List ℕ)) (write_faults : K → ℕ)
     (files : F → Option Files) (faults : F → ℕ) (moments : C → Option (List ℕ)) (words : List (List ℕ)) (status : ℕ) (old new : Outside S K F N D C)
     : Type 0 where
   pub end : OnceEnd
   pub key : List ℕ
-  pub key_is : IsHexOf key (key_word words)
-  pub runs : OnceRunsIn files faults moments key (base_word words) end (left old.input) (held old.output) (held new.output)
+  pub base : List ℕ
+  pub row : IsOnceRow words key base
+  pub runs : OnceRunsIn files faults moments key base end (left old.input) (held old.output) (held new.output)
       old.folders.items new.folders.items old.clocks.items new.clocks.items
   pub untouched : Untouched end old.input new.input old.output new.output
   pub read_cause : status ≡ 3 → Rose (read_faults old.input) (read_faults new.input)
@@ -141,4 +136,4 @@ pub record OnceRan {S K F N D C : Type 0} (left : S → Option (List ℕ)) (read
 abbrev pub OnceEnds : {S K F N D C : Type 0} → (S → Option (List ℕ)) → (S → ℕ) → (K → Option (List ℕ)) → (K → ℕ)
     → (F → Option Files) → (F → ℕ) → (C → Option (List ℕ)) → List (List ℕ) → ℕ → Outside S K F N D C → Outside S K F N D C → Type 0
 OnceEnds left read_faults held write_faults files faults moments words status old new =
-    OnceWants held write_faults status old new ⊎ OnceRan left read_faults held write_faults files faults moments words status old new
+    Wants held write_faults status old new ⊎ OnceRan left read_faults held write_faults files faults moments words status old new

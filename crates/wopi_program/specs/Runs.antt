@@ -1,30 +1,21 @@
--- What the top call promises of the commands that only write a text, and of words that are none.
-use Rattle.std.specs.Prelude.{◌≡◌, ◌⊎◌, ℕ, List, Option, codes}
-use Rattle.std.specs.Io.KnownBytes.{Appends}
-use Rattle.outside.specs.Faults.{Rose}
-use Rattle.outside.specs.Stream.{GrewByPrefix}
+-- What the top call promises of each command. (Own.)
+use Rattle.std.specs.Prelude.{ℕ, List, Option}
+use Rattle.outside.specs.Folder.{Files}
+use Rattle.wopi_program.specs.declared.command.Command.{Command}
+use Rattle.wopi_program.specs.declared.command.Command.TheVariants as command
 use Rattle.wopi_program.specs.declared.outside_world.Outside.{Outside}
-use Rattle.wopi_program.specs.Notes.{NotesFor}
+use Rattle.wopi_program.specs.Telling.{TextEnds, help_text, version_text}
+use Rattle.wopi_program.specs.Once.{OnceEnds}
+use Rattle.wopi_program.specs.Token.{TokenEnds}
 
-unfoldable pub help_text : List ℕ
-help_text = codes "mokdrai once FOLDER KEY BASE   answers the requests of the input on the output\nmokdrai --help                 writes these lines\nmokdrai --version              writes the version\n"
-
-unfoldable pub version_text : List ℕ
-version_text = codes "mokdrai 0.1.0\n"
-
--- The output grew by the text, or, where its count rose, by a prefix of it; all else but the notes stays.
-pub record TextEnds {S K F N D C : Type 0} (held : K → Option (List ℕ)) (write_faults : K → ℕ) (text : List ℕ) (status : ℕ) (old new : Outside S K F N D C)
-    : Type 0 where
-  pub statuses : (status ≡ 0) ⊎ (status ≡ 4)
-  pub done : status ≡ 0 → Appends (held old.output) (held new.output) text
-  pub cut : status ≡ 4 → GrewByPrefix (held old.output) (held new.output) text
-  pub write_cause : status ≡ 4 → Rose (write_faults old.output) (write_faults new.output)
-  pub notes : NotesFor held write_faults status old.notes new.notes
-  pub others : new ≡ record old { output = new.output; notes = new.notes }
-
--- The words are none: all but the notes stays.
-pub record UsageEnds {S K F N D C : Type 0} (held : K → Option (List ℕ)) (write_faults : K → ℕ) (status : ℕ) (old new : Outside S K F N D C)
-    : Type 0 where
-  pub status_is : status ≡ 2
-  pub notes : NotesFor held write_faults status old.notes new.notes
-  pub others : new ≡ record old { notes = new.notes }
+-- how a run of a command ends, with which status and what it leaves
+abbrev pub RunEnds : {S K F N D C : Type 0} → (S → Option (List ℕ)) → (S → ℕ) → (K → Option (List ℕ)) → (K → ℕ)
+    → (F → Option Files) → (F → ℕ) → (C → Option (List ℕ)) → List (List ℕ) → ℕ → Outside S K F N D C → Outside S K F N D C → Command → Type 0
+RunEnds left read_faults held write_faults files faults moments words status old new command.Help =
+    TextEnds held write_faults help_text status old new
+RunEnds left read_faults held write_faults files faults moments words status old new command.Version =
+    TextEnds held write_faults version_text status old new
+RunEnds left read_faults held write_faults files faults moments words status old new command.Once =
+    OnceEnds left read_faults held write_faults files faults moments words status old new
+RunEnds left read_faults held write_faults files faults moments words status old new command.Token =
+    TokenEnds held write_faults words status old new

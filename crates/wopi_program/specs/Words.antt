@@ -1,36 +1,40 @@
--- The words of the command line, and the commands that they are. (Own.)
-use Rattle.std.specs.Prelude.{ℕ, ◌%◌, Bool, List, [], ◌∷◌, Option, None, Some, codes, length, nat_le, not, ◌==◌, ◌&&◌, if◌then◌else◌}
-use Rattle.std.specs.List.{list_all}
-use Rattle.std.specs.Str.{bytes_eq}
-use Rattle.hex.specs.Hex.{is_hex_digit}
+-- The words of the command line, and the commands whose rows they are. (Own.)
+use Rattle.std.specs.Prelude.{◌≡◌, ◌<◌, ℕ, true, List, [], ◌∷◌, length, codes, decimal}
+use Rattle.access_tokens.specs.Key.{IsHexOf}
+use Rattle.access_tokens.specs.TokenText.{IsWritable, rights_of}
 use Rattle.host_server.specs.Bases.{is_base}
+use Rattle.wopi_model.specs.declared.token.Token.{Token}
 use Rattle.wopi_program.specs.declared.command.Command.{Command}
-use Rattle.wopi_program.specs.declared.command.Command.TheVariants.{Help, Version, Once}
-
--- a key: hex of 1 to 64 bytes
-abbrev pub is_key : List ℕ → Bool
-is_key word = not (length word == 0) && nat_le (length word) 128 && (length word % 2 == 0) && list_all is_hex_digit word
-
-abbrev pub single_of : List ℕ → Option Command
-single_of word =
-    if bytes_eq word (codes "--help") then Some Help else if bytes_eq word (codes "--version") then Some Version else None
+use Rattle.wopi_program.specs.declared.command.Command.TheVariants as command
 
 -- once FOLDER KEY BASE
-abbrev pub once_of : List ℕ → List ℕ → List ℕ → List ℕ → Option Command
-once_of word folder key base =
-    if bytes_eq word (codes "once") && not (length folder == 0) && is_key key && is_base base then Some Once else None
+pub record IsOnceRow (words : List (List ℕ)) (key base : List ℕ) : Type 0 where
+  pub folder : List ℕ
+  pub digits : List ℕ
+  pub words_are : words ≡ codes "once" ∷ folder ∷ digits ∷ base ∷ []
+  pub folder_is : 0 < length folder
+  pub key_is : IsHexOf key digits
+  pub base_is : is_base base ≡ true
 
--- the command of a list of words, or none where they are in no row
-abbrev pub command_of : List (List ℕ) → Option Command
-command_of (word ∷ []) = single_of word
-command_of (word ∷ folder ∷ key ∷ base ∷ []) = once_of word folder key base
-command_of words = None
+-- USER NAME RIGHTS SERIAL ISSUED EXPIRES: a token in words, its numbers in decimal
+abbrev pub words_of : Token → List (List ℕ)
+words_of token =
+    token.user ∷ token.file ∷ rights_of token.write ∷ decimal token.serial ∷ decimal token.issued ∷ decimal token.expires ∷ []
 
--- the words for the key and the base
-abbrev pub key_word : List (List ℕ) → List ℕ
-key_word (word ∷ folder ∷ key ∷ base ∷ []) = key
-key_word words = []
+-- token KEY USER NAME RIGHTS SERIAL ISSUED EXPIRES
+pub record IsTokenRow (words : List (List ℕ)) (key : List ℕ) (token : Token) : Type 0 where
+  pub digits : List ℕ
+  pub words_are : words ≡ codes "token" ∷ digits ∷ words_of token
+  pub key_is : IsHexOf key digits
+  pub token_is : IsWritable token
 
-abbrev pub base_word : List (List ℕ) → List ℕ
-base_word (word ∷ folder ∷ key ∷ base ∷ []) = base
-base_word words = []
+-- the words are a row of this command
+abbrev pub IsRow : List (List ℕ) → Command → Type 0
+IsRow words command.Help = words ≡ codes "--help" ∷ []
+IsRow words command.Version = words ≡ codes "--version" ∷ []
+IsRow words command.Once = (key : List ℕ) × (base : List ℕ) × IsOnceRow words key base
+IsRow words command.Token = (key : List ℕ) × (token : Token) × IsTokenRow words key token
+
+-- the words are a row of some command
+abbrev pub IsCommand : List (List ℕ) → Type 0
+IsCommand words = (command : Command) × IsRow words command

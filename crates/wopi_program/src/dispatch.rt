@@ -1,10 +1,10 @@
 //! The top call.
-ghost use Rattle.std.specs.Prelude.{◌≡◌, ◌↔◌, length, map, string_bytes, None, Some};
-ghost use Rattle.wopi_program.specs.Words.{command_of};
-ghost use Rattle.wopi_program.specs.Runs.{TextEnds, UsageEnds, help_text, version_text};
-ghost use Rattle.wopi_program.specs.Once.{OnceEnds};
+ghost use Rattle.std.specs.Prelude.{◌≡◌, ◌↔◌, length, map, string_bytes};
+ghost use Rattle.wopi_program.specs.Words.{IsCommand, IsRow};
+ghost use Rattle.wopi_program.specs.Telling.{UsageEnds};
+ghost use Rattle.wopi_program.specs.Runs.{RunEnds};
 
-use crate::{Command, Outside, help, read_words, refuse, run_once, tell, version};
+use crate::{Command, Outside, help, read_words, refuse, run_once, run_token, tell, version};
 use outside::{Clock, Dialer, Folder, Listener, Sink, Source};
 use std::alloc::Global;
 use std::sync::Wait;
@@ -20,20 +20,17 @@ pub fn run<
     D: Dialer,
     C: Clock + Send,
 >(_rt: &R, alloc: Global, words: &[String], outside: &mut Outside<S, K, F, N, D, C>) -> u8
-    requires once { command_of (map string_bytes words.now) ≡ Some Command.Once
+    requires once { IsRow (map string_bytes words.now) Command.Once
         → (length outside.old.folders.items ≡ 1) × (length outside.old.clocks.items ≡ 1) }
 
-    ensures usage { result ≡ 2 ↔ (command_of (map string_bytes words.now) ≡ None) }
-    ensures usage_leaves { command_of (map string_bytes words.now) ≡ None → UsageEnds K.held K.write_faults result outside.old outside.new }
-    ensures help { command_of (map string_bytes words.now) ≡ Some Command.Help
-        → TextEnds K.held K.write_faults help_text result outside.old outside.new }
-    ensures version { command_of (map string_bytes words.now) ≡ Some Command.Version
-        → TextEnds K.held K.write_faults version_text result outside.old outside.new }
-    ensures once { command_of (map string_bytes words.now) ≡ Some Command.Once
-        → OnceEnds S.left S.read_faults K.held K.write_faults F.files F.faults C.moments (map string_bytes words.now) result outside.old outside.new }
+    ensures usage { result ≡ 2 ↔ (¬ IsCommand (map string_bytes words.now)) }
+    ensures usage_leaves { ¬ IsCommand (map string_bytes words.now) → UsageEnds K.held K.write_faults result outside.old outside.new }
+    ensures runs { (command : Command) → IsRow (map string_bytes words.now) command
+        → RunEnds S.left S.read_faults K.held K.write_faults F.files F.faults C.moments (map string_bytes words.now) result outside.old outside.new command }
 {
     match read_words(words) {
         Some(Command::Once) => run_once(alloc, words, outside),
+        Some(Command::Token) => run_token(alloc, words, outside),
         Some(Command::Help) => tell(outside, help()),
         Some(Command::Version) => tell(outside, version()),
         None => refuse(outside),

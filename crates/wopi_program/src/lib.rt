@@ -2,15 +2,19 @@
 //!
 //! [`run`] is the whole program but for the making of the real streams, folders and clocks. It is
 //! generic in all that it meets, so that its contract speaks of the bytes that were read and
-//! written. The command `once` answers the requests of its input, one after another, on its output.
+//! written. The command `once` answers the requests of its input, one after another, on its output;
+//! `token` writes the text of an access token.
 #![tactic(auto)]
 
 mod command;
 mod dispatch;
 mod notes;
 mod once;
+mod once_words;
 mod outside_world;
 mod telling;
+mod token;
+mod token_words;
 
 pub use command::{Command, read_words};
 pub use dispatch::run;
@@ -18,6 +22,7 @@ pub use notes::note;
 pub use once::{OnceEnd, run_once};
 pub use outside_world::Outside;
 pub use telling::{help, refuse, tell, version};
+pub use token::run_token;
 
 #[cfg(test)]
 mod tests;

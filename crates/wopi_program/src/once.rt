@@ -1,14 +1,15 @@
 //! The command `once`: one connection over the input and the output, and one shard over the folder.
-ghost use Rattle.std.specs.Prelude.{◌≡◌, ◌≤◌, length, map, string_bytes, true, IfOk, None, Some};
+ghost use Rattle.std.specs.Prelude.{◌≡◌, ◌≤◌, length, map, string_bytes, true, IfOk, None};
 ghost use Rattle.outside.specs.Faults.{Rose};
-ghost use Rattle.access_tokens.specs.Key.{IsHexOf};
 ghost use Rattle.host_core.specs.Single.{sight_of, SeesItsOwn};
 ghost use Rattle.host_server.specs.Bases.{is_base};
 ghost use Rattle.host_server.specs.Connection.{Serves};
-ghost use Rattle.wopi_program.specs.Words.{command_of, is_key, key_word, base_word};
+ghost use Rattle.wopi_program.specs.Words.{IsRow};
 ghost use Rattle.wopi_program.specs.Notes.{NotesFor};
 ghost use Rattle.wopi_program.specs.Once.{OnceEnds, ServesShard, OnceRuns, OnceRunsIn, Untouched, end_of, Finishes, TooLargeEnds, too_large_line, status_of};
 
+use crate::once_words::once_words;
+use crate::telling::want;
 use crate::{Command, Outside, note};
 use access_tokens::Key;
 use host_core::{Shard, Single, StartFault};
@@ -218,29 +219,6 @@ fn finish<K: Sink>(alloc: Global, notes: &mut K, end: &OnceEnd) -> u8
     }
 }
 
-/// The words for the key and the base.
-fn key_and_base(words: &[String]) -> (&str, &str)
-    requires { command_of (map string_bytes words.now) ≡ Some Command.Once }
-    ensures key { result.0.now ≡ key_word (map string_bytes words.now) }
-    ensures base { result.1.now ≡ base_word (map string_bytes words.now) }
-{
-    match words {
-        [_, _, key, base] => (key.as_str(), base.as_str()),
-        _ => unreachable!(),
-    }
-}
-
-/// The key that its word writes.
-fn key_of(word: &str) -> Key
-    requires { is_key word.now ≡ true }
-    ensures { IsHexOf result word.now }
-{
-    match Key::read(word.as_bytes()) {
-        Some(key) => key,
-        None => unreachable!(),
-    }
-}
-
 /// Answers the requests of the input on the output, in their order, by calls on one shard over the
 /// folder.
 pub fn run_once<S: Source, K: Sink, F: Folder, N: Listener, D: Dialer, C: Clock>(
@@ -248,18 +226,18 @@ pub fn run_once<S: Source, K: Sink, F: Folder, N: Listener, D: Dialer, C: Clock>
     words: &[String],
     outside: &mut Outside<S, K, F, N, D, C>,
 ) -> u8
-    requires words { command_of (map string_bytes words.now) ≡ Some Command.Once }
+    requires words { IsRow (map string_bytes words.now) Command.Once }
     requires folders { length outside.old.folders.items ≡ 1 }
     requires clocks { length outside.old.clocks.items ≡ 1 }
 
     ensures { OnceEnds S.left S.read_faults K.held K.write_faults F.files F.faults C.moments (map string_bytes words.now)
         result outside.old outside.new }
 {
-    let (key, base) = key_and_base(words);
-    let key = key_of(key);
+    let Some((key, base)) = once_words(words) else {
+        unreachable!()
+    };
     let Ok(base) = Bytes::from_slice(alloc, base.as_bytes()) else {
-        note(&mut outside.notes, b"out of memory\n");
-        return 6;
+        return want(outside);
     };
     let end = once_in(
         alloc,

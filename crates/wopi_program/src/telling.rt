@@ -1,10 +1,10 @@
-//! The commands that only write a text, and words that are no command.
+//! What commands that only write a text have in common, two of them, and words that are no command.
 ghost use Rattle.std.specs.Prelude.{◌≡◌, ◌⊎◌, ◌≤◌};
 ghost use Rattle.std.specs.Io.KnownBytes.{Appends};
 ghost use Rattle.outside.specs.Faults.{Rose};
 ghost use Rattle.outside.specs.Stream.{GrewByPrefix};
 ghost use Rattle.wopi_program.specs.Notes.{NotesFor};
-ghost use Rattle.wopi_program.specs.Runs.{TextEnds, UsageEnds, help_text, version_text};
+ghost use Rattle.wopi_program.specs.Telling.{TextEnds, UsageEnds, Wants, help_text, version_text};
 
 use crate::{Outside, note};
 use outside::{Clock, Dialer, Failed, Folder, Listener, Sink, Source, write_whole};
@@ -44,16 +44,26 @@ pub fn tell<S: Source, K: Sink, F: Folder, N: Listener, D: Dialer, C: Clock>(
     status
 }
 
+/// Says that there was no memory to begin.
+pub(crate) fn want<S: Source, K: Sink, F: Folder, N: Listener, D: Dialer, C: Clock>(
+    outside: &mut Outside<S, K, F, N, D, C>,
+) -> u8
+    ensures { Wants K.held K.write_faults result outside.old outside.new }
+{
+    note(&mut outside.notes, b"out of memory\n");
+    6
+}
+
 /// The words that the program knows.
-#[tactic(auto, unfolding(crate::specs::Runs::help_text))]
+#[tactic(auto, unfolding(crate::specs::Telling::help_text))]
 pub fn help() -> &'static [u8]
     ensures { result.now ≡ help_text }
 {
-    b"mokdrai once FOLDER KEY BASE   answers the requests of the input on the output\nmokdrai --help                 writes these lines\nmokdrai --version              writes the version\n"
+    b"mokdrai once FOLDER KEY BASE   answers the requests of the input on the output\nmokdrai token KEY USER NAME RIGHTS SERIAL ISSUED EXPIRES   writes the text of an access token\nmokdrai --help                 writes these lines\nmokdrai --version              writes the version\n"
 }
 
 /// The program's name and version.
-#[tactic(auto, unfolding(crate::specs::Runs::version_text))]
+#[tactic(auto, unfolding(crate::specs::Telling::version_text))]
 pub fn version() -> &'static [u8]
     ensures { result.now ≡ version_text }
 {

@@ -3,8 +3,10 @@ mod faults;
 mod files;
 mod refusals;
 mod replies;
+mod tokens;
 
-ghost use Rattle.std.specs.Prelude.{◌≡◌, IfOk, length};
+ghost use Rattle.std.specs.Prelude.{◌≡◌, ◌∷◌, IfOk, IsTrue, length};
+ghost use Rattle.outside.specs.Script.{all_moments};
 
 use crate::{Outside, run};
 use outside::{
@@ -15,9 +17,9 @@ use std::sync::Wait;
 use std::thread::Threads;
 use wopi_text::{Bytes, Memory};
 
-type Links = MemListener<Pair<MemSource, MemSink>>;
+pub type Links = MemListener<Pair<MemSource, MemSink>>;
 
-type Fakes = Outside<MemSource, MemSink, MemFolder, Links, ScriptDialer, ScriptClock>;
+pub type Fakes = Outside<MemSource, MemSink, MemFolder, Links, ScriptDialer, ScriptClock>;
 
 /// The words of a run.
 pub const ONCE: [&str; 4] = ["once", ".", "4a656665", "http://localhost:8880"];
@@ -65,15 +67,18 @@ fn folders(alloc: Global, failing: &[u64]) -> Result<Vec<MemFolder>, Memory>
     Ok(folders)
 }
 
-fn clocks(alloc: Global) -> Result<Vec<ScriptClock>, Memory>
+/// A clock that opens at 0 and then gives these moments, the last one for good.
+pub fn clocks(alloc: Global, moments: &[u64]) -> Result<Vec<ScriptClock>, Memory>
+    requires { IsTrue (all_moments (0 ∷ moments.now)) }
     ensures { IfOk result (λ clocks. length clocks.items ≡ 1) }
 {
     let mut clocks = Vec::new(alloc);
-    clocks.push(ScriptClock::new(0, [0, 1, 2, 3, 4].to_vec(alloc)?))?;
+    clocks.push(ScriptClock::new(0, moments.to_vec(alloc)?))?;
     Ok(clocks)
 }
 
-fn fakes(alloc: Global, given: &Given) -> Result<Fakes, Memory>
+/// What the program meets, in memory.
+pub fn fakes(alloc: Global, given: &Given) -> Result<Fakes, Memory>
     ensures { IfOk result (λ outside. (length outside.folders.items ≡ 1) × (length outside.clocks.items ≡ 1)) }
 {
     let input = Bytes::from_slice(alloc, given.input)?;
@@ -86,7 +91,7 @@ fn fakes(alloc: Global, given: &Given) -> Result<Fakes, Memory>
         folders: folders(alloc, given.failing_stores)?,
         listeners: Vec::new(alloc),
         dialer: ScriptDialer::new(alloc, Vec::new(alloc)),
-        clocks: clocks(alloc)?,
+        clocks: clocks(alloc, &[0, 1, 2, 3, 4])?,
     })
 }
 
@@ -97,8 +102,20 @@ pub fn run_with<R: Threads + Wait + Sync>(
     list: &[&str],
     given: &Given,
 ) -> Result<Left, Memory> {
+    run_in(rt, alloc, list, fakes(alloc, given)?)
+}
+
+/// Runs the program with these words, where it meets this.
+pub fn run_in<R: Threads + Wait + Sync>(
+    rt: &R,
+    alloc: Global,
+    list: &[&str],
+    mut outside: Fakes,
+) -> Result<Left, Memory>
+    requires folders { length outside.folders.items ≡ 1 }
+    requires clocks { length outside.clocks.items ≡ 1 }
+{
     let words = words(alloc, list)?;
-    let mut outside = fakes(alloc, given)?;
     let status = run(rt, alloc, &words, &mut outside);
     let Outside {
         input: _,
@@ -117,16 +134,20 @@ pub fn run_with<R: Threads + Wait + Sync>(
     })
 }
 
-/// Runs `once` on an input that comes in one piece.
-pub fn once<R: Threads + Wait + Sync>(rt: &R, alloc: Global, input: &[u8]) -> Result<Left, Memory> {
-    let given = Given {
+/// An input that comes in one piece, and streams that don't fail.
+pub fn whole(input: &[u8]) -> Given<'_> {
+    Given {
         input,
         piece: 1_000_000,
         failing_reads: &[],
         failing_writes: &[],
         failing_stores: &[],
-    };
-    run_with(rt, alloc, &ONCE, &given)
+    }
+}
+
+/// Runs `once` on an input that comes in one piece.
+pub fn once<R: Threads + Wait + Sync>(rt: &R, alloc: Global, input: &[u8]) -> Result<Left, Memory> {
+    run_with(rt, alloc, &ONCE, &whole(input))
 }
 
 /// A request on `a.csv` with a live token: method and path, the header lines, and a body.
@@ -137,8 +158,20 @@ pub fn request(
     headers: &str,
     body: &str,
 ) -> Result<Vec<u8>, Memory> {
+    request_by(alloc, TOKEN, method, path, headers, body)
+}
+
+/// The same with this token.
+pub fn request_by(
+    alloc: Global,
+    token: &str,
+    method: &str,
+    path: &str,
+    headers: &str,
+    body: &str,
+) -> Result<Vec<u8>, Memory> {
     let text = format!(in alloc;
-        "{method} /wopi/files/612e637376{path}?access_token={TOKEN} HTTP/1.1\r\nHost: h\r\n{headers}Content-Length: {}\r\n\r\n{body}",
+        "{method} /wopi/files/612e637376{path}?access_token={token} HTTP/1.1\r\nHost: h\r\n{headers}Content-Length: {}\r\n\r\n{body}",
         body.len()
     )?;
     Ok(text.into_bytes())

@@ -1,0 +1,28 @@
+use Rattle.std.proofs.Common.{Some, ap, ◌∙◌}
+use Rattle.wopi_program.specs.declared.command.Command.TheVariants.{Once, Token}
+use Rattle.wopi_program.proofs.Rows.{known}
+use Rattle.wopi_program.proofs.OnceLemmas.{OnceEnds-known}
+use Rattle.wopi_program.proofs.dispatch.run.Goals as goal
+
+pub run_once-requires-clause-words : goal.run_once-requires-clause-words
+run_once-requires-clause-words g c κs within = (c.read_words.ensures Once).0 (c.in-Some-Once.is ∙ ap Some c.in-Some-Once.field-0-is)
+
+pub run_once-requires-clause-folders : goal.run_once-requires-clause-folders
+run_once-requires-clause-folders g c κs within =
+    (c.requires.once ((c.read_words.ensures Once).0 (c.in-Some-Once.is ∙ ap Some c.in-Some-Once.field-0-is))).0
+
+pub run_once-requires-clause-clocks : goal.run_once-requires-clause-clocks
+run_once-requires-clause-clocks g c κs within =
+    (c.requires.once ((c.read_words.ensures Once).0 (c.in-Some-Once.is ∙ ap Some c.in-Some-Once.field-0-is))).1
+
+pub run_token-requires-after_bounds : goal.run_token-requires-after_bounds
+run_token-requires-after_bounds g c κs within = (c.read_words.ensures Token).0 (c.in-Some-Token.is ∙ ap Some c.in-Some-Token.field-0-is)
+
+pub returns-in-Some-Once-clause-usage : goal.returns-in-Some-Once-clause-usage
+returns-in-Some-Once-clause-usage g c =
+    known _ Once ((c.read_words.ensures Once).0 (c.in-Some-Once.is ∙ ap Some c.in-Some-Once.field-0-is)) c.run_once.result
+    (OnceEnds-known _ _ _ _ _ _ _ _ _ _ _ c.run_once.ensures)
+
+pub returns-in-Some-Once-clause-usage_leaves : goal.returns-in-Some-Once-clause-usage_leaves
+returns-in-Some-Once-clause-usage_leaves g c =
+    λ none. absurd (none (Once, (c.read_words.ensures Once).0 (c.in-Some-Once.is ∙ ap Some c.in-Some-Once.field-0-is)))

@@ -1,0 +1,18 @@
+use Rattle.std.proofs.Common.{◌≡◌, codes, map, string_bytes, ap, subst, arith, rules}
+use Rattle.std.proofs.lemmas.List.{take_rest}
+use Rattle.access_tokens.specs.Key.{IsHexOf}
+use Rattle.wopi_program.proofs.Rows.{four_items, token_row}
+use Rattle.wopi_program.proofs.token_words.token_words.Goals as goal
+
+pub returns-in_ok-token-in-len4-up-clause-some : goal.returns-in_ok-token-in-len4-up-clause-some
+returns-in_ok-token-in-len4-up-clause-some c =
+    let word : string_bytes c.word-item.result ≡ codes "token" = search rules in
+    let are = ap (map string_bytes) (four_items c.args.words.now c.word-item.result c.key-item.result c.user-item.result c.name-item.result
+    (omega arith) c.word-item.is c.key-item.is c.user-item.is c.name-item.is) in
+    let told = c.in_ok-token-in-len4-up.ensures.some in
+    record {
+      digits = string_bytes c.key-item.result;
+      words_are = token_row _ _ _ _ _ _ _ _ _ are word c.as_str-in-len4-up.ensures.value c.as_str-in-len4-up-2.ensures.value (rw take_rest at told.1);
+      key_is = subst (IsHexOf c.in_ok-key-in-len4-up.key) c.as_bytes.ensures.value c.in_ok-key-in-len4-up.ensures.value;
+      token_is = told.0;
+    }

@@ -1,0 +1,23 @@
+-- What a run of `token` promises. (Own.)
+use Rattle.std.specs.Prelude.{◌⊎◌, ℕ, List, ◌++◌, Option, codes}
+use Rattle.access_tokens.specs.TokenText.{token_text}
+use Rattle.wopi_model.specs.declared.token.Token.{Token}
+use Rattle.wopi_program.specs.declared.outside_world.Outside.{Outside}
+use Rattle.wopi_program.specs.Words.{IsTokenRow}
+use Rattle.wopi_program.specs.Telling.{TextEnds, Wants}
+
+-- the token's text under the key, and a line feed
+abbrev pub token_line : List ℕ → Token → List ℕ
+token_line key token = token_text key token ++ codes "\n"
+
+-- The line of the words' token under their key was written, or a front of it where the output failed.
+pub record TokenTold {S K F N D C : Type 0} (held : K → Option (List ℕ)) (write_faults : K → ℕ) (words : List (List ℕ)) (status : ℕ) (old new : Outside S K F N D C)
+    : Type 0 where
+  pub key : List ℕ
+  pub token : Token
+  pub row : IsTokenRow words key token
+  pub told : TextEnds held write_faults (token_line key token) status old new
+
+abbrev pub TokenEnds : {S K F N D C : Type 0} → (K → Option (List ℕ)) → (K → ℕ) → List (List ℕ) → ℕ → Outside S K F N D C → Outside S K F N D C → Type 0
+TokenEnds held write_faults words status old new =
+    Wants held write_faults status old new ⊎ TokenTold held write_faults words status old new
