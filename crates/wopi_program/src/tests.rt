@@ -1,4 +1,5 @@
 //! The program over fakes in memory: each request and its reply to the byte.
+mod chunks;
 mod faults;
 mod files;
 mod refusals;
