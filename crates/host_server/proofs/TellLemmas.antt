@@ -1,6 +1,6 @@
 -- From a call to an answer.
 use Rattle.std.proofs.Common.{◌≡◌, ℕ, List, [], ◌∷◌, ◌++◌, Result, Ok, Err, refl, sym, ap, ◌∙◌, subst, inl, inr}
-use Rattle.std.specs.Prelude.{IfOk}
+use Rattle.std.specs.Prelude.{IfOk, true, false, if◌then◌else◌}
 use Rattle.wopi_text.specs.declared.faults.Memory.{Memory}
 use Rattle.wopi_model.specs.declared.token.Token.{Token}
 use Rattle.wopi_model.specs.declared.calls.Call.{Call}
@@ -15,28 +15,36 @@ use Rattle.host_server.specs.declared.desk.Desk.{Desk}
 use Rattle.host_server.specs.declared.answering.Called.TheVariants.{Ruled as RuledCall, Full}
 use Rattle.host_server.specs.Deeds.{Deed, Made, Blocked, Does}
 use Rattle.host_server.specs.Answering as answering
-use Rattle.host_server.specs.Answering.{status_only, journal_full, call_of, told, IsInfo, Ruled, Answered}
+use Rattle.host_server.specs.Answering.{call_of, Ruled, Answered}
+use Rattle.host_server.specs.Telling.{status_only, journal_full, is_info, info_told, ruling_told, told_of, told}
 use Rattle.host_server.specs.Calls as calls
 use Rattle.host_server.specs.Calls.{Calls, TellsDeed, IsBegun, TellsCall, Tells}
 use Rattle.host_server.specs.Turns.{Answers}
 use Rattle.host_server.proofs.DeedLemmas.{Does-nil}
 
+-- what is told of CheckFileInfo's ruling, and of another one
+pub info_of_call : (call : Call) (ruling : Ruling) (name : List ℕ) (token : Token) → name ≡ call.name → token ≡ call.token → is_info call.act ≡ true
+    → info_told name token ruling ≡ told_of call ruling
+info_of_call call ruling name token named held is =
+    ap (λ n. info_told n token ruling) named ∙ ap (λ t. info_told call.name t ruling) held
+    ∙ sym (ap (λ info. if info then info_told call.name call.token ruling else ruling_told ruling) is)
+
+pub ruling_of_call : (call : Call) (ruling : Ruling) → is_info call.act ≡ false → ruling_told ruling ≡ told_of call ruling
+ruling_of_call call ruling is = sym (ap (λ info. if info then info_told call.name call.token ruling else ruling_told ruling) is)
+
 module _ (always : Sight → Type 0) (old new : Sight) (call : Call) (moment : ℕ) where
-  pub ruled_tells : (ruling : Ruling) (r : Result Answer Memory) → Calls always old new call moment (RuledCall ruling) → IfOk r (λ a. a ≡ told ruling)
+  pub ruled_tells : (ruling : Ruling) (r : Result Answer Memory) → Calls always old new call moment (RuledCall ruling) → IfOk r (λ a. a ≡ told_of call ruling)
       → TellsCall always old new call moment r
-  ruled_tells ruling (Ok a) (entry, name, time, is, does) said = (Made entry ∷ [], does, calls.ruled entry name time refl (said ∙ ap told (sym is)))
+  ruled_tells ruling (Ok a) (entry, name, time, is, does) said =
+      (Made entry ∷ [], does, calls.ruled entry name time refl (said ∙ ap (told_of call) (sym is) ∙ ap (λ c. told_of c entry.ruling) (sym name)))
   ruled_tells ruling (Err fault) (entry, name, time, is, does) said =
-      (Made entry ∷ [], does, inr ([], told entry.ruling, calls.ruled entry name time refl refl))
+      (Made entry ∷ [], does, inr ([], told entry, calls.ruled entry name time refl refl))
 
   pub full_tells : (r : Result Answer Memory) → Calls always old new call moment Full → IfOk r (λ a. a ≡ journal_full) → TellsCall always old new call moment r
   full_tells (Ok a) (full, does) said = (Blocked call moment old new ∷ [], does, calls.full old new full refl said)
   full_tells (Err fault) (full, does) said = (Blocked call moment old new ∷ [], does, inr ([], journal_full, calls.full old new full refl refl))
 
 module _ (desk : Desk) (ask : Ask) (body : List ℕ) (moment : ℕ) (always : Sight → Type 0) where
-  pub info_tells : (s : Sight) (a : Answer) → IsInfo ask.op → a ≡ status_only 501
-      → (deeds : List Deed) × Does always s s deeds × Ruled desk ask body moment deeds a
-  info_tells s a info said = ([], Does-nil always s, answering.not_built info refl said)
-
   pub dead_tells : (s : Sight) (a : Answer) → ((token : Token) → ¬ (IsSigned desk.key ask.token token)) → a ≡ status_only 401
       → (deeds : List Deed) × Does always s s deeds × Ruled desk ask body moment deeds a
   dead_tells s a none said = ([], Does-nil always s, answering.unauthorized none refl said)

@@ -10,7 +10,8 @@ use Rattle.host_server.specs.declared.desk.Desk.{Desk}
 use Rattle.host_server.specs.declared.answering.Called.{Called}
 use Rattle.host_server.specs.declared.answering.Called.TheVariants.{Ruled as RuledCall, Full, Memory as NoMemory}
 use Rattle.host_server.specs.Deeds.{Deed, Made, Blocked, IsFull, Does}
-use Rattle.host_server.specs.Answering.{journal_full, told, Ruled}
+use Rattle.host_server.specs.Telling.{journal_full, told}
+use Rattle.host_server.specs.Answering.{Ruled}
 
 -- what became of a call, and what was done
 abbrev pub Calls : (Sight → Type 0) → Sight → Sight → Call → ℕ → Called → Type 0
@@ -21,7 +22,7 @@ Calls always old new call moment NoMemory = Does always old new []
 
 -- an answer tells what became of a call
 pub data TellsDeed (call : Call) (moment : ℕ) (deeds : List Deed) (a : Answer) : Type 0 where
-  ruled : (entry : Entry) → entry.call ≡ call → entry.moment ≡ moment → deeds ≡ Made entry ∷ [] → a ≡ told entry.ruling → TellsDeed call moment deeds a
+  ruled : (entry : Entry) → entry.call ≡ call → entry.moment ≡ moment → deeds ≡ Made entry ∷ [] → a ≡ told entry → TellsDeed call moment deeds a
   full : (before after : Sight) → IsFull call moment before after → deeds ≡ Blocked call moment before after ∷ [] → a ≡ journal_full
       → TellsDeed call moment deeds a
 

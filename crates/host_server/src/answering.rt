@@ -1,47 +1,19 @@
 //! Requests answered by calls on files.
-ghost use Rattle.std.specs.Prelude.{◌≡◌, ◌↔◌, ◌==◌, [], IsTrue, IfOk, codes, unwrap_or, if◌then◌else◌};
+ghost use Rattle.std.specs.Prelude.{◌≡◌, true, false};
 ghost use Rattle.wopi_model.specs.Moment.{IsMoment};
-ghost use Rattle.wopi_headers.specs.declared.answer.BodyKind.TheVariants.{Plain};
-ghost use Rattle.host_server.specs.Answering.{status_only, journal_full, act_of, kind_of_contents, told, IsInfo};
+ghost use Rattle.host_server.specs.Telling.{is_info};
+ghost use Rattle.host_server.specs.Answering.{act_of};
 ghost use Rattle.host_server.specs.Calls.{Calls, TellsCall, Tells};
 ghost use Rattle.host_server.specs.Turns.{Answers};
 
 use crate::desk::Desk;
+use crate::telling::{info_told, journal_full, ruling_told, status_only};
 use access_tokens::read;
 use host_core::{Act, Call, CallFault, Caller, Ruling};
 use std::alloc::Global;
-use wopi_headers::{Answer, Ask, AskFault, BodyKind, Op, ask_of};
+use wopi_headers::{Answer, Ask, AskFault, Op, ask_of};
 use wopi_http::Request;
-use wopi_text::{Bytes, LockField, Memory};
-
-/// An answer that tells nothing but its status.
-fn status_only(alloc: Global, status: u16) -> Answer
-    ensures { result ≡ status_only status }
-{
-    Answer {
-        status,
-        lock: LockField::Absent,
-        reason: None,
-        version: None,
-        kind: BodyKind::None,
-        body: Bytes::from_vec(Vec::new(alloc)),
-    }
-}
-
-/// The answer where a shard takes no more.
-fn journal_full(alloc: Global) -> Result<Answer, Memory>
-    ensures { IfOk result (λ a. a ≡ journal_full) }
-{
-    let body = Bytes::from_slice(alloc, b"journal full")?;
-    Ok(Answer {
-        status: 500,
-        lock: LockField::Absent,
-        reason: None,
-        version: None,
-        kind: BodyKind::Plain,
-        body,
-    })
-}
+use wopi_text::{Bytes, Memory};
 
 /// The act of an operation, with the request's body.
 fn act_of(op: Op, body: Bytes) -> Act
@@ -61,47 +33,6 @@ fn act_of(op: Op, body: Bytes) -> Act
         Op::Relock { old, id } => Act::Relock { old, id },
         Op::Delete => Act::Delete,
     }
-}
-
-/// The kind and the body of the answer that tells a ruling of this status.
-fn told_body(
-    alloc: Global,
-    status: u16,
-    contents: Option<Bytes>,
-) -> Result<(BodyKind, Bytes), Memory>
-    ensures { IfOk result (λ parts. (parts.0 ≡ (if status == 500 then Plain else kind_of_contents contents))
-        × (parts.1 ≡ (if status == 500 then codes "store fault" else unwrap_or contents []))) }
-{
-    if status == 500 {
-        return Ok((BodyKind::Plain, Bytes::from_slice(alloc, b"store fault")?));
-    }
-    match contents {
-        Some(contents) => Ok((BodyKind::Octets, contents)),
-        None => Ok((BodyKind::None, Bytes::from_vec(Vec::new(alloc)))),
-    }
-}
-
-/// The answer that tells a ruling. Contents are moved into it.
-fn told(alloc: Global, ruling: Ruling) -> Result<Answer, Memory>
-    ensures { IfOk result (λ a. a ≡ told ruling) }
-{
-    let Ruling {
-        status,
-        lock,
-        reason,
-        version,
-        size: _,
-        contents,
-    } = ruling;
-    let (kind, body) = told_body(alloc, status, contents)?;
-    Ok(Answer {
-        status,
-        lock,
-        reason,
-        version,
-        kind,
-        body,
-    })
 }
 
 /// What became of a call.
@@ -126,8 +57,56 @@ fn make<C: Caller>(caller: &mut C, call: Call, moment: u64) -> Called
     }
 }
 
-/// Makes the call, and tells what became of it.
+/// Makes the call, which is no CheckFileInfo, and tells what became of it.
 fn make_and_tell<C: Caller>(
+    alloc: Global,
+    caller: &mut C,
+    call: Call,
+    moment: u64,
+) -> Result<Answer, Memory>
+    requires moment { IsMoment moment }
+    requires other { is_info call.act ≡ false }
+    ensures tells { TellsCall C.always (C.sight caller.old) (C.sight caller.new) call moment result }
+    ensures basis { C.basis caller.new ≡ C.basis caller.old }
+    ensures references { C.references caller.new ≡ C.references caller.old }
+{
+    match make(caller, call, moment) {
+        Called::Ruled(ruling) => ruling_told(alloc, ruling),
+        Called::Full => journal_full(alloc),
+        Called::Memory => Err(Memory),
+    }
+}
+
+/// Makes CheckFileInfo's call, and tells what became of it.
+fn check_file_info<C: Caller>(
+    alloc: Global,
+    caller: &mut C,
+    call: Call,
+    moment: u64,
+) -> Result<Answer, Memory>
+    requires moment { IsMoment moment }
+    requires info { is_info call.act ≡ true }
+    ensures tells { TellsCall C.always (C.sight caller.old) (C.sight caller.new) call moment result }
+    ensures basis { C.basis caller.new ≡ C.basis caller.old }
+    ensures references { C.references caller.new ≡ C.references caller.old }
+{
+    let name = call.name.copy();
+    let token = call.token.copy();
+    match make(caller, call, moment) {
+        Called::Ruled(ruling) => info_told(alloc, &name, &token, ruling),
+        Called::Full => journal_full(alloc),
+        Called::Memory => Err(Memory),
+    }
+}
+
+fn is_info(act: &Act) -> bool
+    ensures { result ≡ is_info act.now }
+{
+    matches!(act, Act::Info)
+}
+
+/// Makes the call of an act, and tells what became of it.
+fn answer_call<C: Caller>(
     alloc: Global,
     caller: &mut C,
     call: Call,
@@ -138,17 +117,11 @@ fn make_and_tell<C: Caller>(
     ensures basis { C.basis caller.new ≡ C.basis caller.old }
     ensures references { C.references caller.new ≡ C.references caller.old }
 {
-    match make(caller, call, moment) {
-        Called::Ruled(ruling) => told(alloc, ruling),
-        Called::Full => journal_full(alloc),
-        Called::Memory => Err(Memory),
+    if is_info(&call.act) {
+        check_file_info(alloc, caller, call, moment)
+    } else {
+        make_and_tell(alloc, caller, call, moment)
     }
-}
-
-fn is_info(op: &Op) -> bool
-    ensures { IsTrue result ↔ IsInfo op.now }
-{
-    matches!(op, Op::Info)
 }
 
 /// Answers what was asked, with the request's body.
@@ -165,9 +138,6 @@ fn answer_ask<C: Caller>(
     ensures basis { C.basis caller.new ≡ C.basis caller.old }
     ensures references { C.references caller.new ≡ C.references caller.old }
 {
-    if is_info(&ask.op) {
-        return Ok(status_only(alloc, 501));
-    }
     let Ok(token) = read(&desk.key, ask.token.as_slice()) else {
         return Ok(status_only(alloc, 401));
     };
@@ -177,7 +147,7 @@ fn answer_ask<C: Caller>(
         token,
         act: act_of(op, body),
     };
-    make_and_tell(alloc, caller, call, moment)
+    answer_call(alloc, caller, call, moment)
 }
 
 /// Answers a request: what it asks for is read from its head, its token is read under the desk's key,

@@ -4,7 +4,8 @@
 //! access_tokens under the key of the `Desk`, and the call goes to a `Caller` of host_core. What a
 //! request may be answered is the relation `Answered`, over the deeds that were done for it: the entry
 //! that the call made, or that its shard was full. A store that failed is 500 with the body `store
-//! fault`, and a shard that takes no more is 500 with `journal full`. CheckFileInfo is answered 501.
+//! fault`, and a shard that takes no more is 500 with `journal full`. CheckFileInfo's body is written by
+//! file_info.
 //!
 //! `serve_connection` answers the messages of a link one after another: up to the end of the input, a
 //! message that is none, one that closes, or the 10,000th (`Conn`), and at a fault of the link a front
@@ -15,6 +16,7 @@ mod answering;
 mod connection;
 mod desk;
 mod sending;
+mod telling;
 
 pub use answering::answer;
 pub use connection::{ConnEnd, MESSAGE_LIMIT, serve_connection};

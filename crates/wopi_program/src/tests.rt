@@ -1,6 +1,7 @@
 //! The program over fakes in memory: each request and its reply to the byte.
 mod faults;
 mod files;
+mod info;
 mod refusals;
 mod replies;
 

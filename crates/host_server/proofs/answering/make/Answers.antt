@@ -1,6 +1,6 @@
-use Rattle.std.proofs.Common.{refl, sym, subst}
+use Rattle.std.proofs.Common.{refl}
 use Rattle.host_server.proofs.DeedLemmas.{does_make, does_nothing, does_block}
-use Rattle.host_core.specs.Caller.{entry_of, Refuses}
+use Rattle.host_core.specs.Caller.{entry_of}
 use Rattle.host_server.proofs.answering.make.Goals as goal
 
 pub returns-in-Ok-clause-calls : goal.returns-in-Ok-clause-calls
