@@ -1,5 +1,5 @@
 -- What a request is answered, and what is done for it (MS-WOPI; that an unreadable token is 401 and a full shard 500 is own).
-use Rattle.std.specs.Prelude.{ℕ, ◌≡◌, List, [], ◌∷◌}
+use Rattle.std.specs.Prelude.{ℕ, ◌≡◌, List, [], ◌∷◌, Option, None, Some}
 use Rattle.wopi_model.specs.declared.token.Token.{Token}
 use Rattle.wopi_model.specs.declared.calls.Act.{Act}
 use Rattle.wopi_model.specs.declared.calls.Act.TheVariants as act
@@ -10,35 +10,46 @@ use Rattle.wopi_headers.specs.declared.answer.Answer.{Answer}
 use Rattle.wopi_headers.specs.declared.ask.Ask.{Ask}
 use Rattle.wopi_headers.specs.declared.ask.Op.{Op}
 use Rattle.wopi_headers.specs.declared.ask.Op.TheVariants as op
+use Rattle.wopi_headers.specs.declared.ask.Target.{Target}
 use Rattle.wopi_headers.specs.Operations.{AsksFor, IsRefusal}
 use Rattle.access_tokens.specs.TokenText.{IsSigned}
 use Rattle.host_core.specs.Caller.{Sight}
 use Rattle.host_server.specs.declared.desk.Desk.{Desk}
-use Rattle.host_server.specs.Deeds.{Deed, Made, Blocked, IsFull}
+use Rattle.host_server.specs.declared.copying.Copying.{Copying}
+use Rattle.host_server.specs.Deeds.{Deed, Made, Blocked, IsFull, IsOf}
 use Rattle.host_server.specs.Telling.{status_only, journal_full, told}
+use Rattle.host_server.specs.Copies.{Copied}
 
--- the act of an operation, with the request's body
-abbrev pub act_of : Op → List ℕ → Act
-act_of op.Info body = act.Info
-act_of (op.Get most) body = act.Get most
-act_of (op.Put lock) body = act.Put lock body
-act_of (op.Lock id) body = act.Lock id
-act_of op.GetLock body = act.GetLock
-act_of (op.Refresh id) body = act.Refresh id
-act_of (op.Unlock id) body = act.Unlock id
-act_of (op.Relock old id) body = act.Relock old id
-act_of op.Delete body = act.Delete
+-- the one act of an operation, with the request's body; PutRelativeFile is more than one
+abbrev pub act_of : Op → List ℕ → Option Act
+act_of op.Info body = Some act.Info
+act_of (op.Get most) body = Some (act.Get most)
+act_of (op.Put lock) body = Some (act.Put lock body)
+act_of (op.Lock id) body = Some (act.Lock id)
+act_of op.GetLock body = Some act.GetLock
+act_of (op.Refresh id) body = Some (act.Refresh id)
+act_of (op.Unlock id) body = Some (act.Unlock id)
+act_of (op.Relock old id) body = Some (act.Relock old id)
+act_of (op.PutRelative target) body = None
+act_of op.Delete body = Some act.Delete
 
-abbrev pub call_of : Ask → Token → List ℕ → Call
-call_of ask token body = record { name = ask.file; token = token; act = act_of ask.op body }
+abbrev pub call_of : Ask → Token → Act → Call
+call_of ask token asked = record { name = ask.file; token = token; act = asked }
+
+abbrev pub copying_of : Ask → Token → Target → List ℕ → ℕ → Copying
+copying_of ask token target body moment =
+    record { source = ask.file; token = token; target = target; contents = body; moment = moment }
 
 -- What an ask with this body is answered at this moment, and what is done for it.
 pub data Ruled (desk : Desk) (ask : Ask) (body : List ℕ) (moment : ℕ) (deeds : List Deed) (a : Answer) : Type 0 where
   unauthorized : ((token : Token) → ¬ (IsSigned desk.key ask.token token)) → deeds ≡ [] → a ≡ status_only 401 → Ruled desk ask body moment deeds a
-  ruled : (token : Token) (entry : Entry) → IsSigned desk.key ask.token token → entry.call ≡ call_of ask token body → entry.moment ≡ moment
-      → deeds ≡ Made entry ∷ [] → a ≡ told entry → Ruled desk ask body moment deeds a
-  full : (token : Token) (before after : Sight) → IsSigned desk.key ask.token token → IsFull (call_of ask token body) moment before after
-      → deeds ≡ Blocked (call_of ask token body) moment before after ∷ [] → a ≡ journal_full → Ruled desk ask body moment deeds a
+  ruled : (token : Token) (asked : Act) (entry : Entry) → IsSigned desk.key ask.token token → act_of ask.op body ≡ Some asked
+      → IsOf (call_of ask token asked) moment entry → deeds ≡ Made entry ∷ [] → a ≡ told entry → Ruled desk ask body moment deeds a
+  full : (token : Token) (asked : Act) (before after : Sight) → IsSigned desk.key ask.token token → act_of ask.op body ≡ Some asked
+      → IsFull (call_of ask token asked) moment before after
+      → deeds ≡ Blocked (call_of ask token asked) moment before after ∷ [] → a ≡ journal_full → Ruled desk ask body moment deeds a
+  copied : (token : Token) (target : Target) → IsSigned desk.key ask.token token → ask.op ≡ op.PutRelative target
+      → Copied desk (copying_of ask token target body moment) deeds a → Ruled desk ask body moment deeds a
 
 -- What a request is answered at this moment, and what is done for it.
 pub data Answered (desk : Desk) (q : Request) (moment : ℕ) (deeds : List Deed) (a : Answer) : Type 0 where

@@ -2,58 +2,52 @@
 ghost use Rattle.std.specs.Prelude.{◌≡◌, true, false};
 ghost use Rattle.wopi_model.specs.Moment.{IsMoment};
 ghost use Rattle.host_server.specs.Telling.{is_info};
-ghost use Rattle.host_server.specs.Answering.{act_of};
-ghost use Rattle.host_server.specs.Calls.{Calls, TellsCall, Tells};
+ghost use Rattle.host_server.specs.Answering.{Ruled};
+ghost use Rattle.host_server.specs.Calls.{TellsCall, Tells};
+ghost use Rattle.host_server.specs.Tries.{IsTask};
 ghost use Rattle.host_server.specs.Turns.{Answers};
 
+use crate::calling::{Called, make};
+use crate::copying::{Copying, put_beside};
 use crate::desk::Desk;
 use crate::telling::{info_told, journal_full, ruling_told, status_only};
 use access_tokens::read;
-use host_core::{Act, Call, CallFault, Caller, Ruling};
+use host_core::{Act, Call, Caller};
 use std::alloc::Global;
-use wopi_headers::{Answer, Ask, AskFault, Op, ask_of};
+use wopi_headers::{Answer, Ask, AskFault, Op, Target, ask_of};
 use wopi_http::Request;
 use wopi_text::{Bytes, Memory};
 
-/// The act of an operation, with the request's body.
-fn act_of(op: Op, body: Bytes) -> Act
-    ensures { result ≡ act_of op body }
+/// What an operation is for the host.
+#[derive(Drop)]
+enum Task {
+    /// One act.
+    One(Act),
+    /// A PutRelativeFile of these contents.
+    Copy { target: Target, contents: Bytes },
+}
+
+/// What an operation is for the host, with the request's body.
+fn task_of(op: Op, body: Bytes) -> Task
+    ensures { IsTask op body result }
 {
     match op {
-        Op::Info => Act::Info,
-        Op::Get { most } => Act::Get { most },
-        Op::Put { lock } => Act::Put {
+        Op::Info => Task::One(Act::Info),
+        Op::Get { most } => Task::One(Act::Get { most }),
+        Op::Put { lock } => Task::One(Act::Put {
             lock,
             contents: body,
+        }),
+        Op::Lock { id } => Task::One(Act::Lock { id }),
+        Op::GetLock => Task::One(Act::GetLock),
+        Op::Refresh { id } => Task::One(Act::Refresh { id }),
+        Op::Unlock { id } => Task::One(Act::Unlock { id }),
+        Op::Relock { old, id } => Task::One(Act::Relock { old, id }),
+        Op::PutRelative { target } => Task::Copy {
+            target,
+            contents: body,
         },
-        Op::Lock { id } => Act::Lock { id },
-        Op::GetLock => Act::GetLock,
-        Op::Refresh { id } => Act::Refresh { id },
-        Op::Unlock { id } => Act::Unlock { id },
-        Op::Relock { old, id } => Act::Relock { old, id },
-        Op::Delete => Act::Delete,
-    }
-}
-
-/// What became of a call.
-#[derive(Drop)]
-enum Called {
-    Ruled(Ruling),
-    Full,
-    Memory,
-}
-
-/// Makes a call.
-fn make<C: Caller>(caller: &mut C, call: Call, moment: u64) -> Called
-    requires { IsMoment moment }
-    ensures calls { Calls C.always (C.sight caller.old) (C.sight caller.new) call moment result }
-    ensures basis { C.basis caller.new ≡ C.basis caller.old }
-    ensures references { C.references caller.new ≡ C.references caller.old }
-{
-    match caller.call(call, moment) {
-        Ok(receipt) => Called::Ruled(receipt.ruling),
-        Err(CallFault::Full(_)) => Called::Full,
-        Err(CallFault::Memory(_)) => Called::Memory,
+        Op::Delete => Task::One(Act::Delete),
     }
 }
 
@@ -66,12 +60,12 @@ fn make_and_tell<C: Caller>(
 ) -> Result<Answer, Memory>
     requires moment { IsMoment moment }
     requires other { is_info call.act ≡ false }
-    ensures tells { TellsCall C.always (C.sight caller.old) (C.sight caller.new) call moment result }
+    ensures tells { Tells (TellsCall call moment) C.always (C.sight caller.old) (C.sight caller.new) result }
     ensures basis { C.basis caller.new ≡ C.basis caller.old }
     ensures references { C.references caller.new ≡ C.references caller.old }
 {
     match make(caller, call, moment) {
-        Called::Ruled(ruling) => ruling_told(alloc, ruling),
+        Called::Ruled { ruling, back: _ } => ruling_told(alloc, ruling),
         Called::Full => journal_full(alloc),
         Called::Memory => Err(Memory),
     }
@@ -86,14 +80,14 @@ fn check_file_info<C: Caller>(
 ) -> Result<Answer, Memory>
     requires moment { IsMoment moment }
     requires info { is_info call.act ≡ true }
-    ensures tells { TellsCall C.always (C.sight caller.old) (C.sight caller.new) call moment result }
+    ensures tells { Tells (TellsCall call moment) C.always (C.sight caller.old) (C.sight caller.new) result }
     ensures basis { C.basis caller.new ≡ C.basis caller.old }
     ensures references { C.references caller.new ≡ C.references caller.old }
 {
     let name = call.name.copy();
     let token = call.token.copy();
     match make(caller, call, moment) {
-        Called::Ruled(ruling) => info_told(alloc, &name, &token, ruling),
+        Called::Ruled { ruling, back: _ } => info_told(alloc, &name, &token, ruling),
         Called::Full => journal_full(alloc),
         Called::Memory => Err(Memory),
     }
@@ -113,7 +107,7 @@ fn answer_call<C: Caller>(
     moment: u64,
 ) -> Result<Answer, Memory>
     requires { IsMoment moment }
-    ensures tells { TellsCall C.always (C.sight caller.old) (C.sight caller.new) call moment result }
+    ensures tells { Tells (TellsCall call moment) C.always (C.sight caller.old) (C.sight caller.new) result }
     ensures basis { C.basis caller.new ≡ C.basis caller.old }
     ensures references { C.references caller.new ≡ C.references caller.old }
 {
@@ -134,7 +128,7 @@ fn answer_ask<C: Caller>(
     moment: u64,
 ) -> Result<Answer, Memory>
     requires { IsMoment moment }
-    ensures tells { Tells desk.now ask body moment C.always (C.sight caller.old) (C.sight caller.new) result }
+    ensures tells { Tells (Ruled desk.now ask body moment) C.always (C.sight caller.old) (C.sight caller.new) result }
     ensures basis { C.basis caller.new ≡ C.basis caller.old }
     ensures references { C.references caller.new ≡ C.references caller.old }
 {
@@ -142,12 +136,26 @@ fn answer_ask<C: Caller>(
         return Ok(status_only(alloc, 401));
     };
     let Ask { file, token: _, op } = ask;
-    let call = Call {
-        name: file,
-        token,
-        act: act_of(op, body),
-    };
-    answer_call(alloc, caller, call, moment)
+    match task_of(op, body) {
+        Task::One(act) => {
+            let call = Call {
+                name: file,
+                token,
+                act,
+            };
+            answer_call(alloc, caller, call, moment)
+        }
+        Task::Copy { target, contents } => {
+            let copying = Copying {
+                source: file,
+                token,
+                target,
+                contents,
+                moment,
+            };
+            put_beside(alloc, caller, desk, copying)
+        }
+    }
 }
 
 /// Answers a request: what it asks for is read from its head, its token is read under the desk's key,

@@ -28,8 +28,19 @@ pub enum Op {
     Unlock { id: LockId },
     /// UnlockAndRelock: the old lock ends and the new one is taken.
     Relock { old: LockId, id: LockId },
+    /// PutRelativeFile: the contents are to be put into a file beside this one.
+    PutRelative { target: Target },
     /// DeleteFile.
     Delete,
+}
+
+/// The name that a PutRelativeFile asks for, in UTF-8.
+#[derive(Drop)]
+pub enum Target {
+    /// A name that the host may change, or, with a period at its start, an ending for the source's stem.
+    Suggested(Bytes),
+    /// A name that stands as it is; and whether a file that has it may be overwritten.
+    Relative { name: Bytes, overwrite: bool },
 }
 
 /// Why a request asks for nothing.

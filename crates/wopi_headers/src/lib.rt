@@ -18,7 +18,7 @@ mod row;
 mod target;
 
 pub use answer::{Answer, BodyKind};
-pub use ask::{Ask, AskFault, Op};
+pub use ask::{Ask, AskFault, Op, Target};
 pub use asking::ask_of;
 pub use laws::{a_refused_request_asks_for_nothing, a_request_asks_for_one_thing};
 pub use replying::reply_of;
