@@ -1,14 +1,14 @@
 -- Deeds done one after another.
 use Rattle.std.proofs.Common.{◌≡◌, ℕ, List, [], ◌∷◌, ◌++◌, refl, sym, ap, ◌∙◌, subst, append_assoc, append-nil}
-use Rattle.std.specs.Prelude.{⊤, ◌≢◌, ◌⊎◌}
+use Rattle.std.specs.Prelude.{◌≢◌, ◌⊎◌}
 use Rattle.std.proofs.Common.{inl, inr}
 use Rattle.std.proofs.lemmas.Bool.Decides.{eqb_tells}
 use Rattle.wopi_model.specs.declared.calls.Call.{Call}
 use Rattle.wopi_model.specs.Shard.{Entry, entries}
-use Rattle.host_core.specs.Caller.{Sight, Extends, HasFloor, Makes, Refuses, Frames, IsFullCall, entry_of}
+use Rattle.host_core.specs.Caller.{Sight, Extends, HasFloor, Makes, Refuses, Frames, entry_of}
 use Rattle.host_core.specs.declared.caller.Receipt.{Receipt}
 use Rattle.host_core.specs.declared.caller.CallFault.{CallFault}
-use Rattle.host_server.specs.Deeds.{Deed, Made, Blocked, made, IsFull, Follows, IsMet, AreMet, Does}
+use Rattle.host_server.specs.Deeds.{Deed, Made, Blocked, made, Follows, AreMet, Does}
 
 Extends-same : (xs : List Entry) → Extends xs xs
 Extends-same xs = ([], sym (append-nil xs))

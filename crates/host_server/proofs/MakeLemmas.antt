@@ -1,5 +1,5 @@
 -- From an answer to a reply, or to want of memory for one.
-use Rattle.std.proofs.Common.{◌≡◌, ℕ, Bool, List, [], None, Some, Ok, Err, refl, sym, ap, subst, append-nil, inr}
+use Rattle.std.proofs.Common.{◌≡◌, ℕ, Bool, [], None, Some, Ok, Err, refl, sym, ap, subst, append-nil, inr}
 use Rattle.wopi_text.specs.declared.faults.Memory.{Memory}
 use Rattle.wopi_http.specs.declared.message.Request.{Request}
 use Rattle.wopi_http.specs.declared.message.Reply.{Reply}
@@ -9,9 +9,7 @@ use Rattle.wopi_headers.specs.declared.answer.Answer.{Answer}
 use Rattle.host_server.specs.Texts.{answer_text}
 use Rattle.host_core.specs.Caller.{Sight}
 use Rattle.host_server.specs.declared.desk.Desk.{Desk}
-use Rattle.host_server.specs.Deeds.{Deed, Does}
 use Rattle.host_server.specs.Answering.{Answered}
-use Rattle.host_server.proofs.DeedLemmas.{Does-nil, Does-join}
 use Rattle.host_server.specs.Turns.{answer, no_memory, Answers}
 use Rattle.host_server.specs.Steps.{Makes}
 

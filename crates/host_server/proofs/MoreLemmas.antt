@@ -5,9 +5,7 @@ use Rattle.std.specs.Io.KnownBytes.{Consumes}
 use Rattle.std.proofs.lemmas.Grind.{flat_map-append}
 use Rattle.outside.specs.Clock.{GivesAll}
 use Rattle.outside.specs.Stream.{Are}
-use Rattle.wopi_http.specs.declared.message.Request.{Request}
 use Rattle.wopi_http.specs.Closing.{closes}
-use Rattle.wopi_headers.specs.declared.answer.Answer.{Answer}
 use Rattle.host_server.specs.declared.desk.Desk.{Desk}
 use Rattle.host_server.specs.Turns.{Turn, IsTurn, GoOn}
 

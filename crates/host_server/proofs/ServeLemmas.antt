@@ -1,19 +1,17 @@
 -- From the messages so far to a whole connection.
-use Rattle.std.proofs.Common.{◌≡◌, ◌<◌, ◌+◌, ℕ, false, List, [], ◌∷◌, ◌++◌, Option, None, Some, refl, sym, ap, ◌∙◌, subst, append_assoc, append-nil, arith, length-append}
+use Rattle.std.proofs.Common.{◌≡◌, ◌<◌, ◌+◌, ℕ, false, List, [], ◌∷◌, ◌++◌, Option, None, Some, refl, sym, ap, ◌∙◌, subst, arith, length-append}
 use Rattle.std.specs.Io.KnownBytes.{Consumes, Appends, prepend_known}
 use Rattle.std.proofs.KnownBytes.{Appends-trans, Appends-nil, Consumes-trans, Consumes-nil, prepend_known-nil}
 use Rattle.outside.specs.Clock.{GivesAll}
 use Rattle.outside.specs.Stream.{Are}
 use Rattle.wopi_http.specs.declared.message.Request.{Request}
 use Rattle.wopi_http.specs.Closing.{closes}
-use Rattle.wopi_headers.specs.declared.answer.Answer.{Answer}
 use Rattle.host_server.specs.declared.connection.ConnEnd.{ConnEnd}
 use Rattle.host_server.specs.declared.connection.ConnEnd.TheVariants.{Done, ReadFault, WriteFault, Memory}
 use Rattle.host_server.specs.declared.connection.Progress.TheVariants.{Over}
 use Rattle.host_core.specs.Caller.{Sight}
 use Rattle.host_server.specs.declared.desk.Desk.{Desk}
-use Rattle.host_server.specs.Deeds.{Deed, Does}
-use Rattle.host_server.specs.Answering.{Answered}
+use Rattle.host_server.specs.Deeds.{Does}
 use Rattle.host_server.proofs.DeedLemmas.{Does-nil, Does-join}
 use Rattle.host_server.specs.Turns.{bytes_of, moments_of, parts_of, texts_of, turn_text}
 use Rattle.host_server.specs.Connection.{message_limit, is_last, Cut, IsEnd, IsNext, IsLine, Serves, end_text, end_moments, end_part, next_moments, next_part}

@@ -9,13 +9,11 @@ use Rattle.wopi_http.specs.declared.message.Request.{Request}
 use Rattle.wopi_http.specs.declared.reading.Got.TheVariants.{Message, End as NoMore, Refused, ReadFault, WriteFault, Memory}
 use Rattle.wopi_http.specs.Answers.{hundred_text, Reads, Looked, IsRefused}
 use Rattle.wopi_http.specs.Replies.{Writes}
-use Rattle.wopi_headers.specs.declared.answer.Answer.{Answer}
 use Rattle.host_server.specs.Texts.{bare_reply}
 use Rattle.host_core.specs.Caller.{Sight}
 use Rattle.host_server.specs.declared.desk.Desk.{Desk}
-use Rattle.host_server.specs.Deeds.{Deed, Does}
-use Rattle.host_server.specs.Answering.{Answered}
-use Rattle.host_server.proofs.DeedLemmas.{Does-nil, Does-join}
+use Rattle.host_server.specs.Deeds.{Does}
+use Rattle.host_server.proofs.DeedLemmas.{Does-nil}
 use Rattle.host_server.specs.Turns.{said_text, Turn, IsTurn}
 use Rattle.host_server.specs.Connection.{is_last, closed, empty, refused, wanted, line, reply, last, IsLine}
 use Rattle.host_server.specs.Steps.{Replies, StepsOn, StepsOver, Breaks}

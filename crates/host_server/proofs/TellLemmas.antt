@@ -1,71 +1,96 @@
 -- From a call to an answer.
-use Rattle.std.proofs.Common.{◌≡◌, ℕ, List, [], ◌∷◌, ◌++◌, Result, Ok, Err, refl, sym, ap, ◌∙◌, subst, inl, inr}
-use Rattle.std.specs.Prelude.{IfOk}
+use Rattle.std.proofs.Common.{◌≡◌, ℕ, true, false, List, [], ◌∷◌, ◌++◌, Result, Ok, Err, refl, sym, ap, ◌∙◌, subst, inl, inr, append-nil}
+use Rattle.std.specs.Prelude.{IfOk, if◌then◌else◌, Option, Some}
 use Rattle.wopi_text.specs.declared.faults.Memory.{Memory}
 use Rattle.wopi_model.specs.declared.token.Token.{Token}
+use Rattle.wopi_model.specs.declared.calls.Act.{Act}
 use Rattle.wopi_model.specs.declared.calls.Call.{Call}
 use Rattle.wopi_model.specs.declared.calls.Ruling.{Ruling}
 use Rattle.wopi_http.specs.declared.message.Request.{Request}
 use Rattle.wopi_headers.specs.declared.answer.Answer.{Answer}
 use Rattle.wopi_headers.specs.declared.ask.Ask.{Ask}
+use Rattle.wopi_headers.specs.declared.ask.Op.TheVariants as op
+use Rattle.wopi_headers.specs.declared.ask.Target.{Target}
 use Rattle.wopi_headers.specs.Operations.{AsksFor, IsRefusal}
 use Rattle.access_tokens.specs.TokenText.{IsSigned}
 use Rattle.host_core.specs.Caller.{Sight}
 use Rattle.host_server.specs.declared.desk.Desk.{Desk}
-use Rattle.host_server.specs.declared.answering.Called.TheVariants.{Ruled as RuledCall, Full}
+use Rattle.host_server.specs.declared.calling.Called.TheVariants.{Ruled as RuledCall, Full}
 use Rattle.host_server.specs.Deeds.{Deed, Made, Blocked, Does}
 use Rattle.host_server.specs.Answering as answering
-use Rattle.host_server.specs.Answering.{status_only, journal_full, call_of, told, IsInfo, Ruled, Answered}
+use Rattle.host_server.specs.Answering.{act_of, call_of, copying_of, Ruled, Answered}
+use Rattle.host_server.specs.Telling.{status_only, journal_full, is_info, info_told, ruling_told, told_of, told}
+use Rattle.host_server.specs.Copies.{Copied}
 use Rattle.host_server.specs.Calls as calls
-use Rattle.host_server.specs.Calls.{Calls, TellsDeed, IsBegun, TellsCall, Tells}
+use Rattle.host_server.specs.Calls.{Calls, TellsCall, IsBegun, Tells}
 use Rattle.host_server.specs.Turns.{Answers}
 use Rattle.host_server.proofs.DeedLemmas.{Does-nil}
 
-module _ (always : Sight → Type 0) (old new : Sight) (call : Call) (moment : ℕ) where
-  pub ruled_tells : (ruling : Ruling) (r : Result Answer Memory) → Calls always old new call moment (RuledCall ruling) → IfOk r (λ a. a ≡ told ruling)
-      → TellsCall always old new call moment r
-  ruled_tells ruling (Ok a) (entry, name, time, is, does) said = (Made entry ∷ [], does, calls.ruled entry name time refl (said ∙ ap told (sym is)))
-  ruled_tells ruling (Err fault) (entry, name, time, is, does) said =
-      (Made entry ∷ [], does, inr ([], told entry.ruling, calls.ruled entry name time refl refl))
+-- what is told of CheckFileInfo's ruling, and of another one
+pub info_of_call : (call : Call) (ruling : Ruling) (name : List ℕ) (token : Token) → name ≡ call.name → token ≡ call.token → is_info call.act ≡ true
+    → info_told name token ruling ≡ told_of call ruling
+info_of_call call ruling name token named held is =
+    ap (λ n. info_told n token ruling) named ∙ ap (λ t. info_told call.name t ruling) held
+    ∙ sym (ap (λ info. if info then info_told call.name call.token ruling else ruling_told ruling) is)
 
-  pub full_tells : (r : Result Answer Memory) → Calls always old new call moment Full → IfOk r (λ a. a ≡ journal_full) → TellsCall always old new call moment r
-  full_tells (Ok a) (full, does) said = (Blocked call moment old new ∷ [], does, calls.full old new full refl said)
-  full_tells (Err fault) (full, does) said = (Blocked call moment old new ∷ [], does, inr ([], journal_full, calls.full old new full refl refl))
+pub ruling_of_call : (call : Call) (ruling : Ruling) → is_info call.act ≡ false → ruling_told ruling ≡ told_of call ruling
+ruling_of_call call ruling is = sym (ap (λ info. if info then info_told call.name call.token ruling else ruling_told ruling) is)
+
+-- what is told in one relation is told in a wider one
+begun_wider : (P Q : List Deed → Answer → Type 0) → ((deeds : List Deed) (a : Answer) → P deeds a → Q deeds a) → (deeds : List Deed) → IsBegun P deeds → IsBegun Q deeds
+begun_wider P Q wider deeds (inl none) = inl none
+begun_wider P Q wider deeds (inr (others, a, is)) = inr (others, a, wider (deeds ++ others) a is)
+
+module _ (always : Sight → Type 0) (old new : Sight) where
+  pub tells_wider : (P Q : List Deed → Answer → Type 0) → ((deeds : List Deed) (a : Answer) → P deeds a → Q deeds a) → (r : Result Answer Memory)
+      → Tells P always old new r → Tells Q always old new r
+  tells_wider P Q wider (Ok a) (deeds, does, is) = (deeds, does, wider deeds a is)
+  tells_wider P Q wider (Err fault) (deeds, does, begun) = (deeds, does, begun_wider P Q wider deeds begun)
+
+  -- what was done is whole, and is told, or memory for telling it ran out
+  pub tells_whole : (P : List Deed → Answer → Type 0) (deeds : List Deed) (a : Answer) (r : Result Answer Memory) → Does always old new deeds → P deeds a
+      → IfOk r (λ b. b ≡ a) → Tells P always old new r
+  tells_whole P deeds a (Ok b) does is said = (deeds, does, subst (P deeds) (sym said) is)
+  tells_whole P deeds a (Err fault) does is said = (deeds, does, inr ([], a, subst (λ ds. P ds a) (sym (append-nil deeds)) is))
+
+  module _ (call : Call) (moment : ℕ) where
+    pub ruled_tells : (ruling : Ruling) (back : Option (List ℕ)) (r : Result Answer Memory) → Calls always old new call moment (RuledCall ruling back) → IfOk r (λ a. a ≡ told_of call ruling)
+        → Tells (TellsCall call moment) always old new r
+    ruled_tells ruling back r (entry, of, is, returned, does) said =
+        let same : told entry ≡ told_of call ruling = ap (λ c. told_of c entry.ruling) of.0 ∙ ap (told_of call) is in
+        tells_whole (TellsCall call moment) (Made entry ∷ []) (told_of call ruling) r does (calls.ruled entry of refl (sym same)) said
+
+    pub full_tells : (r : Result Answer Memory) → Calls always old new call moment Full → IfOk r (λ a. a ≡ journal_full) → Tells (TellsCall call moment) always old new r
+    full_tells r (full, does) said =
+        tells_whole (TellsCall call moment) (Blocked call moment old new ∷ []) journal_full r does (calls.full old new full refl refl) said
 
 module _ (desk : Desk) (ask : Ask) (body : List ℕ) (moment : ℕ) (always : Sight → Type 0) where
-  pub info_tells : (s : Sight) (a : Answer) → IsInfo ask.op → a ≡ status_only 501
-      → (deeds : List Deed) × Does always s s deeds × Ruled desk ask body moment deeds a
-  info_tells s a info said = ([], Does-nil always s, answering.not_built info refl said)
-
   pub dead_tells : (s : Sight) (a : Answer) → ((token : Token) → ¬ (IsSigned desk.key ask.token token)) → a ≡ status_only 401
-      → (deeds : List Deed) × Does always s s deeds × Ruled desk ask body moment deeds a
+      → Tells (Ruled desk ask body moment) always s s (Ok a)
   dead_tells s a none said = ([], Does-nil always s, answering.unauthorized none refl said)
 
-  tells_ruled : (token : Token) → IsSigned desk.key ask.token token → (deeds : List Deed) (a : Answer) → TellsDeed (call_of ask token body) moment deeds a
-      → Ruled desk ask body moment deeds a
-  tells_ruled token signed deeds a (calls.ruled entry name time is said) = answering.ruled token entry signed name time is said
-  tells_ruled token signed deeds a (calls.full before after full is said) = answering.full token before after signed full is said
+  pub call_tells : (token : Token) (asked : Act) → IsSigned desk.key ask.token token → act_of ask.op body ≡ Some asked → (old new : Sight) (r : Result Answer Memory)
+      → Tells (TellsCall (call_of ask token asked) moment) always old new r → Tells (Ruled desk ask body moment) always old new r
+  call_tells token asked signed act old new r =
+      tells_wider always old new (TellsCall (call_of ask token asked) moment) (Ruled desk ask body moment) is_ruled r
+    where
+      is_ruled : (deeds : List Deed) (a : Answer) → TellsCall (call_of ask token asked) moment deeds a → Ruled desk ask body moment deeds a
+      is_ruled deeds a (calls.ruled entry of is said) = answering.ruled token asked entry signed act of is said
+      is_ruled deeds a (calls.full before after full is said) = answering.full token asked before after signed act full is said
 
-  begun_ruled : (token : Token) → IsSigned desk.key ask.token token → (deeds : List Deed) → IsBegun (TellsDeed (call_of ask token body) moment) deeds
-      → IsBegun (Ruled desk ask body moment) deeds
-  begun_ruled token signed deeds (inl none) = inl none
-  begun_ruled token signed deeds (inr (others, a, tells)) = inr (others, a, tells_ruled token signed (deeds ++ others) a tells)
-
-  call_tells : (token : Token) → IsSigned desk.key ask.token token → (old new : Sight) (r : Result Answer Memory)
-      → TellsCall always old new (call_of ask token body) moment r → Tells desk ask body moment always old new r
-  call_tells token signed old new (Ok a) (deeds, does, tells) = (deeds, does, tells_ruled token signed deeds a tells)
-  call_tells token signed old new (Err fault) (deeds, does, begun) = (deeds, does, begun_ruled token signed deeds begun)
-
-  pub made_tells : (token : Token) → IsSigned desk.key ask.token token → (call : Call) → call ≡ call_of ask token body → (old new : Sight) (r : Result Answer Memory)
-      → TellsCall always old new call moment r → Tells desk ask body moment always old new r
-  made_tells token signed call is old new r tells = call_tells token signed old new r (subst (λ (x : Call). TellsCall always old new x moment r) is tells)
+  pub copy_tells : (token : Token) (target : Target) → IsSigned desk.key ask.token token → ask.op ≡ op.PutRelative target → (contents : List ℕ) → contents ≡ body
+      → (old new : Sight) (r : Result Answer Memory) → Tells (Copied desk (copying_of ask token target contents moment)) always old new r
+      → Tells (Ruled desk ask body moment) always old new r
+  copy_tells token target signed is contents same old new r told =
+      tells_wider always old new (Copied desk (copying_of ask token target body moment)) (Ruled desk ask body moment)
+      (λ deeds a copied. answering.copied token target signed is copied) r
+      (subst (λ (text : List ℕ). Tells (Copied desk (copying_of ask token target text moment)) always old new r) same told)
 
 module _ (desk : Desk) (q : Request) (moment : ℕ) (always : Sight → Type 0) where
   begun_asked : (ask : Ask) → AsksFor q ask → (deeds : List Deed) → IsBegun (Ruled desk ask q.body moment) deeds → IsBegun (Answered desk q moment) deeds
-  begun_asked ask asks deeds (inl none) = inl none
-  begun_asked ask asks deeds (inr (others, a, is)) = inr (others, a, answering.asked ask asks is)
+  begun_asked ask asks deeds begun = begun_wider (Ruled desk ask q.body moment) (Answered desk q moment) (λ ds a is. answering.asked ask asks is) deeds begun
 
-  pub asked_answers : (ask : Ask) → AsksFor q ask → (old new : Sight) (r : Result Answer Memory) → Tells desk ask q.body moment always old new r
+  pub asked_answers : (ask : Ask) → AsksFor q ask → (old new : Sight) (r : Result Answer Memory) → Tells (Ruled desk ask q.body moment) always old new r
       → Answers desk q moment always old new r
   asked_answers ask asks old new (Ok a) (deeds, does, is) = (deeds, does, answering.asked ask asks is)
   asked_answers ask asks old new (Err fault) (deeds, does, begun) = (deeds, does, begun_asked ask asks deeds begun)

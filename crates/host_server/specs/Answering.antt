@@ -1,83 +1,55 @@
 -- What a request is answered, and what is done for it (MS-WOPI; that an unreadable token is 401 and a full shard 500 is own).
-use Rattle.std.specs.Prelude.{ℕ, ◌≡◌, ⊤, List, [], ◌∷◌, Option, None, Some, codes, unwrap_or, ◌==◌, if◌then◌else◌}
-use Rattle.wopi_text.specs.declared.lock_field.LockField.TheVariants.{Absent}
+use Rattle.std.specs.Prelude.{ℕ, ◌≡◌, List, [], ◌∷◌, Option, None, Some}
 use Rattle.wopi_model.specs.declared.token.Token.{Token}
 use Rattle.wopi_model.specs.declared.calls.Act.{Act}
 use Rattle.wopi_model.specs.declared.calls.Act.TheVariants as act
 use Rattle.wopi_model.specs.declared.calls.Call.{Call}
-use Rattle.wopi_model.specs.declared.calls.Ruling.{Ruling}
 use Rattle.wopi_model.specs.Shard.{Entry}
 use Rattle.wopi_http.specs.declared.message.Request.{Request}
 use Rattle.wopi_headers.specs.declared.answer.Answer.{Answer}
-use Rattle.wopi_headers.specs.declared.answer.BodyKind.{BodyKind}
-use Rattle.wopi_headers.specs.declared.answer.BodyKind.TheVariants.{None as NoBody, Octets, Plain}
 use Rattle.wopi_headers.specs.declared.ask.Ask.{Ask}
 use Rattle.wopi_headers.specs.declared.ask.Op.{Op}
 use Rattle.wopi_headers.specs.declared.ask.Op.TheVariants as op
+use Rattle.wopi_headers.specs.declared.ask.Target.{Target}
 use Rattle.wopi_headers.specs.Operations.{AsksFor, IsRefusal}
 use Rattle.access_tokens.specs.TokenText.{IsSigned}
 use Rattle.host_core.specs.Caller.{Sight}
 use Rattle.host_server.specs.declared.desk.Desk.{Desk}
-use Rattle.host_server.specs.Deeds.{Deed, Made, Blocked, IsFull}
+use Rattle.host_server.specs.declared.copying.Copying.{Copying}
+use Rattle.host_server.specs.Deeds.{Deed, Made, Blocked, IsFull, IsOf}
+use Rattle.host_server.specs.Telling.{status_only, journal_full, told}
+use Rattle.host_server.specs.Copies.{Copied}
 
--- an answer that tells nothing but its status
-abbrev pub status_only : ℕ → Answer
-status_only status = record { status = status; lock = Absent; reason = None; version = None; kind = NoBody; body = [] }
+-- the one act of an operation, with the request's body; PutRelativeFile is more than one
+abbrev pub act_of : Op → List ℕ → Option Act
+act_of op.Info body = Some act.Info
+act_of (op.Get most) body = Some (act.Get most)
+act_of (op.Put lock) body = Some (act.Put lock body)
+act_of (op.Lock id) body = Some (act.Lock id)
+act_of op.GetLock body = Some act.GetLock
+act_of (op.Refresh id) body = Some (act.Refresh id)
+act_of (op.Unlock id) body = Some (act.Unlock id)
+act_of (op.Relock old id) body = Some (act.Relock old id)
+act_of (op.PutRelative target) body = None
+act_of op.Delete body = Some act.Delete
 
--- the answer where a shard takes no more
-abbrev pub journal_full : Answer
-journal_full = record (status_only 500) { kind = Plain; body = codes "journal full" }
+abbrev pub call_of : Ask → Token → Act → Call
+call_of ask token asked = record { name = ask.file; token = token; act = asked }
 
--- the act of an operation, with the request's body
-abbrev pub act_of : Op → List ℕ → Act
-act_of op.Info body = act.Info
-act_of (op.Get most) body = act.Get most
-act_of (op.Put lock) body = act.Put lock body
-act_of (op.Lock id) body = act.Lock id
-act_of op.GetLock body = act.GetLock
-act_of (op.Refresh id) body = act.Refresh id
-act_of (op.Unlock id) body = act.Unlock id
-act_of (op.Relock old id) body = act.Relock old id
-act_of op.Delete body = act.Delete
-
-abbrev pub call_of : Ask → Token → List ℕ → Call
-call_of ask token body = record { name = ask.file; token = token; act = act_of ask.op body }
-
--- the body that tells a ruling: the contents of a file, or what failed
-abbrev pub body_of : Ruling → List ℕ
-body_of ruling = if ruling.status == 500 then codes "store fault" else unwrap_or ruling.contents []
-
-abbrev pub kind_of_contents : Option (List ℕ) → BodyKind
-kind_of_contents None = NoBody
-kind_of_contents (Some contents) = Octets
-
-abbrev pub kind_of : Ruling → BodyKind
-kind_of ruling = if ruling.status == 500 then Plain else kind_of_contents ruling.contents
-
--- the answer that tells a ruling
-abbrev pub told : Ruling → Answer
-told ruling = record {
-  status = ruling.status;
-  lock = ruling.lock;
-  reason = ruling.reason;
-  version = ruling.version;
-  kind = kind_of ruling;
-  body = body_of ruling;
-}
-
--- CheckFileInfo, which isn't answered yet
-abbrev pub IsInfo : Op → Type 0
-IsInfo op.Info = ⊤
-IsInfo _ = ⊥
+abbrev pub copying_of : Ask → Token → Target → List ℕ → ℕ → Copying
+copying_of ask token target body moment =
+    record { source = ask.file; token = token; target = target; contents = body; moment = moment }
 
 -- What an ask with this body is answered at this moment, and what is done for it.
 pub data Ruled (desk : Desk) (ask : Ask) (body : List ℕ) (moment : ℕ) (deeds : List Deed) (a : Answer) : Type 0 where
-  not_built : IsInfo ask.op → deeds ≡ [] → a ≡ status_only 501 → Ruled desk ask body moment deeds a
   unauthorized : ((token : Token) → ¬ (IsSigned desk.key ask.token token)) → deeds ≡ [] → a ≡ status_only 401 → Ruled desk ask body moment deeds a
-  ruled : (token : Token) (entry : Entry) → IsSigned desk.key ask.token token → entry.call ≡ call_of ask token body → entry.moment ≡ moment
-      → deeds ≡ Made entry ∷ [] → a ≡ told entry.ruling → Ruled desk ask body moment deeds a
-  full : (token : Token) (before after : Sight) → IsSigned desk.key ask.token token → IsFull (call_of ask token body) moment before after
-      → deeds ≡ Blocked (call_of ask token body) moment before after ∷ [] → a ≡ journal_full → Ruled desk ask body moment deeds a
+  ruled : (token : Token) (asked : Act) (entry : Entry) → IsSigned desk.key ask.token token → act_of ask.op body ≡ Some asked
+      → IsOf (call_of ask token asked) moment entry → deeds ≡ Made entry ∷ [] → a ≡ told entry → Ruled desk ask body moment deeds a
+  full : (token : Token) (asked : Act) (before after : Sight) → IsSigned desk.key ask.token token → act_of ask.op body ≡ Some asked
+      → IsFull (call_of ask token asked) moment before after
+      → deeds ≡ Blocked (call_of ask token asked) moment before after ∷ [] → a ≡ journal_full → Ruled desk ask body moment deeds a
+  copied : (token : Token) (target : Target) → IsSigned desk.key ask.token token → ask.op ≡ op.PutRelative target
+      → Copied desk (copying_of ask token target body moment) deeds a → Ruled desk ask body moment deeds a
 
 -- What a request is answered at this moment, and what is done for it.
 pub data Answered (desk : Desk) (q : Request) (moment : ℕ) (deeds : List Deed) (a : Answer) : Type 0 where

@@ -6,7 +6,6 @@ use Rattle.outside.specs.Stream.{Are}
 use Rattle.wopi_http.specs.declared.message.Request.{Request}
 use Rattle.wopi_http.specs.Answers.{hundred_text, Looked, IsRefused}
 use Rattle.wopi_http.specs.Closing.{closes}
-use Rattle.wopi_headers.specs.declared.answer.Answer.{Answer}
 use Rattle.host_server.specs.declared.connection.ConnEnd.{ConnEnd}
 use Rattle.host_server.specs.declared.connection.ConnEnd.TheVariants.{Done, ReadFault, WriteFault, Memory}
 use Rattle.host_core.specs.Caller.{Sight}

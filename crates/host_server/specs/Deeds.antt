@@ -16,6 +16,10 @@ made [] = []
 made (Made entry ∷ deeds) = entry ∷ made deeds
 made (Blocked call moment before after ∷ deeds) = made deeds
 
+-- the entry is of that call, at that moment
+abbrev pub IsOf : Call → ℕ → Entry → Type 0
+IsOf call moment entry = (entry.call ≡ call) × (entry.moment ≡ moment)
+
 -- The shard took no such call: over the history that is then seen of it, and above the floor that the caller had.
 abbrev pub IsFull : Call → ℕ → Sight → Sight → Type 0
 IsFull call moment before after =

@@ -4,7 +4,6 @@ use Rattle.std.specs.Io.KnownBytes.{Consumes, Appends}
 use Rattle.outside.specs.Clock.{GivesAll}
 use Rattle.outside.specs.Stream.{Are}
 use Rattle.wopi_http.specs.declared.message.Request.{Request}
-use Rattle.wopi_headers.specs.declared.answer.Answer.{Answer}
 use Rattle.host_server.specs.declared.connection.ConnEnd.TheVariants.{Done, ReadFault, WriteFault, Memory}
 use Rattle.host_server.specs.declared.connection.Progress.{Progress}
 use Rattle.host_server.specs.declared.connection.Progress.TheVariants.{On, Over}

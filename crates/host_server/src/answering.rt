@@ -1,154 +1,121 @@
 //! Requests answered by calls on files.
-ghost use Rattle.std.specs.Prelude.{◌≡◌, ◌↔◌, ◌==◌, [], IsTrue, IfOk, codes, unwrap_or, if◌then◌else◌};
+ghost use Rattle.std.specs.Prelude.{◌≡◌, true, false};
 ghost use Rattle.wopi_model.specs.Moment.{IsMoment};
-ghost use Rattle.wopi_headers.specs.declared.answer.BodyKind.TheVariants.{Plain};
-ghost use Rattle.host_server.specs.Answering.{status_only, journal_full, act_of, kind_of_contents, told, IsInfo};
-ghost use Rattle.host_server.specs.Calls.{Calls, TellsCall, Tells};
+ghost use Rattle.host_server.specs.Telling.{is_info};
+ghost use Rattle.host_server.specs.Answering.{Ruled};
+ghost use Rattle.host_server.specs.Calls.{TellsCall, Tells};
+ghost use Rattle.host_server.specs.Tries.{IsTask};
 ghost use Rattle.host_server.specs.Turns.{Answers};
 
+use crate::calling::{Called, make};
+use crate::copying::{Copying, put_beside};
 use crate::desk::Desk;
+use crate::telling::{info_told, journal_full, ruling_told, status_only};
 use access_tokens::read;
-use host_core::{Act, Call, CallFault, Caller, Ruling};
+use host_core::{Act, Call, Caller};
 use std::alloc::Global;
-use wopi_headers::{Answer, Ask, AskFault, BodyKind, Op, ask_of};
+use wopi_headers::{Answer, Ask, AskFault, Op, Target, ask_of};
 use wopi_http::Request;
-use wopi_text::{Bytes, LockField, Memory};
+use wopi_text::{Bytes, Memory};
 
-/// An answer that tells nothing but its status.
-fn status_only(alloc: Global, status: u16) -> Answer
-    ensures { result ≡ status_only status }
-{
-    Answer {
-        status,
-        lock: LockField::Absent,
-        reason: None,
-        version: None,
-        kind: BodyKind::None,
-        body: Bytes::from_vec(Vec::new(alloc)),
-    }
+/// What an operation is for the host.
+#[derive(Drop)]
+enum Task {
+    /// One act.
+    One(Act),
+    /// A PutRelativeFile of these contents.
+    Copy { target: Target, contents: Bytes },
 }
 
-/// The answer where a shard takes no more.
-fn journal_full(alloc: Global) -> Result<Answer, Memory>
-    ensures { IfOk result (λ a. a ≡ journal_full) }
-{
-    let body = Bytes::from_slice(alloc, b"journal full")?;
-    Ok(Answer {
-        status: 500,
-        lock: LockField::Absent,
-        reason: None,
-        version: None,
-        kind: BodyKind::Plain,
-        body,
-    })
-}
-
-/// The act of an operation, with the request's body.
-fn act_of(op: Op, body: Bytes) -> Act
-    ensures { result ≡ act_of op body }
+/// What an operation is for the host, with the request's body.
+fn task_of(op: Op, body: Bytes) -> Task
+    ensures { IsTask op body result }
 {
     match op {
-        Op::Info => Act::Info,
-        Op::Get { most } => Act::Get { most },
-        Op::Put { lock } => Act::Put {
+        Op::Info => Task::One(Act::Info),
+        Op::Get { most } => Task::One(Act::Get { most }),
+        Op::Put { lock } => Task::One(Act::Put {
             lock,
             contents: body,
+        }),
+        Op::Lock { id } => Task::One(Act::Lock { id }),
+        Op::GetLock => Task::One(Act::GetLock),
+        Op::Refresh { id } => Task::One(Act::Refresh { id }),
+        Op::Unlock { id } => Task::One(Act::Unlock { id }),
+        Op::Relock { old, id } => Task::One(Act::Relock { old, id }),
+        Op::PutRelative { target } => Task::Copy {
+            target,
+            contents: body,
         },
-        Op::Lock { id } => Act::Lock { id },
-        Op::GetLock => Act::GetLock,
-        Op::Refresh { id } => Act::Refresh { id },
-        Op::Unlock { id } => Act::Unlock { id },
-        Op::Relock { old, id } => Act::Relock { old, id },
-        Op::Delete => Act::Delete,
+        Op::Delete => Task::One(Act::Delete),
     }
 }
 
-/// The kind and the body of the answer that tells a ruling of this status.
-fn told_body(
-    alloc: Global,
-    status: u16,
-    contents: Option<Bytes>,
-) -> Result<(BodyKind, Bytes), Memory>
-    ensures { IfOk result (λ parts. (parts.0 ≡ (if status == 500 then Plain else kind_of_contents contents))
-        × (parts.1 ≡ (if status == 500 then codes "store fault" else unwrap_or contents []))) }
-{
-    if status == 500 {
-        return Ok((BodyKind::Plain, Bytes::from_slice(alloc, b"store fault")?));
-    }
-    match contents {
-        Some(contents) => Ok((BodyKind::Octets, contents)),
-        None => Ok((BodyKind::None, Bytes::from_vec(Vec::new(alloc)))),
-    }
-}
-
-/// The answer that tells a ruling. Contents are moved into it.
-fn told(alloc: Global, ruling: Ruling) -> Result<Answer, Memory>
-    ensures { IfOk result (λ a. a ≡ told ruling) }
-{
-    let Ruling {
-        status,
-        lock,
-        reason,
-        version,
-        size: _,
-        contents,
-    } = ruling;
-    let (kind, body) = told_body(alloc, status, contents)?;
-    Ok(Answer {
-        status,
-        lock,
-        reason,
-        version,
-        kind,
-        body,
-    })
-}
-
-/// What became of a call.
-#[derive(Drop)]
-enum Called {
-    Ruled(Ruling),
-    Full,
-    Memory,
-}
-
-/// Makes a call.
-fn make<C: Caller>(caller: &mut C, call: Call, moment: u64) -> Called
-    requires { IsMoment moment }
-    ensures calls { Calls C.always (C.sight caller.old) (C.sight caller.new) call moment result }
-    ensures basis { C.basis caller.new ≡ C.basis caller.old }
-    ensures references { C.references caller.new ≡ C.references caller.old }
-{
-    match caller.call(call, moment) {
-        Ok(receipt) => Called::Ruled(receipt.ruling),
-        Err(CallFault::Full(_)) => Called::Full,
-        Err(CallFault::Memory(_)) => Called::Memory,
-    }
-}
-
-/// Makes the call, and tells what became of it.
+/// Makes the call, which is no CheckFileInfo, and tells what became of it.
 fn make_and_tell<C: Caller>(
     alloc: Global,
     caller: &mut C,
     call: Call,
     moment: u64,
 ) -> Result<Answer, Memory>
-    requires { IsMoment moment }
-    ensures tells { TellsCall C.always (C.sight caller.old) (C.sight caller.new) call moment result }
+    requires moment { IsMoment moment }
+    requires other { is_info call.act ≡ false }
+    ensures tells { Tells (TellsCall call moment) C.always (C.sight caller.old) (C.sight caller.new) result }
     ensures basis { C.basis caller.new ≡ C.basis caller.old }
     ensures references { C.references caller.new ≡ C.references caller.old }
 {
     match make(caller, call, moment) {
-        Called::Ruled(ruling) => told(alloc, ruling),
+        Called::Ruled { ruling, back: _ } => ruling_told(alloc, ruling),
         Called::Full => journal_full(alloc),
         Called::Memory => Err(Memory),
     }
 }
 
-fn is_info(op: &Op) -> bool
-    ensures { IsTrue result ↔ IsInfo op.now }
+/// Makes CheckFileInfo's call, and tells what became of it.
+fn check_file_info<C: Caller>(
+    alloc: Global,
+    caller: &mut C,
+    call: Call,
+    moment: u64,
+) -> Result<Answer, Memory>
+    requires moment { IsMoment moment }
+    requires info { is_info call.act ≡ true }
+    ensures tells { Tells (TellsCall call moment) C.always (C.sight caller.old) (C.sight caller.new) result }
+    ensures basis { C.basis caller.new ≡ C.basis caller.old }
+    ensures references { C.references caller.new ≡ C.references caller.old }
 {
-    matches!(op, Op::Info)
+    let name = call.name.copy();
+    let token = call.token.copy();
+    match make(caller, call, moment) {
+        Called::Ruled { ruling, back: _ } => info_told(alloc, &name, &token, ruling),
+        Called::Full => journal_full(alloc),
+        Called::Memory => Err(Memory),
+    }
+}
+
+fn is_info(act: &Act) -> bool
+    ensures { result ≡ is_info act.now }
+{
+    matches!(act, Act::Info)
+}
+
+/// Makes the call of an act, and tells what became of it.
+fn answer_call<C: Caller>(
+    alloc: Global,
+    caller: &mut C,
+    call: Call,
+    moment: u64,
+) -> Result<Answer, Memory>
+    requires { IsMoment moment }
+    ensures tells { Tells (TellsCall call moment) C.always (C.sight caller.old) (C.sight caller.new) result }
+    ensures basis { C.basis caller.new ≡ C.basis caller.old }
+    ensures references { C.references caller.new ≡ C.references caller.old }
+{
+    if is_info(&call.act) {
+        check_file_info(alloc, caller, call, moment)
+    } else {
+        make_and_tell(alloc, caller, call, moment)
+    }
 }
 
 /// Answers what was asked, with the request's body.
@@ -161,23 +128,34 @@ fn answer_ask<C: Caller>(
     moment: u64,
 ) -> Result<Answer, Memory>
     requires { IsMoment moment }
-    ensures tells { Tells desk.now ask body moment C.always (C.sight caller.old) (C.sight caller.new) result }
+    ensures tells { Tells (Ruled desk.now ask body moment) C.always (C.sight caller.old) (C.sight caller.new) result }
     ensures basis { C.basis caller.new ≡ C.basis caller.old }
     ensures references { C.references caller.new ≡ C.references caller.old }
 {
-    if is_info(&ask.op) {
-        return Ok(status_only(alloc, 501));
-    }
     let Ok(token) = read(&desk.key, ask.token.as_slice()) else {
         return Ok(status_only(alloc, 401));
     };
     let Ask { file, token: _, op } = ask;
-    let call = Call {
-        name: file,
-        token,
-        act: act_of(op, body),
-    };
-    make_and_tell(alloc, caller, call, moment)
+    match task_of(op, body) {
+        Task::One(act) => {
+            let call = Call {
+                name: file,
+                token,
+                act,
+            };
+            answer_call(alloc, caller, call, moment)
+        }
+        Task::Copy { target, contents } => {
+            let copying = Copying {
+                source: file,
+                token,
+                target,
+                contents,
+                moment,
+            };
+            put_beside(alloc, caller, desk, copying)
+        }
+    }
 }
 
 /// Answers a request: what it asks for is read from its head, its token is read under the desk's key,

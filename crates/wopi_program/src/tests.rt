@@ -2,6 +2,7 @@
 mod chunks;
 mod faults;
 mod files;
+mod info;
 mod refusals;
 mod replies;
 mod tokens;

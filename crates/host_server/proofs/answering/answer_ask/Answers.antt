@@ -1,15 +1,7 @@
-use Rattle.std.proofs.Common.{◌≡◌, ℕ, List, refl, sym, ap, subst}
-use Rattle.wopi_model.specs.declared.calls.Act.{Act}
-use Rattle.wopi_model.specs.declared.calls.Call.{Call}
-use Rattle.wopi_model.specs.declared.token.Token.{Token}
+use Rattle.std.proofs.Common.{ℕ, List, refl, sym, subst}
 use Rattle.access_tokens.specs.TokenText.{IsSigned}
-use Rattle.host_server.proofs.TellLemmas.{info_tells, dead_tells, made_tells}
+use Rattle.host_server.proofs.TellLemmas.{dead_tells, call_tells, copy_tells}
 use Rattle.host_server.proofs.answering.answer_ask.Goals as goal
-
-pub returns-then-is_info-clause-tells : goal.returns-then-is_info-clause-tells
-returns-then-is_info-clause-tells g c =
-    info_tells c.args.desk.now c.args.ask c.args.body c.args.moment g.C.Caller.always (g.C.Caller.sight c.args.caller.now) _
-    (c.if-is_info.ensures.0 refl) c.status_only.ensures
 
 pub returns-in_default-clause-tells : goal.returns-in_default-clause-tells
 returns-in_default-clause-tells g c =
@@ -17,13 +9,18 @@ returns-in_default-clause-tells g c =
     (λ token signed.
     let P : List ℕ → Type 0 = λ text. IsSigned c.args.desk.now.key text token in
     let read = (c.in_default.ensures.exact token).1 (subst P (sym c.as_slice.ensures) signed) in absurd (cc))
-    c.status_only-in_default.ensures
+    c.status_only.ensures
+
+pub returns-in-One-clause-tells : goal.returns-in-One-clause-tells
+returns-in-One-clause-tells g c =
+    let P : List ℕ → Type 0 = λ text. IsSigned c.args.desk.now.key text c.in-Ok.token in
+    call_tells c.args.desk.now c.args.ask c.args.body c.args.moment g.C.Caller.always c.in-Ok.token c.in-One.act
+    (subst P c.as_slice.ensures ((c.in-Ok.ensures.exact c.in-Ok.token).0 refl)) c.in-One.ensures
+    (g.C.Caller.sight c.args.caller.now) (g.C.Caller.sight c.answer_call.new.caller) c.answer_call.result c.answer_call.ensures.tells
 
 pub returns-clause-tells : goal.returns-clause-tells
 returns-clause-tells g c =
     let P : List ℕ → Type 0 = λ text. IsSigned c.args.desk.now.key text c.in-Ok.token in
-    let call_with : Act → Call = λ act. record { name = c.args.ask.file; token = c.in-Ok.token; act = act } in
-    made_tells c.args.desk.now c.args.ask c.args.body c.args.moment g.C.Caller.always c.in-Ok.token
-    (subst P c.as_slice.ensures ((c.in-Ok.ensures.exact c.in-Ok.token).0 refl))
-    (call_with c.act_of.result) (ap call_with c.act_of.ensures) (g.C.Caller.sight c.args.caller.now) (g.C.Caller.sight c.make_and_tell.new.caller)
-    c.make_and_tell.result c.make_and_tell.ensures.tells
+    copy_tells c.args.desk.now c.args.ask c.args.body c.args.moment g.C.Caller.always c.in-Ok.token c.in-Copy.target
+    (subst P c.as_slice.ensures ((c.in-Ok.ensures.exact c.in-Ok.token).0 refl)) c.in-Copy.ensures.0 c.in-Copy.contents c.in-Copy.ensures.1
+    (g.C.Caller.sight c.args.caller.now) (g.C.Caller.sight c.put_beside.new.caller) c.put_beside.result c.put_beside.ensures.tells

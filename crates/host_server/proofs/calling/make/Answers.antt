@@ -1,16 +1,16 @@
-use Rattle.std.proofs.Common.{refl, sym, subst}
+use Rattle.std.proofs.Common.{refl}
 use Rattle.host_server.proofs.DeedLemmas.{does_make, does_nothing, does_block}
-use Rattle.host_core.specs.Caller.{entry_of, Refuses}
-use Rattle.host_server.proofs.answering.make.Goals as goal
+use Rattle.host_core.specs.Caller.{entry_of}
+use Rattle.host_server.proofs.calling.make.Goals as goal
 
 pub returns-in-Ok-clause-calls : goal.returns-in-Ok-clause-calls
 returns-in-Ok-clause-calls g c =
     let old = g.C.Caller.sight c.args.caller.now in
     let new = g.C.Caller.sight c.call.new.self in (
       entry_of old.pass c.args.call c.args.moment c.in-Ok.receipt,
+      (refl, refl),
       refl,
-      refl,
-      refl,
+      c.in-Ok.ensures.made.back,
       does_make g.C.Caller.always old new c.args.call c.args.moment c.in-Ok.receipt c.in-Ok.ensures.made c.call.ensures.frame,
     )
 

@@ -1,0 +1,33 @@
+//! Calls on files, and what became of them.
+ghost use Rattle.std.specs.Prelude.{◌≡◌};
+ghost use Rattle.wopi_model.specs.Moment.{IsMoment};
+ghost use Rattle.host_server.specs.Calls.{Calls};
+
+use host_core::{Call, CallFault, Caller, Ruling};
+use wopi_text::Bytes;
+
+/// What became of a call.
+#[derive(Drop)]
+pub enum Called {
+    /// An entry was made; and the contents that weren't accepted came back.
+    Ruled { ruling: Ruling, back: Option<Bytes> },
+    Full,
+    Memory,
+}
+
+/// Makes a call.
+pub fn make<C: Caller>(caller: &mut C, call: Call, moment: u64) -> Called
+    requires { IsMoment moment }
+    ensures calls { Calls C.always (C.sight caller.old) (C.sight caller.new) call moment result }
+    ensures basis { C.basis caller.new ≡ C.basis caller.old }
+    ensures references { C.references caller.new ≡ C.references caller.old }
+{
+    match caller.call(call, moment) {
+        Ok(receipt) => Called::Ruled {
+            ruling: receipt.ruling,
+            back: receipt.back,
+        },
+        Err(CallFault::Full(_)) => Called::Full,
+        Err(CallFault::Memory(_)) => Called::Memory,
+    }
+}

@@ -1,0 +1,142 @@
+//! Rulings told as answers.
+ghost use Rattle.std.specs.Prelude.{◌≡◌, ◌==◌, [], IfOk, codes, unwrap_or, if◌then◌else◌};
+ghost use Rattle.wopi_headers.specs.Replies.{version_text};
+ghost use Rattle.wopi_headers.specs.declared.answer.BodyKind.TheVariants.{Plain};
+ghost use Rattle.file_info.specs.Info.{HasTexts};
+ghost use Rattle.host_server.specs.Telling.{status_only, journal_full, kind_of_contents, ruling_told, info_of, info_told};
+
+use access_tokens::Token;
+use file_info::{Info, info_text};
+use host_core::Ruling;
+use itoa::Buffer;
+use std::alloc::Global;
+use wopi_headers::{Answer, BodyKind};
+use wopi_text::{Bytes, FileName, LockField, Memory};
+
+/// Who owns every file.
+const OWNER: &[u8] = b"owner";
+
+/// An answer that tells nothing but its status.
+pub fn status_only(alloc: Global, status: u16) -> Answer
+    ensures { result ≡ status_only status }
+{
+    Answer {
+        status,
+        lock: LockField::Absent,
+        reason: None,
+        version: None,
+        kind: BodyKind::None,
+        body: Bytes::from_vec(Vec::new(alloc)),
+    }
+}
+
+/// The answer where a shard takes no more.
+pub fn journal_full(alloc: Global) -> Result<Answer, Memory>
+    ensures { IfOk result (λ a. a ≡ journal_full) }
+{
+    let body = Bytes::from_slice(alloc, b"journal full")?;
+    Ok(Answer {
+        status: 500,
+        lock: LockField::Absent,
+        reason: None,
+        version: None,
+        kind: BodyKind::Plain,
+        body,
+    })
+}
+
+/// The kind and the body of the answer that tells a ruling of this status.
+fn body_told(
+    alloc: Global,
+    status: u16,
+    contents: Option<Bytes>,
+) -> Result<(BodyKind, Bytes), Memory>
+    ensures { IfOk result (λ parts. (parts.0 ≡ (if status == 500 then Plain else kind_of_contents contents))
+        × (parts.1 ≡ (if status == 500 then codes "store fault" else unwrap_or contents []))) }
+{
+    if status == 500 {
+        return Ok((BodyKind::Plain, Bytes::from_slice(alloc, b"store fault")?));
+    }
+    match contents {
+        Some(contents) => Ok((BodyKind::Octets, contents)),
+        None => Ok((BodyKind::None, Bytes::from_vec(Vec::new(alloc)))),
+    }
+}
+
+/// The answer that tells a ruling. Contents are moved into it.
+pub fn ruling_told(alloc: Global, ruling: Ruling) -> Result<Answer, Memory>
+    ensures { IfOk result (λ a. a ≡ ruling_told ruling) }
+{
+    let Ruling {
+        status,
+        lock,
+        reason,
+        version,
+        size: _,
+        contents,
+    } = ruling;
+    let (kind, body) = body_told(alloc, status, contents)?;
+    Ok(Answer {
+        status,
+        lock,
+        reason,
+        version,
+        kind,
+        body,
+    })
+}
+
+/// The text of a version.
+#[tactic(auto, unfolding(wopi_headers::specs::Replies::version_text))]
+fn version_text(alloc: Global, version: u64) -> Result<Bytes, Memory>
+    ensures { IfOk result (λ text. text ≡ version_text version) }
+{
+    let mut digits = Buffer::new();
+    let mut text = Vec::new(alloc);
+    text.extend_from_slice(b"v")?;
+    text.extend_from_slice(digits.format(version).as_bytes())?;
+    Ok(Bytes::from_vec(text))
+}
+
+/// What is told of the file of that name.
+fn info_of(
+    alloc: Global,
+    name: &FileName,
+    token: &Token,
+    version: u64,
+    size: u64,
+) -> Result<Info, Memory>
+    ensures info { IfOk result (λ info. info ≡ info_of name.now token.now version size) }
+    ensures texts { IfOk result HasTexts }
+{
+    Ok(Info {
+        name: Bytes::from_slice(alloc, name.as_slice())?,
+        owner: Bytes::from_slice(alloc, OWNER)?,
+        user: Bytes::from_slice(alloc, token.user.as_slice())?,
+        version: version_text(alloc, version)?,
+        size,
+        can_write: token.write,
+    })
+}
+
+/// The answer that tells CheckFileInfo's ruling. Its body has the version, and no field has it.
+pub fn info_told(
+    alloc: Global,
+    name: &FileName,
+    token: &Token,
+    ruling: Ruling,
+) -> Result<Answer, Memory>
+    ensures { IfOk result (λ a. a ≡ info_told name.now token.now ruling) }
+{
+    let accepted = ruling.status == 200;
+    let version = ruling.version.unwrap_or(0);
+    let size = ruling.size;
+    let mut answer = ruling_told(alloc, ruling)?;
+    if accepted {
+        let info = info_of(alloc, name, token, version, size)?;
+        answer.version = None;
+        answer.kind = BodyKind::Json;
+        answer.body = info_text(alloc, &info)?;
+    }
+    Ok(answer)
+}
