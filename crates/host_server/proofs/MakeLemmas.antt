@@ -30,6 +30,3 @@ module _ (desk : Desk) (always : Sight → Type 0) (q : Request) (moment : ℕ) 
     makes = grew;
     text = refl;
   }
-
-  pub makes_nothing : (fault : Memory) → Answers desk q moment always history history' (Err fault) → Makes desk always q moment close history history' None
-  makes_nothing fault (part, grew, is) = record { part = part; said = no_memory; is_said = is; makes = grew; text = refl }

@@ -16,7 +16,7 @@ use Rattle.host_server.proofs.DeedLemmas.{Does-nil, Does-join}
 use Rattle.host_server.specs.Turns.{bytes_of, moments_of, parts_of, texts_of, turn_text}
 use Rattle.host_server.specs.Connection.{message_limit, is_last, Cut, IsEnd, IsNext, IsLine, Serves, end_text, end_moments, end_part, next_moments, next_part}
 use Rattle.host_server.specs.Steps.{StepsOn, StepsOver, Breaks, Steps, Running}
-use Rattle.host_server.proofs.MoreLemmas.{are_from, GivesAll-trans, GivesAll-nil, flat_map-one, map-one, GoOn-one}
+use Rattle.host_server.proofs.SequenceLemmas.{are_from, GivesAll-trans, GivesAll-nil, flat_map-one, map-one, GoOn-one}
 
 -- a message that isn't the last doesn't close, and has room behind it
 pub stays_open : (count : ℕ) (q : Request) → is_last count q ≡ false → closes q ≡ false
@@ -26,16 +26,6 @@ pub has_room : (count : ℕ) (q : Request) → is_last count q ≡ false → cou
 has_room count q stays few = grind (arith, stays, few)
 
 module _ (desk : Desk) (always : Sight → Type 0) (left clock : Option (List ℕ)) (history : Sight) (held : Option (List ℕ)) where
-  pub runs_first : (buffer : List ℕ) → buffer ≡ [] → Running desk always 0 left (prepend_known buffer left) clock clock history history held held
-  runs_first buffer none = record {
-    turns = [];
-    go_on = tt;
-    count_is = refl;
-    reads = subst (λ b. Consumes left (prepend_known b left) []) (sym none) (subst (λ l. Consumes left l []) (sym (prepend_known-nil left)) (Consumes-nil left));
-    times = GivesAll-nil clock;
-    makes = Does-nil always history;
-    writes = Appends-nil held;
-  }
 
   module _ (count : ℕ) (left' clock' : Option (List ℕ)) (history' : Sight) (held' : Option (List ℕ))
       (running : Running desk always count left left' clock clock' history history' held held') where

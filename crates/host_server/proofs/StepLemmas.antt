@@ -17,7 +17,7 @@ use Rattle.host_server.proofs.DeedLemmas.{Does-nil}
 use Rattle.host_server.specs.Turns.{said_text, Turn, IsTurn}
 use Rattle.host_server.specs.Connection.{is_last, closed, empty, refused, wanted, line, reply, last, IsLine}
 use Rattle.host_server.specs.Steps.{Replies, StepsOn, StepsOver, Breaks}
-use Rattle.host_server.proofs.MoreLemmas.{GivesAll-nil}
+use Rattle.host_server.proofs.SequenceLemmas.{GivesAll-nil}
 
 -- the told input, in two parts
 rest_of : (a b : Option (List ℕ)) (bytes : List ℕ) → Consumes a b bytes → (rest : List ℕ) × Are a (bytes ++ rest)
@@ -184,16 +184,6 @@ module _ (desk : Desk) (always : Sight → Type 0) (count : ℕ) (left left' clo
 
 module _ (desk : Desk) (always : Sight → Type 0) (count : ℕ) (left left' clock : Option (List ℕ)) (history : Sight)
     (held held' : Option (List ℕ)) where
-  pub step_end : Reads left left' held held' NoMore → StepsOver desk always count left clock clock history history held held'
-  step_end reads = record {
-    end = empty;
-    rest = [];
-    reads = reads.answer.0;
-    ends = refl;
-    times = GivesAll-nil clock;
-    makes = Does-nil always history;
-    writes = subst (λ h. Appends held held' (hundred_text h)) reads.answer.1 reads.asked;
-  }
 
   pub reading_broken : Reads left left' held held' ReadFault
       → (breaks : Breaks desk always count left clock clock history history held held') × IsLine breaks.next × (breaks.back ≡ [])

@@ -5,13 +5,9 @@ use Rattle.wopi_text.specs.declared.faults.Memory.{Memory}
 use Rattle.wopi_http.specs.declared.message.Field.{Field}
 use Rattle.wopi_http.specs.Fields.{count_named}
 use Rattle.utf7_text.specs.Readings.{IsReading}
-use Rattle.wopi_headers.specs.declared.ask.Op.{Op}
-use Rattle.wopi_headers.specs.declared.ask.Op.TheVariants.{PutRelative}
 use Rattle.wopi_headers.specs.declared.ask.Target.{Target}
 use Rattle.wopi_headers.specs.declared.ask.Target.TheVariants.{Suggested, Relative}
-use Rattle.wopi_headers.specs.declared.row.Row.TheVariants.{PutRelativeFile}
 use Rattle.wopi_headers.specs.Readings.{suggested_name, relative_name, IsOnce, IsText, IsOverwrite, IsTarget}
-use Rattle.wopi_headers.specs.Operations.{Says}
 use Rattle.wopi_headers.proofs.OneReading.{one_value}
 
 pub no_suggestion : (fields : List Field) → count_named relative_name fields ≡ 0 → ((text : List ℕ) → ¬ (IsText suggested_name fields text)) → (target : Target) → ¬ (IsTarget fields target)
@@ -25,10 +21,6 @@ no_relative fields none nothing (Relative name choice) (alone, text, chosen) = n
 pub no_choice : (fields : List Field) → count_named suggested_name fields ≡ 0 → ((choice : Bool) → ¬ (IsOverwrite fields choice)) → (target : Target) → ¬ (IsTarget fields target)
 no_choice fields none nothing (Suggested name) (alone, text) = let once = text.once.once in absurd (cc)
 no_choice fields none nothing (Relative name choice) (alone, text, chosen) = nothing choice chosen
-
-pub no_copy : (fields : List Field) → ((target : Target) → ¬ (IsTarget fields target)) → (op : Op) → ¬ (Says PutRelativeFile fields op)
-no_copy fields nothing (PutRelative target) says = nothing target says
-no_copy fields nothing _ says = says
 
 text_of : (name : List ℕ) (fields : List Field) (value : List ℕ) (found : Option (List ℕ)) → IsOnce name fields value → 0 < length value
     → MatchOption found ((text : List ℕ) → ¬ (IsReading value text)) (IsReading value) → MatchOption found ((text : List ℕ) → ¬ (IsText name fields text)) (IsText name fields)
