@@ -162,29 +162,57 @@ fn a_name_that_no_file_can_have_is_bad_once_the_source_is_there(
     Ok(())
 }
 
+/// The status and the reason of an act on `a.csv`.
+fn act(
+    alloc: Global,
+    single: &mut Single<MemFolder>,
+    act: Act,
+    moment: u64,
+) -> Result<(u16, Option<Reason>), Fail>
+    requires { IsMoment moment }
+{
+    let call = Call {
+        name: FileName::read(b"a.csv")?,
+        token: token(&desk(alloc)?, FOR_A)?,
+        act,
+    };
+    match single.call(call, moment) {
+        Ok(receipt) => Ok((receipt.ruling.status, receipt.ruling.reason)),
+        Err(_refused) => Err("an entry".into()),
+    }
+}
+
+fn version(single: &Single<MemFolder>) -> Result<u64, Fail> {
+    let name = FileName::read(b"a.csv")?;
+    Ok(single.shard().file(&name).ok_or("the file")?.version)
+}
+
 #[test]
 fn a_locked_target_is_overwritten_once_its_lock_ended(rt: HostRuntime) -> Result<(), Fail> {
     let alloc = rt.alloc();
     let mut single = open(alloc, 4096, &["a.csv", "e.csv"])?;
     let id = LockId::read(b"L1").ok_or("a lock id")?;
-    let lock = Call {
-        name: FileName::read(b"a.csv")?,
-        token: token(&desk(alloc)?, FOR_A)?,
-        act: Act::Lock { id: id.copy() },
-    };
-    let _locked = single.call(lock, 0);
+    let lock = Act::Lock { id: id.copy() };
+    assert_eq!(rt; act(alloc, &mut single, lock, 0)?, (200, None));
+    let locked = (409, Some(Reason::Locked));
+    assert_eq!(rt; act(alloc, &mut single, Act::Delete, 1)?, locked);
     let target = relative(alloc, b"a.csv", true)?;
     let answer = put(alloc, &mut single, FOR_E, target, 2)?;
-    assert_eq!(rt; answer.status, 409);
-    assert!(rt; answer.lock == LockField::Held(id));
-    assert_eq!(rt; answer.reason, Some(Reason::Locked));
+    assert_eq!(rt; (answer.status, answer.reason), locked);
+    assert!(rt; answer.lock == LockField::Held(id.copy()));
     let target = relative(alloc, b"a.csv", true)?;
     let answer = put(alloc, &mut single, FOR_E, target, 1_800_002)?;
-    assert_eq!(rt; answer.status, 200);
-    let named = FileName::read(b"a.csv")?;
-    let file = single.shard().file(&named).ok_or("the file")?;
-    assert_eq!(rt; file.version, 2);
-    assert_eq!(rt; file.contents, b"x".as_slice());
+    assert_eq!(rt; (answer.status, version(&single)?), (200, 2));
+    let gone = act(alloc, &mut single, Act::Delete, 1_800_003)?;
+    assert_eq!(rt; gone, (200, None));
+    let get = Act::Get { most: None };
+    assert_eq!(rt; act(alloc, &mut single, get, 1_800_003)?, (404, None));
+    let target = relative(alloc, b"a.csv", false)?;
+    let answer = put(alloc, &mut single, FOR_E, target, 1_800_004)?;
+    assert_eq!(rt; (answer.status, version(&single)?), (200, 3));
+    let spent = (409, Some(Reason::Spent));
+    let lock = Act::Lock { id };
+    assert_eq!(rt; act(alloc, &mut single, lock, 1_800_005)?, spent);
     Ok(())
 }
 

@@ -1,5 +1,6 @@
 //! The program over fakes in memory: each request and its reply to the byte.
 mod chunks;
+mod copies;
 mod faults;
 mod files;
 mod info;
