@@ -1,0 +1,13 @@
+pub mod Timing
+pub mod Holding
+pub mod Turning
+pub mod Stamps
+pub mod Owned
+pub mod Fronts
+pub mod Seats
+pub mod Calling
+pub mod Splitting
+pub mod Ending
+pub mod Starting
+pub mod Locking
+pub mod Beginning
