@@ -18,7 +18,7 @@ use Rattle.host_table.proofs.Timing.{entries-untimed}
 use Rattle.host_table.proofs.Stamps.{steps-append, steps-long, last_stamp-prefix, get_last}
 use Rattle.host_table.proofs.Owned.{AreOwn, owns-later, owns-push, own_after, own_stays, rises_after}
 use Rattle.host_table.proofs.Turning.{ok_map, err_map, on_err, either_case}
-use Rattle.host_table.proofs.Seats.{get_there, get_set, get_other, map_set, rises_of, seat_there, seats_set, own_seats, named_seats, top_set}
+use Rattle.host_table.proofs.Seats.{get_there, get_set, get_other, map_set, rises_of, seat_there, seats_set, own_seats, top_set, has_seen}
 
 -- the pass, with a seat changed
 abbrev pub with_seat : {F : Type 0} → PassView F → ℕ → Place F → ℕ → PassView F
@@ -76,9 +76,6 @@ module _ {F : Type 0} (p : PassView F) (k : ℕ) (v w : Place F) (inside : IsPas
     locks = map_set lock_of p.seats k v w at lock;
     bases = map_set base_of p.seats k v w at base;
   }
-
-  seen_then : (last : ℕ) → IsPass (with_seat p k w last) → HasSeen (with_seat p k w last)
-  seen_then last after = record { last_is = after.last_is; named = named_seats p.number p.weight p.opened p.capacity 0 (set p.seats k w) after.seats }
 
   opening_same : w.base ≡ v.base → (shard : ℕ) → opening_at (slice_get (set p.seats k w) shard) ≡ opening_at (slice_get p.seats shard)
   opening_same base shard = go shard p.seats k v at here base where
@@ -258,7 +255,7 @@ module _ {F : Type 0} (p : PassView F) (k : ℕ) (v w : Place F) (inside : IsPas
       same_then = either_case answer _ _ _ same_called same_looked called looked
 
       pub seen_all_then : HasSeen q
-      seen_all_then = seen_then last pass_then
+      seen_all_then = has_seen q pass_then
 
       pub makes_then : IfOk answer (Makes (sight_of p) (sight_of q) call moment)
       makes_then = ok_map answer _ _ makes called

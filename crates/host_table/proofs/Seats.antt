@@ -4,7 +4,7 @@ use Rattle.wopi_model.specs.Shard.{Entry, RisesFrom, stamps}
 use Rattle.host_core.specs.Entries.{Made}
 use Rattle.host_core.specs.Value.{Book}
 use Rattle.host_table.specs.Histories.{steps_of, last_stamp, AreNamed, IsSeen}
-use Rattle.host_table.specs.Passes.{Place, top, IsSeat, AreSeats, AreInShards}
+use Rattle.host_table.specs.Passes.{PassView, IsPass, HasSeen, Place, top, IsSeat, AreSeats, AreInShards}
 use Rattle.host_table.proofs.Timing.{entries-untimed}
 use Rattle.host_table.proofs.Owned.{AreOwn}
 
@@ -66,3 +66,6 @@ pub top_set : {F : Type 0} (ss : List (Place F)) (k : ℕ) (v w : Place F) → k
 top_set [] k v w h e le = absurd (omega arith)
 top_set (s ∷ ss) zero v w h e le = let a : last_stamp v.seen ≡ last_stamp s.seen = ap (λ (z : Place _). last_stamp z.seen) e in grind arith
 top_set (s ∷ ss) (suc k) v w h e le = let a = top_set ss k v w (omega arith) e le in grind arith
+
+pub has_seen : {F : Type 0} (p : PassView F) → IsPass p → HasSeen p
+has_seen p is = record { last_is = is.last_is; named = named_seats p.number p.weight p.opened p.capacity 0 p.seats is.seats }

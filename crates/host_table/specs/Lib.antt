@@ -5,3 +5,5 @@ pub mod Calls
 pub mod Views
 pub mod Rows
 pub mod Start
+pub mod Seated
+pub mod Sights

@@ -15,7 +15,9 @@ mod host;
 mod opening;
 mod pass;
 mod rows;
+mod seated;
 
 pub use host::Host;
 pub use host_core::{CallFault, Receipt, StartFault};
 pub use pass::Pass;
+pub use seated::{Footing, Seated};

@@ -1,5 +1,6 @@
 //! What a caller of a host has.
-ghost use Rattle.std.specs.Prelude.{◌≡◌, ◌≤◌, ◌^◌};
+ghost use Rattle.std.specs.Prelude.{◌≡◌};
+ghost use Rattle.host_table.specs.Passes.{HasSeen};
 
 use crate::held::Held;
 use outside::Folder;
@@ -40,5 +41,12 @@ impl<F: Folder> Pass<F> {
         ensures { result ≡ self.now.weight }
     {
         self.weight
+    }
+
+    /// What a pass has seen holds of every pass.
+    pub(crate) fn look(&self)
+        ensures { HasSeen self.now }
+    {
+        let _last = self.last;
     }
 }
