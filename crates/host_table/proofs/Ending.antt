@@ -1,5 +1,5 @@
 -- Locks that are ended in a row.
-use Rattle.std.proofs.Common.{◌≡◌, List, [], ◌∷◌, ◌++◌, ap, sym, ◌∙◌, append_assoc}
+use Rattle.std.proofs.Common.{◌≡◌, List, [], ◌∷◌, ◌++◌, length, refl, ap, sym, ◌∙◌, append_assoc, arith}
 use Rattle.host_core.specs.Value.{Book}
 use Rattle.host_table.specs.Passes.{Place}
 use Rattle.host_table.specs.Rows.{IsEnd, AreEnds}
@@ -23,3 +23,8 @@ more_put new old put start x is was = is ∙ (ap (λ (z : List _). z ++ x ∷ []
 pub moved_one : {A : Type 0} (into into' rest rest' start : List A) (x : A) → into ++ rest ≡ start → rest ≡ x ∷ rest' → into' ≡ into ++ x ∷ [] → into' ++ rest' ≡ start
 moved_one into into' rest rest' start x is first put =
     ap (λ (z : List _). z ++ rest') put ∙ (append_assoc into (x ∷ []) rest' ∙ (ap (λ (z : List _). into ++ z) (sym first) ∙ is))
+
+-- a list of no length has nothing
+pub nothing_left : {A : Type 0} (xs : List A) → length xs ≡ 0 → xs ≡ []
+nothing_left [] e = refl
+nothing_left (x ∷ xs) e = absurd (omega arith)

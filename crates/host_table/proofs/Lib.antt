@@ -11,3 +11,11 @@ pub mod Ending
 pub mod Starting
 pub mod Locking
 pub mod Beginning
+pub mod Reading
+pub mod Wholes
+pub mod Joining
+pub mod Listing
+pub mod Order
+pub mod Sorting
+pub mod Owners
+pub mod Journals

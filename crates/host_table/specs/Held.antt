@@ -7,7 +7,7 @@ use Rattle.host_core.specs.declared.caller.Receipt.{Receipt}
 use Rattle.host_core.specs.declared.caller.CallFault.{CallFault}
 use Rattle.host_core.specs.Caller.{entry_of, called_back, IsFullCall}
 use Rattle.host_core.specs.Entries.{back_of}
-use Rattle.host_core.specs.Value.{Book}
+use Rattle.host_core.specs.Value.{Book, Left, IsLawful}
 use Rattle.host_table.specs.Histories.{untimed, last_time, IsTimely, AreNamed}
 
 -- What each of a host's shards keeps. Before its first entry the folder holds what it held at the start.
@@ -34,3 +34,10 @@ pub record Declines {F : Type 0} (old new : Book F) (call : Call) (floor moment 
   pub made : new.made ≡ old.made
   pub full : IsFullCall refusal → FullAt old.opening old.opened old.capacity (untimed old.made) floor call moment
   pub handed : called_back refusal ≡ call
+
+-- what a shard leaves, and its folder as the last step left it
+pub record IsTaken {F : Type 0} (files : F → Option Files) (faults : F → ℕ) (book : Book F) (left : Left F) (folder : F) : Type 0 where
+  pub left_is : left ≡ record { opening = book.opening; made = book.made; start = book.start }
+  pub folder_is : folder ≡ book.folder
+  pub held : IsHeld book (files book.start) (files book.folder) (faults book.start) (faults book.folder)
+  pub lawful : IsLawful book (files book.start) (files book.folder) (faults book.start) (faults book.folder)

@@ -7,3 +7,5 @@ pub mod Rows
 pub mod Start
 pub mod Seated
 pub mod Sights
+pub mod Journal
+pub mod Close

@@ -1,5 +1,5 @@
 -- A host and its passes, as contracts see them. (Own.)
-use Rattle.std.specs.Prelude.{◌≡◌, ⊤, ℕ, ◌+◌, ◌-◌, ◌/◌, max, ltb, false, List, [], ◌∷◌, ◌++◌, length, map, Option, None, Some, slice_get, if◌then◌else◌}
+use Rattle.std.specs.Prelude.{◌≤◌, ◌≡◌, ⊤, ℕ, ◌+◌, ◌-◌, ◌/◌, max, ltb, false, List, [], ◌∷◌, ◌++◌, length, map, Option, None, Some, slice_get, if◌then◌else◌}
 use Rattle.std.specs.List.{AllByRecursion}
 use Rattle.atomic_table.specs.Seated.{TableId}
 use Rattle.turn_lock.specs.Seats.{Seated}
@@ -191,3 +191,4 @@ module _ {F : Type 0} where
     pub bases : AreBases host.opened host.capacity 0 host.bases
     pub wide : length host.locks ≡ 16
     pub many : length host.bases ≡ 16
+    pub small : host.capacity ≤ 32768

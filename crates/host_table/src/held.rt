@@ -6,9 +6,9 @@ ghost use Rattle.wopi_model.specs.Moment.{IsMoment};
 ghost use Rattle.host_core.specs.Opening.{IsOpening, Fits, IsTooLarge, IfTooLarge};
 ghost use Rattle.wopi_text.specs.FileName.{shard_of};
 ghost use Rattle.host_table.specs.Histories.{last_stamp, as_opened, IsSeen};
-ghost use Rattle.host_table.specs.Held.{Adds, Declines};
+ghost use Rattle.host_table.specs.Held.{Adds, Declines, IsTaken};
 
-use host_core::{CallFault, Receipt, Shard, StartFault, StepFault};
+use host_core::{CallFault, Past, Receipt, Shard, StartFault, StepFault};
 use outside::Folder;
 use std::alloc::Global;
 use std::marker::Model;
@@ -141,5 +141,14 @@ impl<F: Folder> Held<F> {
         let Held { shard } = self;
         let (folder, _) = shard.end();
         folder
+    }
+
+    /// The folder as the last step left it, and what the shard leaves.
+    pub fn end(self) -> (F, Past<F>)
+        ensures taken { IsTaken F.files F.faults self result.1 result.0 }
+    {
+        let Held { shard } = self;
+        let (folder, past) = shard.end();
+        (folder, past)
     }
 }

@@ -1,17 +1,22 @@
 //! The host.
-ghost use Rattle.std.specs.Prelude.{◌≡◌, ◌+◌, ◌<◌, ◌≤◌, ◌∷◌, [], ◌++◌, length, map, IfOk, IfErr, OnOk, OnErr, None, Some, IsSomeAnd};
+ghost use Rattle.std.specs.Prelude.{◌≡◌, ◌+◌, ◌<◌, ◌≤◌, ◌∷◌, [], ◌++◌, length, map, IfOk, IfErr, OnOk, OnErr, None, Some, IsSomeAnd, IsTrue, ◌↔◌};
+ghost use Rattle.std.specs.List.{AllByRecursion};
 ghost use Rattle.wopi_model.specs.Moment.{IsMoment};
 ghost use Rattle.wopi_text.specs.FileName.{shard_of};
 ghost use Rattle.host_core.specs.Caller.{Makes, Refuses, Frames, entry_of};
 ghost use Rattle.host_table.specs.Histories.{last_stamp, as_opened, IsSeen};
 ghost use Rattle.host_table.specs.Passes.{locks_of, own_of, top, sight_of, kept_pass, given_pass, IsPassOf, IsSamePass, HasSeen, AreBases};
 ghost use Rattle.host_table.specs.Start.{first_seats, first_pass, AreHanded, IsBlamed, Starts};
+ghost use Rattle.host_table.specs.Close.{IsWhole, Ends};
 ghost use Rattle.host_table.specs.Calls.{Calls, Looks};
 
+use crate::closing::{Room, end_host};
 use crate::held::Held;
+use crate::journal::Journal;
 use crate::opening::{hand_back, lock_all, open_all};
 use crate::pass::Pass;
 use crate::rows::split_all;
+use crate::whole::{are_numbered, weigh_whole};
 use host_core::{CallFault, Receipt, StartFault};
 use outside::Folder;
 use std::alloc::Global;
@@ -48,6 +53,13 @@ impl<F: Folder> Model for Host<F> {
     ghost view = { host_of };
 
     ghost invariant = { λ host. IsHost (host_of host) };
+}
+
+/// Why a host wasn't closed.
+#[derive(Drop)]
+pub enum CloseFault<F: Folder> {
+    /// There was no memory. The host and its passes come back.
+    Memory(Host<F>, Vec<Pass<F>>),
 }
 
 /// One call in the shard's turn, and the last stamp that was then seen there.
@@ -87,6 +99,7 @@ fn begin<F: Folder>(
 ) -> (Host<F>, Pass<F>)
     requires seats { seats.items ≡ first_seats locks.items (map as_opened shards.value.items) }
     requires many { (length locks.items ≡ 16) × (length shards.value.items ≡ 16) }
+    requires small { capacity ≤ 32768 }
     requires bases { AreBases opened capacity 0 (map as_opened shards.value.items) }
     ensures host { result.0 ≡ record { locks = locks.items; bases = map as_opened shards.value.items; opened = opened; capacity = capacity; made = 1 } }
     ensures pass { result.1 ≡ first_pass result.0 }
@@ -212,5 +225,30 @@ impl<F: Folder> Host<F> {
         let (last, answer) = turn(rt, lock, seat, call, number, floor, moment);
         pass.last = floor.max(last);
         answer
+    }
+
+    /// These are all passes of the host: their numbers are those below how many were made, each once, and their
+    /// weights add up to 2^62.
+    pub fn whole(&self, passes: &[Pass<F>]) -> bool
+        ensures { IsTrue result ↔ IsWhole self.now.made passes.now }
+    {
+        if !are_numbered(passes, self.made) {
+            return false;
+        }
+        weigh_whole(passes)
+    }
+
+    /// Ends the host by all its passes: gives its journal, and the folders in the order of the shards, as the last
+    /// steps left them. Where there is no memory, all is handed back as it was.
+    pub fn close(self, passes: Vec<Pass<F>>) -> Result<(Journal<F>, Vec<F>), CloseFault<F>>
+        requires of_host { AllByRecursion (IsPassOf self) passes.items }
+        requires whole { IsWhole self.made passes.items }
+        ensures ends { IfOk result (λ ended. Ends F.files F.faults self passes.items ended.0 ended.1.items) }
+        ensures memory { IfErr result (λ fault. fault ≡ CloseFault.Memory self passes) }
+    {
+        match Room::new(self.alloc, self.capacity) {
+            Err(_) => return Err(CloseFault::Memory(self, passes)),
+            Ok(room) => return Ok(end_host(self, passes, room)),
+        }
     }
 }

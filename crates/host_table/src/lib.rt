@@ -10,14 +10,18 @@
 //! Nothing is said of progress: a call that may wait owes no return.
 #![tactic(auto)]
 
+mod closing;
 mod held;
 mod host;
+mod journal;
 mod opening;
 mod pass;
 mod rows;
 mod seated;
+mod whole;
 
-pub use host::Host;
+pub use host::{CloseFault, Host};
+pub use journal::Journal;
 pub use host_core::{CallFault, Receipt, StartFault};
 pub use pass::Pass;
 pub use seated::{Footing, Seated};

@@ -43,6 +43,12 @@ impl<F: Folder> Pass<F> {
         self.weight
     }
 
+    pub(crate) fn number(&self) -> u32
+        ensures { result ≡ self.now.number }
+    {
+        self.number
+    }
+
     /// What a pass has seen holds of every pass.
     pub(crate) fn look(&self)
         ensures { HasSeen self.now }
