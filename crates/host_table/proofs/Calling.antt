@@ -1,0 +1,276 @@
+-- A pass after a call of one of its seats.
+use Rattle.std.proofs.Common.{◌≡◌, ℕ, zero, suc, ◌<◌, max, Option, Some, Result, IfOk, IfErr, OnErr, List, [], ◌∷◌, ◌++◌, map, length, set, get_or, slice_get, refl, ap, sym, ◌∙◌, subst, arith, length-set, append_assoc}
+use mathlib.Core.List.{IsPrefix, map-append}
+use Rattle.std.specs.Prelude as Prelude
+use Rattle.wopi_text.specs.FileName.{shard_of}
+use Rattle.wopi_model.specs.declared.calls.Call.{Call}
+use Rattle.wopi_model.specs.Shard.{Opening, Item, Entry, Legal, RisesFrom, entries}
+use Rattle.wopi_model.specs.Host.{FullAt}
+use Rattle.host_core.specs.declared.caller.Receipt.{Receipt}
+use Rattle.host_core.specs.declared.caller.CallFault.{CallFault}
+use Rattle.host_core.specs.Entries.{Made}
+use Rattle.host_core.specs.Caller.{entry_of, Extends, Makes, Refuses, Frames, IsFullCall}
+use Rattle.host_core.specs.Value.{Book}
+use Rattle.host_table.specs.Histories.{steps_of, untimed, last_stamp, IsSeen}
+use Rattle.host_table.specs.Passes.{Place, PassView, Own, stamp_of, own_of, lock_of, base_of, top, seen_at, opening_in, opening_at, sight_of, IsBase, Owns, HasOwn, IsSeat, IsPass, HasSeen, IsSamePass}
+use Rattle.host_table.specs.Calls.{Calls, Looks}
+use Rattle.host_table.proofs.Timing.{entries-untimed}
+use Rattle.host_table.proofs.Stamps.{steps-append, steps-long, last_stamp-prefix, get_last}
+use Rattle.host_table.proofs.Owned.{AreOwn, owns-later, owns-push, own_after, own_stays, rises_after}
+use Rattle.host_table.proofs.Turning.{ok_map, err_map, on_err, either_case}
+use Rattle.host_table.proofs.Seats.{get_there, get_set, get_other, map_set, rises_of, seat_there, seats_set, own_seats, top_set, has_seen}
+
+-- the pass, with a seat changed
+abbrev pub with_seat : {F : Type 0} → PassView F → ℕ → Place F → ℕ → PassView F
+with_seat p k w last = record { number = p.number; last = last; weight = p.weight; opened = p.opened; capacity = p.capacity; seats = set p.seats k w }
+
+some_same : {A : Type 0} (x y : A) (o : Option A) → o ≡ Some x → o ≡ Some y → x ≡ y
+some_same x y o a b = cc (a, b)
+
+module _ {F : Type 0} (p : PassView F) (k : ℕ) (v w : Place F) (inside : IsPass p) (below : k < 16) (at : v ≡ get_or p.seats k v) where
+  here : k < length p.seats
+  here = let wide = inside.wide in omega arith
+
+  pub seat_is : IsSeat p.number p.weight p.opened p.capacity k v
+  seat_is = seat_there p.number p.weight p.opened p.capacity 0 k p.seats k v (omega arith) inside.seats here at
+
+  was : slice_get p.seats k ≡ Some v
+  was = get_there p.seats k v here at
+
+  pub own_are : AreOwn p.number p.seats
+  own_are = own_seats p.number p.weight p.opened p.capacity 0 p.seats inside.seats
+
+  -- the pass after the call keeps what each pass keeps
+  pub pass_after : (last : ℕ) → IsSeat p.number p.weight p.opened p.capacity k w → IsPrefix v.seen w.seen → last ≡ max p.last (last_stamp w.seen)
+      → RisesFrom 0 (map stamp_of (own_of (with_seat p k w last))) → IsPass (with_seat p k w last)
+  pass_after last is later last_is rises =
+      let rising = rises_of is.base w.seen is.seen in
+      record {
+        seats = seats_set p.number p.weight p.opened p.capacity 0 k p.seats k w (omega arith) inside.seats is;
+        last_is = last_is ∙ (ap (λ (n : ℕ). max n (last_stamp w.seen)) inside.last_is ∙ top_set p.seats k v w here at (last_stamp-prefix v.seen w.seen later rising));
+        wide = length-set p.seats k w ∙ inside.wide;
+        rises = rises;
+      }
+
+  -- what the seat keeps
+  seat_after : (base : Book F) → v.base ≡ Some base → IsSeen base w.seen → w.base ≡ v.base → w.taken ≡ v.taken → w.weight ≡ v.weight → Owns p.number w.seen w.own → IsSeat p.number p.weight p.opened p.capacity k w
+  seat_after base based seen same_base same_taken same_weight owns =
+      let old = seat_is in
+      let one : base ≡ old.base = some_same base old.base v.base based old.based in
+      record {
+        free = same_taken ∙ old.free;
+        weight_is = same_weight ∙ old.weight_is;
+        base = base;
+        based = same_base ∙ based;
+        is_base = subst (λ (b : Book F). IsBase p.opened p.capacity k b) (sym one) old.is_base;
+        seen = seen;
+        owns = owns;
+      }
+
+  same_pass : (last : ℕ) → w.lock ≡ v.lock → w.base ≡ v.base → IsSamePass p (with_seat p k w last)
+  same_pass last lock base = record {
+    number = refl;
+    weight = refl;
+    opened_is = refl;
+    capacity_is = refl;
+    locks = map_set lock_of p.seats k v w at lock;
+    bases = map_set base_of p.seats k v w at base;
+  }
+
+  opening_same : w.base ≡ v.base → (shard : ℕ) → opening_at (slice_get (set p.seats k w) shard) ≡ opening_at (slice_get p.seats shard)
+  opening_same base shard = go shard p.seats k v at here base where
+    go : (j : ℕ) (ss : List (Place F)) (n : ℕ) (x : Place F) → x ≡ get_or ss n x → n < length ss → w.base ≡ x.base → opening_at (slice_get (set ss n w) j) ≡ opening_at (slice_get ss j)
+    go j [] n x e h b = refl
+    go zero (s ∷ ss) zero x e h b = ap opening_in (b ∙ ap (λ (z : Place F). z.base) e)
+    go zero (s ∷ ss) (suc n) x e h b = refl
+    go (suc j) (s ∷ ss) zero x e h b = refl
+    go (suc j) (s ∷ ss) (suc n) x e h b = go j ss n x e (omega arith) b
+
+  frames : (last : ℕ) (call : Call) → k ≡ shard_of call.name → (base : Book F) → v.base ≡ Some base → w.base ≡ v.base → IsSeen base w.seen → Frames (sight_of p) (sight_of (with_seat p k w last)) call.name
+  frames last call home base based same seen =
+      let old = seat_is in
+      let one : base ≡ old.base = some_same base old.base v.base based old.based in
+      let opened : base.opened ≡ p.opened = ap (λ (b : Book F). b.opened) one ∙ old.is_base.opened_is in
+      let now : seen_at (slice_get (set p.seats k w) k) ≡ untimed w.seen = ap seen_at (get_set p.seats k w here) in
+      let opening : opening_at (slice_get p.seats k) ≡ base.opening = ap opening_at was ∙ ap opening_in based in
+      let P : Opening × (ℕ × List Item) → Type 0 = λ z. Legal z.0 z.1.0 z.1.1 in
+      let same_all : (base.opening, (base.opened, untimed w.seen)) ≡ (opening_at (slice_get p.seats k), (p.opened, seen_at (slice_get (set p.seats k w) k))) = λ i. (sym opening i, (opened i, sym now i)) in
+      let legal : Legal (opening_at (slice_get p.seats k)) p.opened (seen_at (slice_get (set p.seats k w) k)) = subst P same_all seen.legal in
+      let Q : ℕ → Type 0 = λ n. Legal (opening_at (slice_get p.seats n)) p.opened (seen_at (slice_get (set p.seats k w) n)) in
+      record {
+        others = λ shard differ. ap seen_at (get_other p.seats k shard w (λ e. differ (e ∙ home)));
+        openings = opening_same same;
+        home = λ other. refl;
+        pass = refl;
+        capacity = refl;
+        opened = refl;
+        legal = subst Q home legal;
+      }
+
+  seen_by : (base : Book F) → v.base ≡ Some base → Prelude.IsSomeAnd v.base (λ b. IsSeen b w.seen) → IsSeen base w.seen
+  seen_by base based seen = let P : Option (Book F) → Type 0 = λ o. Prelude.IsSomeAnd o (λ b. IsSeen b w.seen) in subst P based seen
+
+  module _ (last : ℕ) (call : Call) (moment : ℕ) (home : k ≡ shard_of call.name) (seen_all : Prelude.IsSomeAnd v.base (λ b. IsSeen b w.seen)) (last_is : last ≡ max p.last (last_stamp w.seen)) where
+    abbrev q : PassView F
+    q = with_seat p k w last
+
+    module _ (receipt : Receipt) (calls : Calls v call p.number p.last moment receipt w) where
+      abbrev made : List Made
+      made = v.seen ++ calls.between
+
+      abbrev one : Made
+      one = record { time = calls.time; step = entry_of p.number call moment receipt }
+
+      lock_same : w.lock ≡ v.lock
+      lock_same = ap (λ (z : Place F). z.lock) calls.same
+
+      base_same : w.base ≡ v.base
+      base_same = ap (λ (z : Place F). z.base) calls.same
+
+      own_more : w.own ≡ v.own ++ receipt.place ∷ []
+      own_more = ap (λ (z : Place F). z.own) calls.same
+
+      later : IsPrefix v.seen w.seen
+      later = (calls.between ++ one ∷ [], sym (append_assoc v.seen calls.between (one ∷ [])) ∙ sym calls.seen)
+
+      there : slice_get w.seen receipt.place ≡ Some one
+      there = ap (λ (z : List Made). slice_get z receipt.place) calls.seen ∙ (ap (slice_get ((v.seen ++ calls.between) ++ one ∷ [])) calls.place ∙ get_last (v.seen ++ calls.between) one)
+
+      owns_then : Owns p.number w.seen w.own
+      owns_then = let P : List ℕ → Type 0 = λ places. Owns p.number w.seen places in
+          subst P (sym own_more) (owns-push p.number w.seen v.own receipt.place (owns-later p.number v.seen w.seen v.own later (seat_is).owns) (subst (HasOwn p.number) (sym there) refl))
+
+      shard_same : receipt.shard ≡ k
+      shard_same =
+          let old = seat_is in
+          let same : calls.base ≡ old.base = some_same calls.base old.base v.base calls.based old.based in
+          let only : calls.base.only ≡ Some k = ap (λ (b : Book F). b.only) same ∙ old.is_base.only in
+          some_same receipt.shard k calls.base.only calls.shard only
+
+      top_below : top p.seats < receipt.stamp
+      top_below = let above = calls.above in let last_was = inside.last_is in omega arith
+
+      pub own_call : own_of q ≡ own_of p ++ record { shard = receipt.shard; place = receipt.place; entry = entry_of p.number call moment receipt } ∷ []
+      own_call =
+          own_after p.number p.seats k v w (v.seen ++ calls.between) one own_are here at (calls.between, refl) calls.seen (own_more ∙ ap (λ (n : ℕ). v.own ++ n ∷ []) calls.place) (seat_is).owns top_below
+          ∙ (λ i. own_of p ++ record { shard = sym shard_same i; place = sym calls.place i; entry = entry_of p.number call moment receipt } ∷ [])
+
+      rises_then : RisesFrom 0 (map stamp_of (own_of q))
+      rises_then =
+          let more : map stamp_of (own_of q) ≡ map stamp_of (own_of p) ++ receipt.stamp ∷ [] = ap (map stamp_of) own_call ∙ map-append stamp_of (own_of p) _ in
+          subst (RisesFrom 0) (sym more) (rises_after p.number receipt.stamp p.seats own_are top_below inside.rises)
+
+      pub pass_called : IsPass q
+      pass_called = pass_after last (seat_after calls.base calls.based (seen_by calls.base calls.based seen_all) base_same (ap (λ (z : Place F). z.taken) calls.same) (ap (λ (z : Place F). z.weight) calls.same) owns_then) later last_is rises_then
+
+      pub frames_called : Frames (sight_of p) (sight_of q) call.name
+      frames_called = frames last call home calls.base calls.based base_same (seen_by calls.base calls.based seen_all)
+
+      pub same_called : IsSamePass p q
+      same_called = same_pass last lock_same base_same
+
+      pub makes : Makes (sight_of p) (sight_of q) call moment receipt
+      makes =
+          let entry : Entry = entry_of p.number call moment receipt in
+          let now : entries (seen_at (slice_get (set p.seats k w) k)) ≡ steps_of made ++ entry ∷ [] =
+          ap (λ (o : Option (Place F)). entries (seen_at o)) (get_set p.seats k w here) ∙ (entries-untimed w.seen ∙ (ap steps_of calls.seen ∙ steps-append made (one ∷ []))) in
+          let old : entries (seen_at (slice_get p.seats k)) ≡ steps_of v.seen = ap (λ (o : Option (Place F)). entries (seen_at o)) was ∙ entries-untimed v.seen in
+          let found : entries (untimed made) ≡ steps_of made = entries-untimed made in
+          let seat = seat_is in
+          let base : calls.base ≡ seat.base = some_same calls.base seat.base v.base calls.based seat.based in
+          let opening : opening_at (slice_get p.seats k) ≡ calls.base.opening = ap opening_at was ∙ ap opening_in calls.based in
+          let opened : p.opened ≡ calls.base.opened = sym (ap (λ (b : Book F). b.opened) base ∙ seat.is_base.opened_is) in
+          let capacity : p.capacity ≡ calls.base.capacity = sym (ap (λ (b : Book F). b.capacity) base ∙ seat.is_base.capacity_is) in
+          let P : Opening × (ℕ × ℕ) → Type 0 = λ z. FullAt z.0 z.1.0 z.1.1 (untimed made) p.last call moment → ⊥ in
+          let terms : (calls.base.opening, (calls.base.opened, calls.base.capacity)) ≡ (opening_at (slice_get p.seats k), (p.opened, p.capacity)) = λ i. (sym opening i, (sym opened i, sym capacity i)) in
+          let room : FullAt (opening_at (slice_get p.seats k)) p.opened p.capacity (untimed made) p.last call moment → ⊥ = subst P terms calls.room in
+          let Last : ℕ → Type 0 = λ n. entries (seen_at (slice_get (set p.seats k w) n)) ≡ entries (untimed made) ++ entry ∷ [] in
+          let Begins : ℕ → Type 0 = λ n. Extends (entries (seen_at (slice_get p.seats n))) (entries (untimed made)) in
+          let Room : ℕ → Type 0 = λ n. FullAt (opening_at (slice_get p.seats n)) p.opened p.capacity (untimed made) p.last call moment → ⊥ in
+          record {
+            found = untimed made;
+            own = ap (map (λ (one : Own). one.entry)) own_call ∙ map-append (λ (one : Own). one.entry) (own_of p) _;
+            last = subst Last home (now ∙ ap (λ (es : List Entry). es ++ entry ∷ []) (sym found));
+            shard = shard_same ∙ home;
+            place = calls.place ∙ sym (ap (λ (es : List Entry). length es) found ∙ steps-long made);
+            begins = subst Begins home (steps_of calls.between, found ∙ (steps-append v.seen calls.between ∙ ap (λ (es : List Entry). es ++ steps_of calls.between) (sym old)));
+            above = calls.above;
+            room = subst Room home room;
+            back = calls.back;
+          }
+
+    module _ (refusal : CallFault) (looks : Looks v call p.last moment refusal w) where
+      base_stays : w.base ≡ v.base
+      base_stays = ap (λ (z : Place F). z.base) looks.same
+
+      pub own_looked : own_of q ≡ own_of p
+      own_looked = own_stays p.number p.seats k v w at looks.later (ap (λ (z : Place F). z.own) looks.same) (seat_is).owns
+
+      owns_stays : Owns p.number w.seen w.own
+      owns_stays = let P : List ℕ → Type 0 = λ places. Owns p.number w.seen places in
+          subst P (sym (ap (λ (z : Place F). z.own) looks.same)) (owns-later p.number v.seen w.seen v.own looks.later (seat_is).owns)
+
+      pub pass_looked : IsPass q
+      pass_looked = pass_after last (seat_after looks.base looks.based (seen_by looks.base looks.based seen_all) base_stays (ap (λ (z : Place F). z.taken) looks.same) (ap (λ (z : Place F). z.weight) looks.same) owns_stays) looks.later last_is
+          (subst (λ (owns : List Own). RisesFrom 0 (map stamp_of owns)) (sym own_looked) inside.rises)
+
+      pub frames_looked : Frames (sight_of p) (sight_of q) call.name
+      frames_looked = frames last call home looks.base looks.based base_stays (seen_by looks.base looks.based seen_all)
+
+      pub same_looked : IsSamePass p q
+      same_looked = same_pass last (ap (λ (z : Place F). z.lock) looks.same) base_stays
+
+      pub refuses : Refuses (sight_of p) (sight_of q) call moment refusal
+      refuses =
+          let now : seen_at (slice_get (set p.seats k w) k) ≡ untimed w.seen = ap seen_at (get_set p.seats k w here) in
+          let old : entries (seen_at (slice_get p.seats k)) ≡ steps_of v.seen = ap (λ (o : Option (Place F)). entries (seen_at o)) was ∙ entries-untimed v.seen in
+          let seat = seat_is in
+          let base : looks.base ≡ seat.base = some_same looks.base seat.base v.base looks.based seat.based in
+          let opening : opening_at (slice_get p.seats k) ≡ looks.base.opening = ap opening_at was ∙ ap opening_in looks.based in
+          let opened : p.opened ≡ looks.base.opened = sym (ap (λ (b : Book F). b.opened) base ∙ seat.is_base.opened_is) in
+          let capacity : p.capacity ≡ looks.base.capacity = sym (ap (λ (b : Book F). b.capacity) base ∙ seat.is_base.capacity_is) in
+          let P : Opening × (ℕ × (ℕ × List Item)) → Type 0 = λ z. IsFullCall refusal → FullAt z.0 z.1.0 z.1.1.0 z.1.1.1 p.last call moment in
+          let terms : (looks.base.opening, (looks.base.opened, (looks.base.capacity, untimed w.seen))) ≡ (opening_at (slice_get p.seats k), (p.opened, (p.capacity, seen_at (slice_get (set p.seats k w) k)))) =
+          λ i. (sym opening i, (sym opened i, (sym capacity i, sym now i))) in
+          let Full : ℕ → Type 0 = λ n. IsFullCall refusal → FullAt (opening_at (slice_get p.seats n)) p.opened p.capacity (seen_at (slice_get (set p.seats k w) n)) p.last call moment in
+          let Begins : ℕ → Type 0 = λ n. Extends (entries (seen_at (slice_get p.seats n))) (entries (seen_at (slice_get (set p.seats k w) n))) in
+          let begins : entries (seen_at (slice_get (set p.seats k w) k)) ≡ entries (seen_at (slice_get p.seats k)) ++ steps_of looks.later.0 =
+          ap (λ (items : List Item). entries items) now ∙ (entries-untimed w.seen ∙ (ap steps_of (sym looks.later.1) ∙ (steps-append v.seen looks.later.0 ∙ ap (λ (es : List Entry). es ++ steps_of looks.later.0) (sym old)))) in
+          record {
+            own = ap (map (λ (one : Own). one.entry)) own_looked;
+            begins = subst Begins home (steps_of looks.later.0, begins);
+            full = subst Full home (subst P terms looks.full);
+            handed = looks.handed;
+          }
+
+    -- whatever was answered
+    module _ (answer : Result Receipt CallFault) (called : IfOk answer (λ receipt. Calls v call p.number p.last moment receipt w)) (looked : IfErr answer (λ refusal. Looks v call p.last moment refusal w)) where
+      pub pass_then : IsPass q
+      pass_then = either_case answer _ _ _ pass_called pass_looked called looked
+
+      pub frames_then : Frames (sight_of p) (sight_of q) call.name
+      frames_then = either_case answer _ _ _ frames_called frames_looked called looked
+
+      pub same_then : IsSamePass p q
+      same_then = either_case answer _ _ _ same_called same_looked called looked
+
+      pub seen_all_then : HasSeen q
+      seen_all_then = has_seen q pass_then
+
+      pub makes_then : IfOk answer (Makes (sight_of p) (sight_of q) call moment)
+      makes_then = ok_map answer _ _ makes called
+
+      pub refuses_then : IfErr answer (Refuses (sight_of p) (sight_of q) call moment)
+      refuses_then = err_map answer _ _ refuses looked
+
+      pub own_then : IfOk answer (λ receipt. own_of q ≡ own_of p ++ record { shard = receipt.shard; place = receipt.place; entry = entry_of p.number call moment receipt } ∷ [])
+      own_then = ok_map answer _ _ own_call called
+
+      pub own_stays_then : OnErr answer (own_of q ≡ own_of p)
+      own_stays_then = on_err answer _ _ own_looked looked
+
+-- the seat of the call's shard has its turn there
+pub based_call : {F : Type 0} (p : PassView F) (k : ℕ) (v : Place F) (name : List ℕ) → IsSeat p.number p.weight p.opened p.capacity k v → k ≡ shard_of name → Prelude.IsSomeAnd v.base (λ base. base.only ≡ Some (shard_of name))
+based_call p k v name seat home =
+    let P : Option (Book _) → Type 0 = λ o. Prelude.IsSomeAnd o (λ base. base.only ≡ Some (shard_of name)) in
+    subst P (sym seat.based) (seat.is_base.only ∙ ap Some home)

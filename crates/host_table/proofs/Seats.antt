@@ -1,0 +1,71 @@
+-- The seats of a pass, one by one and as a row of which one changes.
+use Rattle.std.proofs.Common.{◌≡◌, ◌≢◌, ℕ, zero, suc, ◌+◌, ◌≤◌, ◌<◌, max, Option, Some, List, [], ◌∷◌, map, length, set, get_or, slice_get, refl, ap, sym, ◌∙◌, subst, arith}
+use Rattle.wopi_model.specs.Shard.{Entry, RisesFrom, stamps}
+use Rattle.host_core.specs.Entries.{Made}
+use Rattle.host_core.specs.Value.{Book}
+use Rattle.host_table.specs.Histories.{steps_of, last_stamp, AreNamed, IsSeen}
+use Rattle.host_table.specs.Passes.{PassView, IsPass, HasSeen, Place, top, IsSeat, AreSeats, AreInShards}
+use Rattle.host_table.proofs.Timing.{entries-untimed}
+use Rattle.host_table.proofs.Owned.{AreOwn}
+
+module _ {A : Type 0} where
+  pub get_there : (xs : List A) (k : ℕ) (v : A) → k < length xs → v ≡ get_or xs k v → slice_get xs k ≡ Some v
+  get_there [] k v h e = absurd (omega arith)
+  get_there (x ∷ xs) zero v h e = ap Some (sym e)
+  get_there (x ∷ xs) (suc k) v h e = get_there xs k v (omega arith) e
+
+  pub get_set : (xs : List A) (k : ℕ) (w : A) → k < length xs → slice_get (set xs k w) k ≡ Some w
+  get_set [] k w h = absurd (omega arith)
+  get_set (x ∷ xs) zero w h = refl
+  get_set (x ∷ xs) (suc k) w h = get_set xs k w (omega arith)
+
+  pub get_other : (xs : List A) (k j : ℕ) (w : A) → j ≢ k → slice_get (set xs k w) j ≡ slice_get xs j
+  get_other [] k j w n = refl
+  get_other (x ∷ xs) zero zero w n = absurd (n refl)
+  get_other (x ∷ xs) zero (suc j) w n = refl
+  get_other (x ∷ xs) (suc k) zero w n = refl
+  get_other (x ∷ xs) (suc k) (suc j) w n = get_other xs k j w (λ e. n (ap suc e))
+
+  -- what a function gives of each stays, where it gives the same of the new one
+  pub map_set : {B : Type 0} (f : A → B) (xs : List A) (k : ℕ) (v w : A) → v ≡ get_or xs k v → f w ≡ f v → map f (set xs k w) ≡ map f xs
+  map_set f [] k v w e same = refl
+  map_set f (x ∷ xs) zero v w e same = let first : f w ≡ f x = same ∙ ap f e in λ i. first i ∷ map f xs
+  map_set f (x ∷ xs) (suc k) v w e same = let rest = map_set f xs k v w e same in λ i. f x ∷ rest i
+
+-- the stamps that were seen rise
+pub rises_of : {F : Type 0} (base : Book F) (seen : List Made) → IsSeen base seen → RisesFrom 0 (stamps (steps_of seen))
+rises_of base seen is = subst (λ (es : List Entry). RisesFrom 0 (stamps es)) (entries-untimed seen) is.legal.stamps
+
+module _ {F : Type 0} (number weight opened capacity : ℕ) where
+  pub seat_there : (j n : ℕ) (ss : List (Place F)) (k : ℕ) (v : Place F) → n ≡ j + k → AreSeats number weight opened capacity j ss → k < length ss → v ≡ get_or ss k v → IsSeat number weight opened capacity n v
+  seat_there j n [] k v e are h at = absurd (omega arith)
+  seat_there j n (s ∷ ss) zero v e are h at =
+      let here : j ≡ n = omega arith in
+      let P : ℕ × Place F → Type 0 = λ z. IsSeat number weight opened capacity z.0 z.1 in
+      let same : (j, s) ≡ (n, v) = λ i. (here i, sym at i) in
+      subst P same are.0
+  seat_there j n (s ∷ ss) (suc k) v e are h at = seat_there (j + 1) n ss k v (omega arith) are.1 (omega arith) at
+
+  pub seats_set : (j n : ℕ) (ss : List (Place F)) (k : ℕ) (w : Place F) → n ≡ j + k → AreSeats number weight opened capacity j ss → IsSeat number weight opened capacity n w → AreSeats number weight opened capacity j (set ss k w)
+  seats_set j n [] k w e are is = tt
+  seats_set j n (s ∷ ss) zero w e are is =
+      let here : n ≡ j = omega arith in
+      let P : ℕ → Type 0 = λ z. IsSeat number weight opened capacity z w in
+      (subst P here is, are.1)
+  seats_set j n (s ∷ ss) (suc k) w e are is = (are.0, seats_set (j + 1) n ss k w (omega arith) are.1 is)
+
+  pub own_seats : (j : ℕ) (ss : List (Place F)) → AreSeats number weight opened capacity j ss → AreOwn number ss
+  own_seats j [] are = tt
+  own_seats j (s ∷ ss) are = ((rises_of are.0.base s.seen are.0.seen, are.0.owns), own_seats (j + 1) ss are.1)
+
+  pub named_seats : (j : ℕ) (ss : List (Place F)) → AreSeats number weight opened capacity j ss → AreInShards j ss
+  named_seats j [] are = tt
+  named_seats j (s ∷ ss) are = (subst (λ (o : Option ℕ). AreNamed o s.seen) are.0.is_base.only are.0.seen.named, named_seats (j + 1) ss are.1)
+
+pub top_set : {F : Type 0} (ss : List (Place F)) (k : ℕ) (v w : Place F) → k < length ss → v ≡ get_or ss k v → last_stamp v.seen ≤ last_stamp w.seen → max (top ss) (last_stamp w.seen) ≡ top (set ss k w)
+top_set [] k v w h e le = absurd (omega arith)
+top_set (s ∷ ss) zero v w h e le = let a : last_stamp v.seen ≡ last_stamp s.seen = ap (λ (z : Place _). last_stamp z.seen) e in grind arith
+top_set (s ∷ ss) (suc k) v w h e le = let a = top_set ss k v w (omega arith) e le in grind arith
+
+pub has_seen : {F : Type 0} (p : PassView F) → IsPass p → HasSeen p
+has_seen p is = record { last_is = is.last_is; named = named_seats p.number p.weight p.opened p.capacity 0 p.seats is.seats }

@@ -1,0 +1,55 @@
+-- A pass that is split in two.
+use Rattle.std.proofs.Common.{◌≡◌, ℕ, ◌+◌, ◌-◌, ◌/◌, ◌≤◌, List, [], ◌∷◌, ◌++◌, map, refl, ap, sym, ◌∙◌, subst, arith}
+use Rattle.std.proofs.lemmas.List.{length-map}
+use Rattle.wopi_model.specs.Shard.{RisesFrom}
+use Rattle.host_table.specs.Passes.{Place, PassView, Own, stamp_of, owned, owned_from, by_stamp, top, AreSeats, IsPass, given_half, kept_half, given_pass, kept_pass}
+use Rattle.host_table.specs.Rows.{CanSplit}
+
+module _ {F : Type 0} where
+  pub can_split : (number weight opened capacity j : ℕ) (ss : List (Place F)) → 2 ≤ weight → AreSeats number weight opened capacity j ss → CanSplit ss
+  can_split number weight opened capacity j [] h are = tt
+  can_split number weight opened capacity j (s ∷ ss) h are = let w = are.0.weight_is in ((are.0.free, omega arith), can_split number weight opened capacity (j + 1) ss h are.1)
+
+  given_seats : (number new weight opened capacity j : ℕ) (ss : List (Place F)) → AreSeats number weight opened capacity j ss → AreSeats new (weight / 2) opened capacity j (map given_half ss)
+  given_seats number new weight opened capacity j [] are = tt
+  given_seats number new weight opened capacity j (s ∷ ss) are =
+      let old = are.0 in
+      (record { free = old.free; weight_is = ap (λ (n : ℕ). n / 2) old.weight_is; base = old.base; based = old.based; is_base = old.is_base; seen = old.seen; owns = tt }, given_seats number new weight opened capacity (j + 1) ss are.1)
+
+  kept_seats : (number weight opened capacity j : ℕ) (ss : List (Place F)) → AreSeats number weight opened capacity j ss → AreSeats number (weight - weight / 2) opened capacity j (map kept_half ss)
+  kept_seats number weight opened capacity j [] are = tt
+  kept_seats number weight opened capacity j (s ∷ ss) are =
+      let old = are.0 in
+      (record { free = old.free; weight_is = ap (λ (n : ℕ). n - n / 2) old.weight_is; base = old.base; based = old.based; is_base = old.is_base; seen = old.seen; owns = old.owns }, kept_seats number weight opened capacity (j + 1) ss are.1)
+
+  top_given : (ss : List (Place F)) → top (map given_half ss) ≡ top ss
+  top_given [] = refl
+  top_given (s ∷ ss) = let rest = top_given ss in grind arith
+
+  top_kept : (ss : List (Place F)) → top (map kept_half ss) ≡ top ss
+  top_kept [] = refl
+  top_kept (s ∷ ss) = let rest = top_kept ss in grind arith
+
+  own_given : (j : ℕ) (ss : List (Place F)) → owned_from j (map given_half ss) ≡ []
+  own_given j [] = refl
+  own_given j (s ∷ ss) = own_given (j + 1) ss
+
+  own_kept : (j : ℕ) (ss : List (Place F)) → owned_from j (map kept_half ss) ≡ owned_from j ss
+  own_kept j [] = refl
+  own_kept j (s ∷ ss) = ap (λ (rest : List Own). owned j s.seen s.own ++ rest) (own_kept (j + 1) ss)
+
+  pub pass_given : (number : ℕ) (p : PassView F) → IsPass p → IsPass (given_pass number p)
+  pass_given number p is = record {
+    seats = given_seats p.number number p.weight p.opened p.capacity 0 p.seats is.seats;
+    last_is = is.last_is ∙ sym (top_given p.seats);
+    wide = length-map p.seats given_half ∙ is.wide;
+    rises = subst (λ (own : List Own). RisesFrom 0 (map stamp_of (by_stamp own))) (sym (own_given 0 p.seats)) tt;
+  }
+
+  pub pass_kept : (p : PassView F) → IsPass p → IsPass (kept_pass p)
+  pass_kept p is = record {
+    seats = kept_seats p.number p.weight p.opened p.capacity 0 p.seats is.seats;
+    last_is = is.last_is ∙ sym (top_kept p.seats);
+    wide = length-map p.seats kept_half ∙ is.wide;
+    rises = subst (λ (own : List Own). RisesFrom 0 (map stamp_of (by_stamp own))) (sym (own_kept 0 p.seats)) is.rises;
+  }

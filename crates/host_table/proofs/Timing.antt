@@ -1,0 +1,124 @@
+-- A history with its ticks and without.
+use Rattle.std.proofs.Common.{◌≡◌, ◌⊎◌, ℕ, zero, suc, ◌+◌, ◌-◌, ◌^◌, ◌<◌, max, ◌==◌, true, if◌then◌else◌, Option, Some, List, [], ◌∷◌, ◌++◌, length, sum_by, slice_get, refl, sym, ap, subst, ◌∙◌, arith}
+use Rattle.wopi_model.specs.declared.calls.Call.{Call}
+use Rattle.wopi_model.specs.Settle.{settled}
+use Rattle.wopi_model.specs.Step.{Accept, decision, IsOutcome}
+use Rattle.wopi_model.specs.Shard as model
+use Rattle.wopi_model.specs.Shard.{Opening, Item, Tick, Step, Entry, Legal, IsAllowed, Along, opened_shard, at_moment, happens, after, entries, stamps, last_from}
+use Rattle.wopi_model.specs.Host.{FullAt, new_bytes, brings_contents, most_kept}
+use Rattle.wopi_model.proofs.Histories.{after-append, at_moment-at_moment}
+use Rattle.host_core.specs.Entries.{Made, items_of, history_of}
+use Rattle.host_core.specs.Opening.{IsOfShard}
+use Rattle.host_table.specs.Histories.{steps_of, untimed, last_stamp, last_time, IsTimely, AreNamed}
+
+pub entries-untimed : (made : List Made) → entries (untimed made) ≡ steps_of made
+entries-untimed [] = refl
+entries-untimed (one ∷ made) = ap (λ (es : List Entry). one.step ∷ es) (entries-untimed made)
+
+entries-items : (made : List Made) (rest : List Item) → entries (items_of made ++ rest) ≡ steps_of made ++ entries rest
+entries-items [] rest = refl
+entries-items (one ∷ made) rest = ap (λ (es : List Entry). one.step ∷ es) (entries-items made rest)
+
+append-none : (es : List Entry) → es ++ [] ≡ es
+append-none [] = refl
+append-none (e ∷ es) = ap (λ (rest : List Entry). e ∷ rest) (append-none es)
+
+pub entries-history : (made : List Made) (time : ℕ) → entries (history_of made time) ≡ steps_of made
+entries-history made time = entries-items made (Tick time ∷ []) ∙ append-none (steps_of made)
+
+-- a shard at a moment depends on the later of its time and the moment
+at_later : (shard : model.Shard) (m n : ℕ) → max shard.now m ≡ max shard.now n → at_moment shard m ≡ at_moment shard n
+at_later shard m n same = λ i. record { opened = shard.opened; now = same i; files = λ name. settled (shard.files name) (same i) }
+
+-- a tick to the time that an entry brings changes nothing
+tick_again : (shard : model.Shard) (time m : ℕ) → time ≡ max shard.now m → at_moment (at_moment shard time) m ≡ at_moment shard m
+tick_again shard time m is = at_moment-at_moment shard time m ∙ at_later shard (max time m) m (omega arith)
+
+step_again : (shard : model.Shard) (one : Made) → one.time ≡ max shard.now one.step.moment → happens (at_moment shard one.time) (Step one.step) ≡ happens shard (Step one.step)
+step_again shard one is = ap (λ (s : model.Shard). model.after_entry s one.step) (tick_again shard one.time one.step.moment is)
+
+pub after-untimed : (shard : model.Shard) (made : List Made) → IsTimely shard.now made → after shard (items_of made) ≡ after shard (untimed made)
+after-untimed shard [] t = refl
+after-untimed shard (one ∷ made) t =
+    let next = happens shard (Step one.step) in
+    ap (λ (s : model.Shard). after s (items_of made)) (step_again shard one t.0) ∙ after-untimed next made (subst (λ (n : ℕ). IsTimely n made) t.0 t.1)
+
+pub after-now : (shard : model.Shard) (made : List Made) → IsTimely shard.now made → (after shard (untimed made)).now ≡ last_time shard.now made
+after-now shard [] t = refl
+after-now shard (one ∷ made) t =
+    let next = happens shard (Step one.step) in
+    after-now next made (subst (λ (n : ℕ). IsTimely n made) t.0 t.1) ∙ ap (λ (n : ℕ). last_time n made) (sym t.0)
+
+-- what is allowed with the ticks is allowed without
+along-untimed : (shard : model.Shard) (made : List Made) (rest : List Item) → IsTimely shard.now made → Along IsAllowed shard (items_of made ++ rest) → Along IsAllowed shard (untimed made)
+along-untimed shard [] rest t a = tt
+along-untimed shard (one ∷ made) rest t a =
+    let next = happens shard (Step one.step) in
+    let same = tick_again shard one.time one.step.moment t.0 in
+    let P : model.Shard → Type 0 = λ s. IsOutcome (s.files one.step.call.name) one.step.call s.opened s.now one.step.ruling in
+    let here : IsAllowed shard (Step one.step) = subst P same a.1.0 in
+    let Q : model.Shard → Type 0 = λ s. Along IsAllowed s (items_of made ++ rest) in
+    (here, along-untimed next made rest (subst (λ (n : ℕ). IsTimely n made) t.0 t.1) (subst Q (step_again shard one t.0) a.1.1))
+
+pub legal-untimed : (opening : Opening) (opened : ℕ) (made : List Made) (time : ℕ) → IsTimely opened made → Legal opening opened (history_of made time) → Legal opening opened (untimed made)
+legal-untimed opening opened made time t l = record {
+  allowed = along-untimed (opened_shard opening opened) made (Tick time ∷ []) t l.allowed;
+  stamps = subst (λ (es : List Entry). model.RisesFrom 0 (stamps es)) (entries-history made time ∙ sym (entries-untimed made)) l.stamps;
+}
+
+-- a call finds the same shard
+pub found-untimed : (opening : Opening) (opened : ℕ) (made : List Made) (time m : ℕ) → IsTimely opened made → time ≡ last_time opened made
+    → at_moment (after (opened_shard opening opened) (history_of made time)) m ≡ at_moment (after (opened_shard opening opened) (untimed made)) m
+found-untimed opening opened made time m t is =
+    let begin = opened_shard opening opened in
+    let end = after begin (untimed made) in
+    let now : end.now ≡ time = after-now begin made t ∙ sym is in
+    ap (λ (s : model.Shard). at_moment s m) (after-append begin (items_of made) (Tick time ∷ []) ∙ ap (λ (s : model.Shard). at_moment s time) (after-untimed begin made t))
+    ∙ at_moment-at_moment end time m ∙ at_later end (max time m) m (omega arith)
+
+-- what a shard is full by
+IsFullBy : Opening → ℕ → ℕ → ℕ → Call → List Entry → model.Shard → Type 0
+IsFullBy opening opened capacity floor call es at =
+    (length es ≡ capacity)
+    ⊎ ((max floor (last_from 0 (stamps es)) ≡ 2 ^ 64 - 1)
+    ⊎ ((decision (at.files call.name) call opened at.now ≡ Accept) × (brings_contents call.act ≡ true)
+    × (most_kept < (sum_by (λ (file : List ℕ × List ℕ). length file.1) opening + sum_by (λ (entry : Entry). if entry.ruling.status == 200 then new_bytes entry.call.act else 0) es) + new_bytes call.act)))
+
+module _ (opening : Opening) (opened capacity : ℕ) (made : List Made) (time floor : ℕ) (call : Call) (m : ℕ) (timely : IsTimely opened made) (is : time ≡ last_time opened made) where
+  same_entries : entries (history_of made time) ≡ entries (untimed made)
+  same_entries = entries-history made time ∙ sym (entries-untimed made)
+
+  full_both : (h k : List Item) → entries h ≡ entries k → at_moment (after (opened_shard opening opened) h) m ≡ at_moment (after (opened_shard opening opened) k) m → FullAt opening opened capacity h floor call m → FullAt opening opened capacity k floor call m
+  unfolding IsFullBy
+  full_both h k es at full =
+      let P : List Entry × model.Shard → Type 0 = λ p. IsFullBy opening opened capacity floor call p.0 p.1 in
+      let pair : (entries h, at_moment (after (opened_shard opening opened) h) m) ≡ (entries k, at_moment (after (opened_shard opening opened) k) m) = λ i. (es i, at i) in
+      subst P pair full
+
+  pub full-untimed : FullAt opening opened capacity (history_of made time) floor call m → FullAt opening opened capacity (untimed made) floor call m
+  full-untimed = full_both (history_of made time) (untimed made) same_entries (found-untimed opening opened made time m timely is)
+
+  pub full-timed : FullAt opening opened capacity (untimed made) floor call m → FullAt opening opened capacity (history_of made time) floor call m
+  full-timed = full_both (untimed made) (history_of made time) (sym same_entries) (sym (found-untimed opening opened made time m timely is))
+
+pub last_time-push : (time : ℕ) (made : List Made) (one : Made) → last_time time (made ++ one ∷ []) ≡ one.time
+last_time-push time [] one = refl
+last_time-push time (first ∷ made) one = last_time-push first.time made one
+
+pub timely-push : (time : ℕ) (made : List Made) (one : Made) → IsTimely time made → one.time ≡ max (last_time time made) one.step.moment → IsTimely time (made ++ one ∷ [])
+timely-push time [] one t is = (is, tt)
+timely-push time (first ∷ made) one t is = (t.0, timely-push first.time made one t.1 is)
+
+pub named-push : (only : Option ℕ) (made : List Made) (one : Made) → AreNamed only made → IsOfShard only one.step.call.name → AreNamed only (made ++ one ∷ [])
+named-push only [] one n is = (is, tt)
+named-push only (first ∷ made) one n is = (n.0, named-push only made one n.1 is)
+
+last_from-at : (low k : ℕ) (made : List Made) (one : Made) → slice_get made k ≡ Some one → k + 1 ≡ length made → last_from low (stamps (steps_of made)) ≡ one.step.stamp
+last_from-at low k [] one at e = absurd (omega arith)
+last_from-at low zero (first ∷ []) one at e = let same : first ≡ one = cc at in ap (λ (m : Made). m.step.stamp) same
+last_from-at low zero (first ∷ second ∷ made) one at e = absurd (omega arith)
+last_from-at low (suc k) (first ∷ made) one at e = last_from-at first.step.stamp k made one at (omega arith)
+
+-- the stamp of the last entry is the last stamp
+pub last_stamp-at : (k : ℕ) (made : List Made) (one : Made) → slice_get made k ≡ Some one → k + 1 ≡ length made → last_stamp made ≡ one.step.stamp
+last_stamp-at = last_from-at 0

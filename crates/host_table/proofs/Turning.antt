@@ -1,0 +1,93 @@
+-- A call in its turn, as the seat sees it.
+use Rattle.std.proofs.Common.{◌≡◌, ℕ, ◌-◌, None, Some, Result, Ok, Err, IfOk, IfErr, OnErr, List, [], ◌∷◌, ◌++◌, length, sym, ap, subst, ◌∙◌, arith, length-append}
+use Rattle.std.proofs.lemmas.List.{append-nil}
+use mathlib.Core.List.{IsPrefix}
+use Rattle.turn_lock.specs.Places.{places_from, places_behind}
+use Rattle.turn_lock.specs.Seats.{added_places}
+use Rattle.wopi_model.specs.declared.calls.Call.{Call}
+use Rattle.wopi_model.specs.Host.{FullAt}
+use Rattle.host_core.specs.declared.caller.Receipt.{Receipt}
+use Rattle.host_core.specs.declared.caller.CallFault.{CallFault}
+use Rattle.host_core.specs.Caller.{entry_of, IsFullCall}
+use Rattle.host_core.specs.Entries.{Made}
+use Rattle.host_core.specs.Value.{Book}
+use Rattle.host_table.specs.Histories.{untimed, as_opened}
+use Rattle.host_table.specs.Held.{Adds, Declines}
+use Rattle.host_table.specs.Passes.{Place}
+use Rattle.host_table.specs.Calls.{Calls, Looks}
+
+places_one : (made : List Made) (one : Made) → places_behind made (made ++ one ∷ []) ≡ length made ∷ []
+places_one made one = let n : length (made ++ one ∷ []) - length made ≡ 1 = omega (arith, length-append made (one ∷ [])) in ap (places_from (length made)) n
+
+places_none : (made : List Made) → places_behind made made ≡ []
+places_none made = let n : length made - length made ≡ 0 = omega arith in ap (places_from (length made)) n
+
+-- a call adds at most an entry
+pub grown : {F : Type 0} (old new : Book F) (call : Call) (pass floor moment : ℕ) (answer : Result Receipt CallFault) → IfOk answer (Adds old new call pass floor moment) → IfErr answer (Declines old new call floor moment) → IsPrefix old.made new.made
+grown old new call pass floor moment (Ok receipt) adds declines = (record { time = adds.time; step = entry_of pass call moment receipt } ∷ [], sym adds.made)
+grown old new call pass floor moment (Err refusal) adds declines = ([], append-nil old.made ∙ sym declines.made)
+
+-- the seat after the turn, by what it was before
+pub given_back : {F : Type 0} (v t w : Place F) (old new : Book F) → t ≡ record { lock = v.lock; seen = v.seen; own = v.own; weight = v.weight; base = v.base; taken = Some old.made }
+    → w ≡ record { lock = t.lock; seen = new.made; own = t.own ++ added_places t.taken new.made; weight = t.weight; base = t.base; taken = None }
+    → w ≡ record { lock = v.lock; seen = new.made; own = v.own ++ added_places (Some old.made) new.made; weight = v.weight; base = v.base; taken = None }
+given_back v t w old new taken given =
+    given ∙ (λ i. record { lock = (taken i).lock; seen = new.made; own = (taken i).own ++ added_places (taken i).taken new.made; weight = (taken i).weight; base = (taken i).base; taken = None })
+
+pub made_call : {F : Type 0} (v w : Place F) (old new : Book F) (call : Call) (pass floor moment : ℕ) (receipt : Receipt) → v.taken ≡ None → v.base ≡ Some (as_opened old) → IsPrefix v.seen old.made
+    → w ≡ record { lock = v.lock; seen = new.made; own = v.own ++ added_places (Some old.made) new.made; weight = v.weight; base = v.base; taken = None }
+    → Adds old new call pass floor moment receipt → Calls v call pass floor moment receipt w
+made_call v w old new call pass floor moment receipt free based begins is adds =
+    let one : Made = record { time = adds.time; step = entry_of pass call moment receipt } in
+    let seen : w.seen ≡ new.made = ap (λ (p : Place _). p.seen) is in
+    let own : v.own ++ added_places (Some old.made) new.made ≡ v.own ++ receipt.place ∷ [] =
+    ap (λ (places : List ℕ). v.own ++ places) (ap (places_behind old.made) adds.made ∙ (places_one old.made one ∙ ap (λ (place : ℕ). place ∷ []) (sym adds.place))) in
+    let P : List Made → Type 0 = λ made. FullAt old.opening old.opened old.capacity (untimed made) floor call moment → ⊥ in
+    record {
+      base = as_opened old;
+      based = based;
+      between = begins.0;
+      time = adds.time;
+      seen = seen ∙ (adds.made ∙ ap (λ (made : List Made). made ++ one ∷ []) (sym begins.1));
+      shard = adds.shard;
+      place = adds.place ∙ ap (λ (made : List Made). length made) (sym begins.1);
+      above = adds.above;
+      room = subst P (sym begins.1) adds.room;
+      back = adds.back;
+      same = is ∙ (λ i. record { lock = v.lock; seen = sym seen i; own = own i; weight = v.weight; base = v.base; taken = sym free i });
+    }
+
+pub refused_call : {F : Type 0} (v w : Place F) (old new : Book F) (call : Call) (floor moment : ℕ) (refusal : CallFault) → v.taken ≡ None → v.base ≡ Some (as_opened old) → IsPrefix v.seen old.made
+    → w ≡ record { lock = v.lock; seen = new.made; own = v.own ++ added_places (Some old.made) new.made; weight = v.weight; base = v.base; taken = None }
+    → Declines old new call floor moment refusal → Looks v call floor moment refusal w
+refused_call v w old new call floor moment refusal free based begins is declines =
+    let seen : w.seen ≡ new.made = ap (λ (p : Place _). p.seen) is in
+    let same : w.seen ≡ old.made = seen ∙ declines.made in
+    let own : v.own ++ added_places (Some old.made) new.made ≡ v.own =
+    ap (λ (places : List ℕ). v.own ++ places) (ap (places_behind old.made) declines.made ∙ places_none old.made) ∙ append-nil v.own in
+    let P : List Made → Type 0 = λ made. IsFullCall refusal → FullAt old.opening old.opened old.capacity (untimed made) floor call moment in
+    record {
+      base = as_opened old;
+      based = based;
+      later = (begins.0, begins.1 ∙ sym same);
+      full = subst P (sym same) declines.full;
+      handed = declines.handed;
+      same = is ∙ (λ i. record { lock = v.lock; seen = sym seen i; own = own i; weight = v.weight; base = v.base; taken = sym free i });
+    }
+
+pub ok_map : {A E : Type 0} (r : Result A E) (P Q : A → Type 0) → ((x : A) → P x → Q x) → IfOk r P → IfOk r Q
+ok_map (Ok x) P Q f h = f x h
+ok_map (Err e) P Q f h = tt
+
+pub err_map : {A E : Type 0} (r : Result A E) (P Q : E → Type 0) → ((e : E) → P e → Q e) → IfErr r P → IfErr r Q
+err_map (Ok x) P Q f h = tt
+err_map (Err e) P Q f h = f e h
+
+-- what holds in either case
+pub either_case : {A E : Type 0} (r : Result A E) (P : A → Type 0) (Q : E → Type 0) (R : Type 0) → ((x : A) → P x → R) → ((e : E) → Q e → R) → IfOk r P → IfErr r Q → R
+either_case (Ok x) P Q R f g h k = f x h
+either_case (Err e) P Q R f g h k = g e k
+
+pub on_err : {A E : Type 0} (r : Result A E) (P : E → Type 0) (Q : Type 0) → ((e : E) → P e → Q) → IfErr r P → OnErr r Q
+on_err (Ok x) P Q f h = tt
+on_err (Err e) P Q f h = f e h

@@ -1,0 +1,35 @@
+use Rattle.std.proofs.Common.{max, Some, sym, ◌∙◌, subst, ap, refl}
+use Rattle.host_core.specs.declared.caller.CallFault.TheVariants as fault
+use Rattle.host_core.specs.Entries.{Made}
+use Rattle.host_core.specs.Value.{Book}
+use Rattle.host_table.specs.Held.{IsHeld}
+use Rattle.host_table.proofs.Holding.{held_push, seen_of, seen_stays, held_adds, held_declines}
+use Rattle.host_table.proofs.held.Held.call.Goals as goal
+
+pub invariant_of-self : goal.invariant_of-self
+invariant_of-self g c =
+    let F = g.row.F.Denot in let f = g.F.Folder in let old : Book F = c.self.inside.shard in
+    let one : Made = record { time = max old.time c.args.moment; step = record { stamp = c.in-Ok.stamp; pass = c.args.pass; moment = c.args.moment; call = c.args.call; ruling = c.in-Ok.ruling } } in
+    let P : Book F → Type 0 = λ b. IsHeld b (f.files b.start) (f.files b.folder) (f.faults b.start) (f.faults b.folder) in
+    subst P (sym c.in-Ok.ensures.entry)
+    (held_push old c.step.new.self.folder one (f.files old.start) (f.files old.folder) (f.files c.step.new.self.folder) (f.faults old.start) (f.faults old.folder) (f.faults c.step.new.self.folder) c.args.floor c.args.call
+    c.self.invariant refl (rw c.self.view_is c.requires.only) c.in-Ok.ensures.room c.step.ensures.never_falls)
+
+pub returns-in-Ok-clause-seen : goal.returns-in-Ok-clause-seen
+returns-in-Ok-clause-seen g c = seen_of c.step.new.self _ _ _ _ (invariant_of-self g c) c.step.ensures.lawful.legal
+
+pub returns-in-Ok-clause-made : goal.returns-in-Ok-clause-made
+returns-in-Ok-clause-made g c =
+    rw (← c.self.view_is) (held_adds c.self.inside.shard c.step.new.self _ _ _ _ c.args.call c.args.pass c.args.floor c.args.moment _ c.self.invariant c.in-Ok.ensures.entry
+    (rw c.self.view_is (c.requires.only ∙ ap Some (sym c.shard-shard.ensures))) c.len-place.ensures c.in-Ok.ensures.stamp c.in-Ok.ensures.room c.in-Ok.ensures.back)
+
+pub returns-in-Err-Full-clause-seen : goal.returns-in-Err-Full-clause-seen
+returns-in-Err-Full-clause-seen g c = seen_stays c.self.inside.shard c.step.new.self _ _ _ _ c.self.invariant c.in-Err-Full.ensures.err c.step.ensures.lawful.legal
+
+pub returns-in-Err-Memory-clause-seen : goal.returns-in-Err-Memory-clause-seen
+returns-in-Err-Memory-clause-seen g c = seen_stays c.self.inside.shard c.step.new.self _ _ _ _ c.self.invariant c.in-Err-Memory.ensures.err c.step.ensures.lawful.legal
+
+pub returns-in-Err-Full-clause-refused : goal.returns-in-Err-Full-clause-refused
+returns-in-Err-Full-clause-refused g c =
+    let h = rw c.in-Err-Full.field-0-is at c.in-Err-Full.ensures in
+    rw (← c.self.view_is) (held_declines c.self.inside.shard c.step.new.self _ _ _ _ c.args.call c.args.floor c.args.moment (fault.Full c.in-Err-Full.call) c.self.invariant h.err h.full h.call)

@@ -1,0 +1,22 @@
+use Rattle.std.proofs.Common.{◌-◌, ◌/◌, ◌≤◌, sym, subst, List}
+use Rattle.host_table.specs.Views.{pass_of}
+use Rattle.host_table.specs.Passes.{Place, PassView, IsPass}
+use Rattle.host_table.proofs.Splitting.{can_split, pass_given, pass_kept}
+use Rattle.host_table.proofs.host.Host.split.Goals as goal
+
+pub split_all-requires-clause-free : goal.split_all-requires-clause-free
+split_all-requires-clause-free g c =
+    let p = pass_of c.pass.inside in
+    can_split p.number p.weight p.opened p.capacity 0 p.seats (subst (λ (q : PassView g.row.F.Denot). 2 ≤ q.weight) (sym c.pass.view_is) c.requires.weight) c.pass.invariant.seats
+
+pub invariant_of-result : goal.invariant_of-result
+invariant_of-result g c =
+    let p = pass_of c.pass.inside in
+    let P : List (Place g.row.F.Denot) → Type 0 = λ seats. IsPass (record { number = c.self.inside.made; last = p.last; weight = p.weight / 2; opened = p.opened; capacity = p.capacity; seats = seats }) in
+    subst P (sym c.split_all.ensures.given) (pass_given c.self.inside.made p c.pass.invariant)
+
+pub invariant_of-pass : goal.invariant_of-pass
+invariant_of-pass g c =
+    let p = pass_of c.pass.inside in
+    let P : List (Place g.row.F.Denot) → Type 0 = λ seats. IsPass (record { number = p.number; last = p.last; weight = p.weight - p.weight / 2; opened = p.opened; capacity = p.capacity; seats = seats }) in
+    subst P (sym c.split_all.ensures.kept) (pass_kept p c.pass.invariant)

@@ -1,0 +1,36 @@
+-- A call in one shard, as its seat sees it. (Own.)
+use Rattle.std.specs.Prelude.{◌≡◌, ℕ, ◌<◌, List, [], ◌∷◌, ◌++◌, length, Some}
+use mathlib.Core.List.{IsPrefix}
+use Rattle.wopi_model.specs.declared.calls.Call.{Call}
+use Rattle.wopi_model.specs.Host.{FullAt}
+use Rattle.host_core.specs.declared.caller.Receipt.{Receipt}
+use Rattle.host_core.specs.declared.caller.CallFault.{CallFault}
+use Rattle.host_core.specs.Caller.{entry_of, called_back, IsFullCall}
+use Rattle.host_core.specs.Entries.{Made, back_of}
+use Rattle.host_core.specs.Value.{Book}
+use Rattle.host_table.specs.Histories.{untimed}
+use Rattle.host_table.specs.Passes.{Place}
+
+module _ {F : Type 0} (v : Place F) (call : Call) where
+  -- the call's entry was added to the history so far, which begins with what had been seen
+  pub record Calls (pass floor moment : ℕ) (receipt : Receipt) (w : Place F) : Type 0 where
+    pub base : Book F
+    pub based : v.base ≡ Some base
+    pub between : List Made
+    pub time : ℕ
+    pub seen : w.seen ≡ (v.seen ++ between) ++ record { time = time; step = entry_of pass call moment receipt } ∷ []
+    pub shard : base.only ≡ Some receipt.shard
+    pub place : receipt.place ≡ length (v.seen ++ between)
+    pub above : floor < receipt.stamp
+    pub room : FullAt base.opening base.opened base.capacity (untimed (v.seen ++ between)) floor call moment → ⊥
+    pub back : receipt.back ≡ back_of call.act receipt.ruling
+    pub same : w ≡ record { lock = v.lock; seen = w.seen; own = v.own ++ receipt.place ∷ []; weight = v.weight; base = v.base; taken = v.taken }
+
+  -- the history so far was seen
+  pub record Looks (floor moment : ℕ) (refusal : CallFault) (w : Place F) : Type 0 where
+    pub base : Book F
+    pub based : v.base ≡ Some base
+    pub later : IsPrefix v.seen w.seen
+    pub full : IsFullCall refusal → FullAt base.opening base.opened base.capacity (untimed w.seen) floor call moment
+    pub handed : called_back refusal ≡ call
+    pub same : w ≡ record { lock = v.lock; seen = w.seen; own = v.own; weight = v.weight; base = v.base; taken = v.taken }

@@ -1,0 +1,113 @@
+-- How a host ends. (Own.)
+use Rattle.std.specs.Prelude.{◌≡◌, ⊤, ℕ, ◌+◌, ◌==◌, ◌^◌, List, [], ◌∷◌, ◌++◌, filter, map, length, Option, None, Some, slice_get}
+use Rattle.std.specs.List.{AllByRecursion}
+use mathlib.Core.List.{IsPrefix}
+use Rattle.turn_lock.specs.Places.{total, AreAllBelow, longer}
+use Rattle.outside.specs.Folder.{Files}
+use Rattle.wopi_model.specs.Host.{LegalHost}
+use Rattle.host_core.specs.Entries.{Made}
+use Rattle.host_core.specs.Value.{Book, Left, IsLawful}
+use Rattle.host_table.specs.Histories.{steps_of, last_time, IsTimely}
+use Rattle.host_table.specs.Held.{IsTaken}
+use Rattle.host_table.specs.Journal.{JournalView, AreParts, openings}
+use Rattle.host_table.specs.Passes.{Place, PassView, HostView, Own, own_of, base_of, IsPass}
+
+module _ {F : Type 0} where
+  abbrev pub number_of : PassView F → ℕ
+  number_of pass = pass.number
+
+  abbrev pub weight_of : PassView F → ℕ
+  weight_of pass = pass.weight
+
+  -- the numbers are those below `made`, each once, and the weights add up to the whole
+  pub record IsWhole (made : ℕ) (passes : List (PassView F)) : Type 0 where
+    pub numbers : AreAllBelow made (map number_of passes)
+    pub weights : total weight_of passes ≡ 2 ^ 62
+
+  -- a seat that took in another
+  pub record IsJoined (seat other joined : Place F) : Type 0 where
+    pub is : joined ≡ record { lock = seat.lock; seen = longer seat.seen other.seen; own = seat.own ++ other.own; weight = seat.weight + other.weight; base = seat.base; taken = seat.taken }
+    pub begins : IsPrefix seat.seen joined.seen
+    pub other_begins : IsPrefix other.seen joined.seen
+
+  abbrev pub AreJoined : List (Place F) → List (Place F) → List (Place F) → Type 0
+  AreJoined [] [] [] = ⊤
+  AreJoined (seat ∷ seats) (other ∷ others) (joined ∷ rest) = IsJoined seat other joined × AreJoined seats others rest
+  AreJoined _ _ _ = ⊥
+
+  abbrev pub AreFree : List (Place F) → Type 0
+  AreFree seats = AllByRecursion (λ seat. seat.taken ≡ None) seats
+
+  abbrev pub seat_in : Option (Place F) → List (Place F)
+  seat_in None = []
+  seat_in (Some seat) = seat ∷ []
+
+  -- the passes' seats at one shard
+  abbrev pub column : ℕ → List (PassView F) → List (Place F)
+  column shard [] = []
+  column shard (pass ∷ passes) = seat_in (slice_get pass.seats shard) ++ column shard passes
+
+  abbrev pub places_in : List (Place F) → List ℕ
+  places_in [] = []
+  places_in (seat ∷ seats) = seat.own ++ places_in seats
+
+  -- a seat that took in all of these
+  pub record IsGathered (seats : List (Place F)) (seat : Place F) : Type 0 where
+    pub seen : AllByRecursion (λ one. IsPrefix one.seen seat.seen) seats
+    pub own : seat.own ≡ places_in seats
+
+  -- the seats are at shards that were opened as the first pass's are
+  abbrev pub IsBasedOn : List (PassView F) → List (Place F) → Type 0
+  IsBasedOn [] seats = ⊥
+  IsBasedOn (pass ∷ passes) seats = map base_of seats ≡ map base_of pass.seats
+
+  -- one seat a shard, which took in those of all passes
+  pub record IsJoinOf (passes : List (PassView F)) (seats : List (Place F)) : Type 0 where
+    pub passes_are : AllByRecursion IsPass passes
+    pub free : AreFree seats
+    pub based : IsBasedOn passes seats
+    pub weights : AllByRecursion (λ seat. seat.weight ≡ total weight_of passes) seats
+    pub gathered : (shard : ℕ) (seat : Place F) → slice_get seats shard ≡ Some seat → IsGathered (column shard passes) seat
+
+  -- what was seen of each shard begins the shard's part
+  abbrev pub AreSeen : List (Place F) → List (Left F) → Type 0
+  AreSeen [] [] = ⊤
+  AreSeen [] (part ∷ parts) = ⊥
+  AreSeen (seat ∷ seats) [] = ⊥
+  AreSeen (seat ∷ seats) (part ∷ parts) = IsPrefix seat.seen part.made × AreSeen seats parts
+
+  -- a shard at its end
+  abbrev pub ended_book : Book F → Left F → F → Book F
+  ended_book base part folder = record base { opening = part.opening; made = part.made; time = last_time base.opened part.made; start = part.start; folder = folder }
+
+  abbrev pub capacity_of : Book F → ℕ
+  capacity_of book = book.capacity
+
+module _ {F : Type 0} (files : F → Option Files) (faults : F → ℕ) where
+  -- each shard was taken apart
+  abbrev pub AreTaken : List (Book F) → List (Left F) → List F → Type 0
+  AreTaken [] [] [] = ⊤
+  AreTaken (book ∷ books) (part ∷ parts) (folder ∷ folders) = IsTaken files faults book part folder × AreTaken books parts folders
+  AreTaken _ _ _ = ⊥
+
+  -- What a shard leaves is of the shard that was opened, and its folder is as the last step left it: it holds what the
+  -- entries leave, and its count rose by each store call that failed.
+  pub record IsEnded (base : Book F) (part : Left F) (folder : F) : Type 0 where
+    pub opening : part.opening ≡ base.opening
+    pub start : part.start ≡ base.start
+    pub timely : IsTimely base.opened part.made
+    pub lawful : IsLawful (ended_book base part folder) (files part.start) (files folder) (faults part.start) (faults folder)
+
+  abbrev pub AreEnded : List (Book F) → List (Left F) → List F → Type 0
+  AreEnded [] [] [] = ⊤
+  AreEnded (base ∷ bases) (part ∷ parts) (folder ∷ folders) = IsEnded base part folder × AreEnded bases parts folders
+  AreEnded _ _ _ = ⊥
+
+  -- the journal of a host and of all its passes, and the folders
+  pub record Ends (host : HostView F) (passes : List (PassView F)) (journal : JournalView F) (folders : List F) : Type 0 where
+    pub opened_is : journal.opened ≡ host.opened
+    pub legal : LegalHost (openings journal.parts) journal.opened (steps_of journal.merge)
+    pub parts : AreParts journal.merge 0 journal.parts
+    pub ended : AreEnded host.bases journal.parts folders
+    pub seen : AllByRecursion (λ pass. AreSeen pass.seats journal.parts) passes
+    pub own : AllByRecursion (λ pass. filter (λ entry. entry.pass == pass.number) (steps_of journal.merge) ≡ map (λ one. one.entry) (own_of pass)) passes

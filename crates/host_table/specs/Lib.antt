@@ -1,0 +1,11 @@
+pub mod Histories
+pub mod Held
+pub mod Passes
+pub mod Calls
+pub mod Views
+pub mod Rows
+pub mod Start
+pub mod Seated
+pub mod Sights
+pub mod Journal
+pub mod Close

@@ -1,0 +1,194 @@
+-- A host and its passes, as contracts see them. (Own.)
+use Rattle.std.specs.Prelude.{◌≤◌, ◌≡◌, ⊤, ℕ, ◌+◌, ◌-◌, ◌/◌, max, ltb, false, List, [], ◌∷◌, ◌++◌, length, map, Option, None, Some, slice_get, if◌then◌else◌}
+use Rattle.std.specs.List.{AllByRecursion}
+use Rattle.atomic_table.specs.Seated.{TableId}
+use Rattle.turn_lock.specs.Seats.{Seated}
+use Rattle.wopi_text.specs.FileName.{shard_of}
+use Rattle.wopi_model.specs.Shard.{Opening, Item, Entry, RisesFrom}
+use Rattle.host_core.specs.Opening.{IsTaken}
+use Rattle.host_core.specs.Entries.{Made}
+use Rattle.host_core.specs.Caller.{Sight}
+use Rattle.host_core.specs.Value.{Book}
+use Rattle.host_table.specs.Histories.{untimed, last_stamp, AreNamed, IsSeen}
+
+-- A seat at a shard's lock. Its base is the shard as it was opened.
+abbrev pub Place : Type 0 → Type 0
+Place F = Seated Made (Book F)
+
+-- the pass's number, its last stamp, its weight, when its host opened, the capacity of a shard, and its seats by shard
+pub record PassView (F : Type 0) : Type 0 where
+  pub number : ℕ
+  pub last : ℕ
+  pub weight : ℕ
+  pub opened : ℕ
+  pub capacity : ℕ
+  pub seats : List (Place F)
+
+-- the locks and the shards as they were opened, by number; when the host opened, the capacity of a shard, and how many passes were made
+pub record HostView (F : Type 0) : Type 0 where
+  pub locks : List TableId
+  pub bases : List (Book F)
+  pub opened : ℕ
+  pub capacity : ℕ
+  pub made : ℕ
+
+-- an entry of the pass's own, with its shard and its place
+pub record Own : Type 0 where
+  pub shard : ℕ
+  pub place : ℕ
+  pub entry : Entry
+
+abbrev pub owned_at : ℕ → ℕ → Option Made → List Own
+owned_at shard place None = []
+owned_at shard place (Some one) = record { shard = shard; place = place; entry = one.step } ∷ []
+
+-- those of one shard
+abbrev pub owned : ℕ → List Made → List ℕ → List Own
+owned shard seen [] = []
+owned shard seen (place ∷ places) = owned_at shard place (slice_get seen place) ++ owned shard seen places
+
+abbrev pub stamp_of : Own → ℕ
+stamp_of one = one.entry.stamp
+
+-- into a list by stamp
+abbrev pub put_in : Own → List Own → List Own
+put_in one [] = one ∷ []
+put_in one (first ∷ rest) = if ltb (stamp_of first) (stamp_of one) then first ∷ put_in one rest else one ∷ first ∷ rest
+
+abbrev pub by_stamp : List Own → List Own
+by_stamp [] = []
+by_stamp (one ∷ rest) = put_in one (by_stamp rest)
+
+-- the pass has an entry of its own at that place
+abbrev pub HasOwn : ℕ → Option Made → Type 0
+HasOwn number None = ⊥
+HasOwn number (Some one) = one.step.pass ≡ number
+
+abbrev pub Owns : ℕ → List Made → List ℕ → Type 0
+Owns number seen places = AllByRecursion (λ place. HasOwn number (slice_get seen place)) places
+
+module _ {F : Type 0} where
+  abbrev pub lock_of : Place F → TableId
+  lock_of seat = seat.lock
+
+  abbrev pub base_of : Place F → Option (Book F)
+  base_of seat = seat.base
+
+  -- of the shards from that number on
+  abbrev pub owned_from : ℕ → List (Place F) → List Own
+  owned_from shard [] = []
+  owned_from shard (seat ∷ seats) = owned shard seat.seen seat.own ++ owned_from (shard + 1) seats
+
+  -- the pass's own entries, in the order of their stamps, which is the order of its calls
+  abbrev pub own_of : PassView F → List Own
+  own_of pass = by_stamp (owned_from 0 pass.seats)
+
+  -- the greatest stamp that was seen in any shard, or 0
+  abbrev pub top : List (Place F) → ℕ
+  top [] = 0
+  top (seat ∷ seats) = max (last_stamp seat.seen) (top seats)
+
+  abbrev pub locks_of : PassView F → List TableId
+  locks_of pass = map lock_of pass.seats
+
+  -- a pass of this host
+  pub record IsPassOf (host : HostView F) (pass : PassView F) : Type 0 where
+    pub locks : locks_of pass ≡ host.locks
+    pub bases : map base_of pass.seats ≡ map Some host.bases
+
+  abbrev pub seen_at : Option (Place F) → List Item
+  seen_at None = []
+  seen_at (Some seat) = untimed seat.seen
+
+  abbrev pub opening_in : Option (Book F) → Opening
+  opening_in None = []
+  opening_in (Some base) = base.opening
+
+  abbrev pub opening_at : Option (Place F) → Opening
+  opening_at None = []
+  opening_at (Some seat) = opening_in seat.base
+
+  -- what a pass has seen, as of any caller
+  abbrev pub sight_of : PassView F → Sight
+  sight_of pass = record {
+    own = map (λ one. one.entry) (own_of pass);
+    pass = pass.number;
+    floor = pass.last;
+    capacity = pass.capacity;
+    opened = pass.opened;
+    home = shard_of;
+    openings = λ shard. opening_at (slice_get pass.seats shard);
+    seen = λ shard. seen_at (slice_get pass.seats shard);
+  }
+
+  -- the shard of that number, as it was opened
+  pub record IsBase (opened capacity shard : ℕ) (base : Book F) : Type 0 where
+    pub only : base.only ≡ Some shard
+    pub opened_is : base.opened ≡ opened
+    pub capacity_is : base.capacity ≡ capacity
+    pub unticked : base.ticked ≡ false
+    pub names : AllByRecursion (λ file. IsTaken base.only file.0) base.opening
+
+  abbrev pub AreBases : ℕ → ℕ → ℕ → List (Book F) → Type 0
+  AreBases opened capacity shard [] = ⊤
+  AreBases opened capacity shard (base ∷ bases) = IsBase opened capacity shard base × AreBases opened capacity (shard + 1) bases
+
+  -- what a pass keeps of its seat at the shard of that number
+  pub record IsSeat (number weight opened capacity shard : ℕ) (seat : Place F) : Type 0 where
+    pub free : seat.taken ≡ None
+    pub weight_is : seat.weight ≡ weight
+    pub base : Book F
+    pub based : seat.base ≡ Some base
+    pub is_base : IsBase opened capacity shard base
+    pub seen : IsSeen base seat.seen
+    pub owns : Owns number seat.seen seat.own
+
+  abbrev pub AreSeats : ℕ → ℕ → ℕ → ℕ → ℕ → List (Place F) → Type 0
+  AreSeats number weight opened capacity shard [] = ⊤
+  AreSeats number weight opened capacity shard (seat ∷ seats) = IsSeat number weight opened capacity shard seat × AreSeats number weight opened capacity (shard + 1) seats
+
+  -- a pass that is split off, and what is left of the old one
+  abbrev pub given_half : Place F → Place F
+  given_half seat = record { lock = seat.lock; seen = seat.seen; own = []; weight = seat.weight / 2; base = seat.base; taken = seat.taken }
+
+  abbrev pub kept_half : Place F → Place F
+  kept_half seat = record { lock = seat.lock; seen = seat.seen; own = seat.own; weight = seat.weight - seat.weight / 2; base = seat.base; taken = seat.taken }
+
+  abbrev pub given_pass : ℕ → PassView F → PassView F
+  given_pass number pass = record pass { number = number; weight = pass.weight / 2; seats = map given_half pass.seats }
+
+  abbrev pub kept_pass : PassView F → PassView F
+  kept_pass pass = record pass { weight = pass.weight - pass.weight / 2; seats = map kept_half pass.seats }
+
+  -- each own entry and each entry that was seen stands in its name's shard
+  abbrev pub AreInShards : ℕ → List (Place F) → Type 0
+  AreInShards shard [] = ⊤
+  AreInShards shard (seat ∷ seats) = AreNamed (Some shard) seat.seen × AreInShards (shard + 1) seats
+
+  -- what holds of every pass
+  pub record IsPass (pass : PassView F) : Type 0 where
+    pub seats : AreSeats pass.number pass.weight pass.opened pass.capacity 0 pass.seats
+    pub last_is : pass.last ≡ top pass.seats
+    pub wide : length pass.seats ≡ 16
+    pub rises : RisesFrom 0 (map stamp_of (own_of pass))
+
+  -- what a pass has seen: its last stamp is the greatest, and each entry stands in its name's shard
+  pub record HasSeen (pass : PassView F) : Type 0 where
+    pub last_is : pass.last ≡ top pass.seats
+    pub named : AreInShards 0 pass.seats
+
+  -- what no call changes of a pass
+  pub record IsSamePass (old new : PassView F) : Type 0 where
+    pub number : new.number ≡ old.number
+    pub weight : new.weight ≡ old.weight
+    pub opened_is : new.opened ≡ old.opened
+    pub capacity_is : new.capacity ≡ old.capacity
+    pub locks : locks_of new ≡ locks_of old
+    pub bases : map base_of new.seats ≡ map base_of old.seats
+
+  -- what holds of every host
+  pub record IsHost (host : HostView F) : Type 0 where
+    pub bases : AreBases host.opened host.capacity 0 host.bases
+    pub wide : length host.locks ≡ 16
+    pub many : length host.bases ≡ 16
+    pub small : host.capacity ≤ 32768

@@ -1,0 +1,92 @@
+-- What a host begins with, and what is handed back where it doesn't begin. (Own.)
+use Rattle.std.specs.Prelude.{◌≡◌, ⊤, ℕ, ◌+◌, ◌≤◌, ◌^◌, false, Option, Some, List, [], ◌∷◌, ◌++◌, length}
+use Rattle.std.specs.List.{AllByRecursion}
+use Rattle.atomic_table.specs.Seated.{TableId}
+use Rattle.turn_lock.specs.Seats.{first_seat}
+use Rattle.outside.specs.Faults.{Rose}
+use Rattle.outside.specs.Folder.{Files, Keeps}
+use Rattle.wopi_model.specs.Shard.{Opening}
+use Rattle.host_core.specs.declared.opening.StartFault.{StartFault}
+use Rattle.host_core.specs.declared.opening.StartFault.TheVariants as fault
+use Rattle.host_core.specs.Opening.{IsOpening, Fits, IsTooLarge, IfTooLarge}
+use Rattle.host_core.specs.Value.{Book}
+use Rattle.host_table.specs.Passes.{Place, HostView, PassView, IsPassOf}
+
+module _ {F : Type 0} where
+  -- the first seats of locks over shards that were opened like that
+  abbrev pub first_seats : List TableId → List (Book F) → List (Place F)
+  first_seats [] bases = []
+  first_seats (lock ∷ locks) [] = []
+  first_seats (lock ∷ locks) (base ∷ bases) = first_seat lock base ∷ first_seats locks bases
+
+  -- the first pass has seen nothing and has all of the weight
+  abbrev pub first_pass : HostView F → PassView F
+  first_pass host = record { number = 0; last = 0; weight = 2 ^ 62; opened = host.opened; capacity = host.capacity; seats = first_seats host.locks host.bases }
+
+  abbrev pub start_of : Book F → F
+  start_of book = book.start
+
+  -- no entry was made
+  abbrev pub AreNew : List (Book F) → Type 0
+  AreNew books = AllByRecursion (λ book. book.made ≡ []) books
+
+module _ {F : Type 0} (files : F → Option Files) (faults : F → ℕ) where
+  -- the folder has what it had, and its count has not fallen
+  pub record IsHanded (old new : F) : Type 0 where
+    pub same : Keeps (files old) (files new)
+    pub counts : faults old ≤ faults new
+
+  abbrev pub AreHanded : List F → List F → Type 0
+  AreHanded [] [] = ⊤
+  AreHanded [] (new ∷ news) = ⊥
+  AreHanded (old ∷ olds) [] = ⊥
+  AreHanded (old ∷ olds) (new ∷ news) = IsHanded old new × AreHanded olds news
+
+  -- the files of a folder that the shard of that number takes, and that pass no limit
+  abbrev pub HasOpening : ℕ → F → Type 0
+  HasOpening number folder = (opening : Opening) × IsOpening (Some number) (files folder) opening × Fits opening
+
+  abbrev pub HaveOpenings : ℕ → List F → Type 0
+  HaveOpenings number [] = ⊤
+  HaveOpenings number (folder ∷ folders) = HasOpening number folder × HaveOpenings (number + 1) folders
+
+  -- the fault is that of the first shard that has one, of those from that number on
+  pub record Blames (number : ℕ) (olds news : List F) (refusal : StartFault) : Type 0 where
+    pub before : List F
+    pub old : F
+    pub after : List F
+    pub was : olds ≡ before ++ old ∷ after
+    pub fine : HaveOpenings number before
+    pub handed : List F
+    pub new : F
+    pub others : List F
+    pub is : news ≡ handed ++ new ∷ others
+    pub there : length handed ≡ length before
+    pub too_large : IfTooLarge refusal (IsTooLarge (Some (number + length before)) (files old))
+    pub failed : refusal ≡ fault.FolderFault → Rose (faults old) (faults new)
+
+  abbrev pub IsBlamed : List F → List F → StartFault → Type 0
+  IsBlamed olds news (fault.TooLarge name) = Blames 0 olds news (fault.TooLarge name)
+  IsBlamed olds news fault.FolderFault = Blames 0 olds news fault.FolderFault
+  IsBlamed olds news fault.Memory = ⊤
+
+  -- the shard of that number, as it was opened over a folder
+  pub record IsBegun (opened capacity number : ℕ) (folder : F) (base : Book F) : Type 0 where
+    pub book : base ≡ record { only = Some number; opening = base.opening; opened = opened; capacity = capacity; made = []; time = opened; ticked = false; start = folder; folder = base.folder }
+    pub opening : IsOpening (Some number) (files folder) base.opening
+    pub fits : Fits base.opening
+
+  abbrev pub AreBegun : ℕ → ℕ → ℕ → List F → List (Book F) → Type 0
+  AreBegun opened capacity number [] [] = ⊤
+  AreBegun opened capacity number [] (base ∷ bases) = ⊥
+  AreBegun opened capacity number (folder ∷ folders) [] = ⊥
+  AreBegun opened capacity number (folder ∷ folders) (base ∷ bases) = IsBegun opened capacity number folder base × AreBegun opened capacity (number + 1) folders bases
+
+  -- a host over these folders, and its first pass
+  pub record Starts (folders : List F) (capacity opened : ℕ) (host : HostView F) (pass : PassView F) : Type 0 where
+    pub bases : AreBegun opened capacity 0 folders host.bases
+    pub opened_is : host.opened ≡ opened
+    pub capacity_is : host.capacity ≡ capacity
+    pub made : host.made ≡ 1
+    pub pass_is : pass ≡ first_pass host
+    pub of_host : IsPassOf host pass

@@ -1,0 +1,154 @@
+//! A shard as it lies under its lock.
+ghost use Rattle.std.specs.Prelude.{◌≡◌, ◌≤◌, ◌<◌, Some, [], false, IfOk, IfErr};
+ghost use Rattle.outside.specs.Faults.{Rose};
+ghost use Rattle.outside.specs.Folder.{Keeps};
+ghost use Rattle.wopi_model.specs.Moment.{IsMoment};
+ghost use Rattle.host_core.specs.Opening.{IsOpening, Fits, IsTooLarge, IfTooLarge};
+ghost use Rattle.wopi_text.specs.FileName.{shard_of};
+ghost use Rattle.host_table.specs.Histories.{last_stamp, as_opened, IsSeen};
+ghost use Rattle.host_table.specs.Held.{Adds, Declines, IsTaken};
+
+use host_core::{CallFault, Past, Receipt, Shard, StartFault, StepFault};
+use outside::Folder;
+use std::alloc::Global;
+use std::marker::Model;
+use turn_lock::Grown;
+use wopi_model::Call;
+
+/// A shard that keeps the files of one number, and whose time goes on with its entries alone.
+#[derive(Drop)]
+pub struct Held<F: Folder> {
+    shard: Shard<F>,
+}
+
+impl<F: Folder> Model for Held<F> {
+    ghost use Rattle.host_core.specs.Value.{Book};
+
+    ghost Value = { Book F };
+
+    ghost use Rattle.host_table.specs.Held.{IsHeld};
+
+    ghost view = { λ held. held.shard };
+
+    ghost invariant = { λ held. IsHeld held.shard (F.files held.shard.start) (F.files held.shard.folder) (F.faults held.shard.start) (F.faults held.shard.folder) };
+}
+
+impl<F: Folder> Grown for Held<F> {
+    type Entry = host_core::Entry;
+
+    /// The shard as it was opened, over the folder as it was handed in.
+    type Base = Shard<F>;
+
+    ghost entries = { λ held. held.made };
+
+    ghost base = { as_opened };
+
+    fn grown(&self) -> u64 {
+        self.shard.len()
+    }
+}
+
+impl<F: Folder> Held<F> {
+    /// Opens the shard of that number over a folder. A refusal hands the folder back.
+    pub fn start(
+        alloc: Global,
+        folder: F,
+        number: u8,
+        capacity: u32,
+        opened: u64,
+    ) -> Result<Held<F>, (F, StartFault)>
+        requires capacity { (1 ≤ capacity) × (capacity ≤ 32768) }
+        requires number { number < 16 }
+        requires opened { IsMoment opened }
+        ensures opened { IfOk result (λ held. held ≡ record {
+          only = Some number;
+          opening = held.opening;
+          opened = opened;
+          capacity = capacity;
+          made = [];
+          time = opened;
+          ticked = false;
+          start = folder;
+          folder = held.folder;
+        }) }
+        ensures opening { IfOk result (λ held. IsOpening (Some number) (F.files folder) held.opening) }
+        ensures fits { IfOk result (λ held. Fits held.opening) }
+        ensures same { IfOk result (λ held. Keeps (F.files folder) (F.files held.folder)) }
+        ensures never_falls { IfOk result (λ held. F.faults folder ≤ F.faults held.folder) }
+        ensures too_large { IfErr result (λ refused. IfTooLarge refused.1 (IsTooLarge (Some number) (F.files folder))) }
+        ensures failed { IfErr result (λ refused. refused.1 ≡ StartFault.FolderFault → Rose (F.faults folder) (F.faults refused.0)) }
+        ensures handed { IfErr result (λ refused. Keeps (F.files folder) (F.files refused.0)) }
+        ensures counts { IfErr result (λ refused. F.faults folder ≤ F.faults refused.0) }
+    {
+        match Shard::start(alloc, folder, Some(number), capacity, opened) {
+            Ok(shard) => return Ok(Held { shard }),
+            Err(refused) => return Err(refused),
+        }
+    }
+
+    /// One step of the shard.
+    pub fn call(
+        &mut self,
+        call: Call,
+        pass: u32,
+        floor: u64,
+        moment: u64,
+    ) -> Result<Receipt, CallFault>
+        requires moment { IsMoment moment }
+        requires only { self.old.only ≡ Some (shard_of call.name) }
+        ensures base { as_opened self.new ≡ as_opened self.old }
+        ensures seen { IsSeen (as_opened self.new) self.new.made }
+        ensures made { IfOk result (λ receipt. Adds self.old self.new call pass floor moment receipt) }
+        ensures refused { IfErr result (λ refusal. Declines self.old self.new call floor moment refusal) }
+    {
+        let shard = call.name.shard();
+        let place = self.shard.len();
+        match self.shard.step(call, pass, floor, moment) {
+            Ok((stamp, ruling, back)) => {
+                return Ok(Receipt {
+                    stamp,
+                    shard,
+                    place,
+                    ruling,
+                    back,
+                });
+            }
+            Err(StepFault::Full(call)) => return Err(CallFault::Full(call)),
+            Err(StepFault::Memory(call)) => return Err(CallFault::Memory(call)),
+        }
+    }
+
+    /// The last stamp, or 0.
+    pub fn last(&self) -> u64
+        ensures { result ≡ last_stamp self.now.made }
+    {
+        let count = self.shard.len();
+        if count == 0 {
+            return 0;
+        }
+        match self.shard.entry(count - 1) {
+            None => 0,
+            Some(entry) => entry.stamp(),
+        }
+    }
+
+    /// The folder of a shard that made no entry.
+    pub fn folder(self) -> F
+        requires { self.made ≡ [] }
+        ensures same { Keeps (F.files self.start) (F.files result) }
+        ensures counts { F.faults self.start ≤ F.faults result }
+    {
+        let Held { shard } = self;
+        let (folder, _) = shard.end();
+        folder
+    }
+
+    /// The folder as the last step left it, and what the shard leaves.
+    pub fn end(self) -> (F, Past<F>)
+        ensures taken { IsTaken F.files F.faults self result.1 result.0 }
+    {
+        let Held { shard } = self;
+        let (folder, past) = shard.end();
+        (folder, past)
+    }
+}

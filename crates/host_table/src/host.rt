@@ -1,0 +1,254 @@
+//! The host.
+ghost use Rattle.std.specs.Prelude.{◌≡◌, ◌+◌, ◌<◌, ◌≤◌, ◌∷◌, [], ◌++◌, length, map, IfOk, IfErr, OnOk, OnErr, None, Some, IsSomeAnd, IsTrue, ◌↔◌};
+ghost use Rattle.std.specs.List.{AllByRecursion};
+ghost use Rattle.wopi_model.specs.Moment.{IsMoment};
+ghost use Rattle.wopi_text.specs.FileName.{shard_of};
+ghost use Rattle.host_core.specs.Caller.{Makes, Refuses, Frames, entry_of};
+ghost use Rattle.host_table.specs.Histories.{last_stamp, as_opened, IsSeen};
+ghost use Rattle.host_table.specs.Passes.{locks_of, own_of, top, sight_of, kept_pass, given_pass, IsPassOf, IsSamePass, HasSeen, AreBases};
+ghost use Rattle.host_table.specs.Start.{first_seats, first_pass, AreHanded, IsBlamed, Starts};
+ghost use Rattle.host_table.specs.Close.{IsWhole, Ends};
+ghost use Rattle.host_table.specs.Calls.{Calls, Looks};
+
+use crate::closing::{Room, end_host};
+use crate::held::Held;
+use crate::journal::Journal;
+use crate::opening::{hand_back, lock_all, open_all};
+use crate::pass::Pass;
+use crate::rows::split_all;
+use crate::whole::{are_numbered, weigh_whole};
+use host_core::{CallFault, Receipt, StartFault};
+use outside::Folder;
+use std::alloc::Global;
+use std::marker::Model;
+use std::snapshot::Snapshot;
+use std::sync::Wait;
+use turn_lock::{Seat, TurnLock};
+use wopi_model::Call;
+use wopi_text::Memory;
+
+/// The number of shards.
+pub(crate) const SHARDS: usize = 16;
+
+/// Sixteen shards, each under a lock. Threads share it by reference, and each comes with a pass of its own.
+#[derive(Drop)]
+pub struct Host<F: Folder> {
+    pub(crate) alloc: Global,
+    pub(crate) locks: Vec<TurnLock<Held<F>>>,
+    /// The shards when the host began.
+    pub(crate) shards: Snapshot<Vec<Held<F>>>,
+    pub(crate) opened: u64,
+    pub(crate) capacity: u32,
+    pub(crate) made: u32,
+}
+
+impl<F: Folder> Model for Host<F> {
+    ghost use Rattle.host_table.specs.Passes.{HostView};
+
+    ghost Value = { HostView F };
+
+    ghost use Rattle.host_table.specs.Views.{host_of};
+    ghost use Rattle.host_table.specs.Passes.{IsHost};
+
+    ghost view = { host_of };
+
+    ghost invariant = { λ host. IsHost (host_of host) };
+}
+
+/// Why a host wasn't closed.
+#[derive(Drop)]
+pub enum CloseFault<F: Folder> {
+    /// There was no memory. The host and its passes come back.
+    Memory(Host<F>, Vec<Pass<F>>),
+}
+
+/// One call in the shard's turn, and the last stamp that was then seen there.
+fn turn<F: Folder, R: Wait>(
+    rt: &R,
+    lock: &TurnLock<Held<F>>,
+    seat: &mut Seat<Held<F>>,
+    call: Call,
+    number: u32,
+    floor: u64,
+    moment: u64,
+) -> (u64, Result<Receipt, CallFault>)
+    requires lock { seat.old.lock ≡ lock.now }
+    requires free { seat.old.taken ≡ None }
+    requires based { IsSomeAnd seat.old.base (λ base. base.only ≡ Some (shard_of call.name)) }
+    requires moment { IsMoment moment }
+    ensures last { result.0 ≡ last_stamp seat.new.seen }
+    ensures seen { IsSomeAnd seat.old.base (λ base. IsSeen base seat.new.seen) }
+    ensures made { IfOk result.1 (λ receipt. Calls seat.old call number floor moment receipt seat.new) }
+    ensures refused { IfErr result.1 (λ refusal. Looks seat.old call floor moment refusal seat.new) }
+{
+    let mut held = lock.take(rt, seat);
+    let answer = held.call(call, number, floor, moment);
+    let last = held.last();
+    lock.give_back(seat, held);
+    (last, answer)
+}
+
+/// The host over these locks, and the pass of their first seats.
+fn begin<F: Folder>(
+    alloc: Global,
+    locks: Vec<TurnLock<Held<F>>>,
+    seats: Vec<Seat<Held<F>>>,
+    shards: Snapshot<Vec<Held<F>>>,
+    capacity: u32,
+    opened: u64,
+) -> (Host<F>, Pass<F>)
+    requires seats { seats.items ≡ first_seats locks.items (map as_opened shards.value.items) }
+    requires many { (length locks.items ≡ 16) × (length shards.value.items ≡ 16) }
+    requires small { capacity ≤ 32768 }
+    requires bases { AreBases opened capacity 0 (map as_opened shards.value.items) }
+    ensures host { result.0 ≡ record { locks = locks.items; bases = map as_opened shards.value.items; opened = opened; capacity = capacity; made = 1 } }
+    ensures pass { result.1 ≡ first_pass result.0 }
+    ensures of_host { IsPassOf result.0 result.1 }
+{
+    let pass = Pass {
+        number: 0,
+        last: 0,
+        weight: 1 << 62,
+        opened,
+        capacity,
+        seats,
+    };
+    let host = Host {
+        alloc,
+        locks,
+        shards,
+        opened,
+        capacity,
+        made: 1,
+    };
+    (host, pass)
+}
+
+impl<F: Folder> Host<F> {
+    /// Opens a shard over each of 16 folders, and gives the host and its first pass, which has number 0. Shard i
+    /// takes the names whose number is i. The fault is that of the first shard that has one; a refusal hands the
+    /// folders back in their order.
+    pub fn start(
+        alloc: Global,
+        folders: Vec<F>,
+        capacity: u32,
+        opened: u64,
+    ) -> Result<(Host<F>, Pass<F>), (Vec<F>, StartFault)>
+        requires capacity { (1 ≤ capacity) × (capacity ≤ 32768) }
+        requires folders { length folders.items ≡ 16 }
+        requires opened { IsMoment opened }
+        ensures starts { IfOk result (λ begun. Starts F.files F.faults folders.items capacity opened begun.0 begun.1) }
+        ensures handed { IfErr result (λ refused. AreHanded F.files F.faults folders.items refused.0.items) }
+        ensures blamed { IfErr result (λ refused. IsBlamed F.files F.faults folders.items refused.0.items refused.1) }
+    {
+        let Ok(mut back) = Vec::with_capacity(alloc, SHARDS) else {
+            return Err((folders, StartFault::Memory));
+        };
+        match open_all(alloc, folders, &mut back, capacity, opened) {
+            Err(fault) => return Err((back, fault)),
+            Ok(shards) => {
+                let about = Snapshot::of(&shards);
+                match lock_all(alloc, shards) {
+                    Err(shards) => {
+                        hand_back(shards, &mut back);
+                        return Err((back, StartFault::Memory));
+                    }
+                    Ok((locks, seats)) => {
+                        return Ok(begin(alloc, locks, seats, about, capacity, opened));
+                    }
+                }
+            }
+        }
+    }
+
+    /// How many passes were made, the first among them.
+    pub fn made(&self) -> u32
+        ensures { result ≡ self.now.made }
+    {
+        self.made
+    }
+
+    /// A new pass with the next number, which has seen what the old one has seen and has half of its weight,
+    /// rounded down. It may wait.
+    pub fn split<R: Wait>(&mut self, rt: &R, pass: &mut Pass<F>) -> Result<Pass<F>, Memory>
+        requires host { locks_of pass.old ≡ self.old.locks }
+        requires weight { 2 ≤ pass.old.weight }
+        requires made { self.old.made < 4294967295 }
+        ensures given { IfOk result (λ given. given ≡ given_pass self.old.made pass.old) }
+        ensures kept { OnOk result (pass.new ≡ kept_pass pass.old) }
+        ensures made { OnOk result (self.new ≡ record self.old { made = self.old.made + 1 }) }
+        ensures memory { OnErr result ((pass.new ≡ pass.old) × (self.new ≡ self.old)) }
+    {
+        let Ok(mut seats) = Vec::with_capacity(self.alloc, SHARDS) else {
+            return Err(Memory);
+        };
+        let half = pass.weight / 2;
+        split_all(rt, &self.locks, &mut pass.seats, &mut seats);
+        pass.weight -= half;
+        let number = self.made;
+        self.made += 1;
+        Ok(Pass {
+            number,
+            last: pass.last,
+            weight: half,
+            opened: pass.opened,
+            capacity: pass.capacity,
+            seats,
+        })
+    }
+
+    /// One step of the call's shard at a moment, in milliseconds, in a turn that the pass waits for. The entry's
+    /// stamp passes the pass's last stamp, and so all that the pass had seen in any shard.
+    pub fn call<R: Wait>(
+        &self,
+        rt: &R,
+        pass: &mut Pass<F>,
+        call: Call,
+        moment: u64,
+    ) -> Result<Receipt, CallFault>
+        requires host { locks_of pass.old ≡ self.now.locks }
+        requires moment { IsMoment moment }
+        ensures made { IfOk result (Makes (sight_of pass.old) (sight_of pass.new) call moment) }
+        ensures refused { IfErr result (Refuses (sight_of pass.old) (sight_of pass.new) call moment) }
+        ensures frame { Frames (sight_of pass.old) (sight_of pass.new) call.name }
+        ensures own { IfOk result (λ receipt. own_of pass.new ≡ own_of pass.old
+            ++ record { shard = receipt.shard; place = receipt.place; entry = entry_of pass.old.number call moment receipt } ∷ []) }
+        ensures none { OnErr result (own_of pass.new ≡ own_of pass.old) }
+        ensures same { IsSamePass pass.old pass.new }
+        ensures seen { HasSeen pass.new }
+    {
+        let number = pass.number;
+        let floor = pass.last;
+        let shard = usize::from(call.name.shard());
+        let lock = &self.locks[shard];
+        let seat = &mut pass.seats[shard];
+        let (last, answer) = turn(rt, lock, seat, call, number, floor, moment);
+        pass.last = floor.max(last);
+        answer
+    }
+
+    /// These are all passes of the host: their numbers are those below how many were made, each once, and their
+    /// weights add up to 2^62.
+    pub fn whole(&self, passes: &[Pass<F>]) -> bool
+        ensures { IsTrue result ↔ IsWhole self.now.made passes.now }
+    {
+        if !are_numbered(passes, self.made) {
+            return false;
+        }
+        weigh_whole(passes)
+    }
+
+    /// Ends the host by all its passes: gives its journal, and the folders in the order of the shards, as the last
+    /// steps left them. Where there is no memory, all is handed back as it was.
+    pub fn close(self, passes: Vec<Pass<F>>) -> Result<(Journal<F>, Vec<F>), CloseFault<F>>
+        requires of_host { AllByRecursion (IsPassOf self) passes.items }
+        requires whole { IsWhole self.made passes.items }
+        ensures ends { IfOk result (λ ended. Ends F.files F.faults self passes.items ended.0 ended.1.items) }
+        ensures memory { IfErr result (λ fault. fault ≡ CloseFault.Memory self passes) }
+    {
+        match Room::new(self.alloc, self.capacity) {
+            Err(_) => return Err(CloseFault::Memory(self, passes)),
+            Ok(room) => return Ok(end_host(self, passes, room)),
+        }
+    }
+}

@@ -1,0 +1,123 @@
+//! How a host begins: a shard over each folder, and a lock round each shard.
+ghost use Rattle.std.specs.Prelude.{◌≡◌, ◌+◌, ◌≤◌, [], ◌++◌, List, map, length, vec_len, vec_capacity, IfOk, IfErr, OnOk};
+ghost use Rattle.std.specs.Vec.Iter.{into_iter_items, into_iter_len};
+ghost use Rattle.wopi_model.specs.Moment.{IsMoment};
+ghost use Rattle.host_table.specs.Histories.{as_opened};
+ghost use Rattle.host_table.specs.Start.{first_seats, start_of, AreNew, AreHanded, IsBlamed, AreBegun};
+
+use crate::held::Held;
+use crate::host::SHARDS;
+use crate::rows::close_all;
+use host_core::StartFault;
+use outside::Folder;
+use std::alloc::Global;
+use std::vec::IntoIter;
+use turn_lock::{NewFault, Seat, TurnLock};
+
+/// Moves the rest behind what is there.
+fn move_all<T: Drop>(mut rest: IntoIter<T, Global>, into: &mut Vec<T>)
+    requires len { into_iter_len rest ≡ length (into_iter_items rest) }
+    requires room { vec_len into.old + into_iter_len rest ≤ vec_capacity into.old }
+    ensures { into.new.items ≡ into.old.items ++ into_iter_items rest }
+{
+    while let Some(item) = rest.next() {
+        into.push_reserved(item);
+    }
+}
+
+/// Hands back the folders of shards that made no entry, behind those that are there.
+pub(crate) fn hand_back<F: Folder>(shards: Vec<Held<F>>, back: &mut Vec<F>)
+    requires new { AreNew shards.items }
+    requires room { vec_len back.old + vec_len shards ≤ vec_capacity back.old }
+    ensures handed { (handed : List F) × (back.new.items ≡ back.old.items ++ handed) × AreHanded F.files F.faults (map start_of shards.items) handed }
+    ensures capacity { vec_capacity back.new ≡ vec_capacity back.old }
+    ensures len { vec_len back.new ≡ vec_len back.old + vec_len shards }
+{
+    let mut rest = shards.into_iter();
+    while let Some(held) = rest.next() {
+        back.push_reserved(held.folder());
+    }
+}
+
+/// Opens a shard over each folder. A refusal leaves all folders in `back`, in their order.
+pub(crate) fn open_all<F: Folder>(
+    alloc: Global,
+    folders: Vec<F>,
+    back: &mut Vec<F>,
+    capacity: u32,
+    opened: u64,
+) -> Result<Vec<Held<F>>, StartFault>
+    requires capacity { (1 ≤ capacity) × (capacity ≤ 32768) }
+    requires folders { length folders.items ≡ 16 }
+    requires opened { IsMoment opened }
+    requires room { (back.old.items ≡ []) × (16 ≤ vec_capacity back.old) }
+    ensures begun { IfOk result (λ shards. AreBegun F.files F.faults opened capacity 0 folders.items shards.items) }
+    ensures back { OnOk result ((back.new.items ≡ []) × (vec_capacity back.new ≡ vec_capacity back.old)) }
+    ensures handed { IfErr result (λ fault. AreHanded F.files F.faults folders.items back.new.items) }
+    ensures blamed { IfErr result (λ fault. IsBlamed F.files F.faults folders.items back.new.items fault) }
+{
+    let mut rest = folders.into_iter();
+    let Ok(mut shards) = Vec::with_capacity(alloc, SHARDS) else {
+        move_all(rest, back);
+        return Err(StartFault::Memory);
+    };
+    while let Some(folder) = rest.next() {
+        match Held::start(alloc, folder, shards.len() as u8, capacity, opened) {
+            Ok(held) => shards.push_reserved(held),
+            Err((folder, fault)) => {
+                hand_back(shards, back);
+                back.push_reserved(folder);
+                move_all(rest, back);
+                return Err(fault);
+            }
+        }
+    }
+    Ok(shards)
+}
+
+/// The shard that no lock was made for.
+fn unlocked<F: Folder>(fault: NewFault<Held<F>>) -> Held<F>
+    ensures { NewFault.Memory result ≡ fault }
+{
+    match fault {
+        NewFault::Memory(shard) => shard,
+    }
+}
+
+/// A lock round each shard, and its first seat. Where there is no memory the shards come back.
+pub(crate) fn lock_all<F: Folder>(
+    alloc: Global,
+    shards: Vec<Held<F>>,
+) -> Result<(Vec<TurnLock<Held<F>>>, Vec<Seat<Held<F>>>), Vec<Held<F>>>
+    requires new { AreNew shards.items }
+    requires many { length shards.items ≡ 16 }
+    ensures seats { IfOk result (λ made. made.1.items ≡ first_seats made.0.items (map as_opened shards.items)) }
+    ensures many { IfOk result (λ made. length made.0.items ≡ 16) }
+    ensures back { IfErr result (λ back. (map as_opened back.items ≡ map as_opened shards.items) × AreNew back.items) }
+{
+    let Ok(mut back) = Vec::with_capacity(alloc, SHARDS) else {
+        return Err(shards);
+    };
+    let Ok(mut locks) = Vec::with_capacity(alloc, SHARDS) else {
+        return Err(shards);
+    };
+    let Ok(mut seats) = Vec::with_capacity(alloc, SHARDS) else {
+        return Err(shards);
+    };
+    let mut rest = shards.into_iter();
+    while let Some(held) = rest.next() {
+        match TurnLock::new(alloc, held) {
+            Ok((lock, seat)) => {
+                locks.push_reserved(lock);
+                seats.push_reserved(seat);
+            }
+            Err(fault) => {
+                close_all(locks, seats, &mut back);
+                back.push_reserved(unlocked(fault));
+                move_all(rest, &mut back);
+                return Err(back);
+            }
+        }
+    }
+    Ok((locks, seats))
+}

@@ -1,0 +1,77 @@
+//! A pass at its host, as a caller.
+ghost use Rattle.std.specs.Prelude.{◌≡◌, [], ◌∷◌, false};
+ghost use Rattle.host_table.specs.Passes.{locks_of, top, IsPassOf, AreInShards};
+ghost use Rattle.host_table.specs.Seated.{AreInShards-prop};
+
+use crate::host::Host;
+use crate::pass::Pass;
+use host_core::{CallFault, Caller, Receipt};
+use outside::Folder;
+use std::marker::Model;
+use std::snapshot::Snapshot;
+use std::sync::Wait;
+use wopi_model::Call;
+
+/// A host and a pass of it, by which a thread makes its calls. Each call waits for its shard's turn.
+#[derive(Drop)]
+pub struct Seated<'a, R: Wait, F: Folder> {
+    rt: &'a R,
+    host: &'a Host<F>,
+    pass: &'a mut Pass<F>,
+    ghost of_host: { locks_of pass.now ≡ host.now.locks },
+    ghost last_is: { pass.now.last ≡ top pass.now.seats },
+    ghost named: { AreInShards 0 pass.now.seats } by { AreInShards-prop 0 pass.now.seats },
+}
+
+/// What stands behind a pass at its host: the host, the pass's number and weight, and the shards as they were
+/// opened. Contracts alone see it, and no value of it is made.
+pub struct Footing<F: Folder> {
+    start: Snapshot<F>,
+}
+
+impl<F: Folder> Model for Footing<F> {
+    ghost use Rattle.std.specs.Prelude.{[]};
+    ghost use Rattle.host_table.specs.Seated.{Basis};
+
+    ghost Value = { Basis F };
+
+    ghost view = { λ _. record { locks = []; number = 0; weight = 0; bases = [] } };
+}
+
+impl<'a, R: Wait, F: Folder> Seated<'a, R, F> {
+    /// The pass is one of this host.
+    pub fn new(rt: &'a R, host: &'a Host<F>, pass: &'a mut Pass<F>) -> Seated<'a, R, F>
+        requires { IsPassOf host.now pass.old }
+        ensures pass { result.pass.now ≡ pass.old }
+        ensures host { result.host.now ≡ host.now }
+        ensures reference { result.pass.ghost_name ≡ pass.entry.ghost_name }
+    {
+        pass.look();
+        Seated { rt, host, pass }
+    }
+}
+
+impl<R: Wait, F: Folder> Caller for Seated<'_, R, F> {
+    ghost use Rattle.std.specs.Prelude.{[], ◌∷◌};
+    ghost use Rattle.host_table.specs.Passes.{sight_of};
+    ghost use Rattle.host_table.specs.Seated.{basis_of, SeesShards};
+    ghost use Rattle.host_table.specs.Sights.{has_its_floor, sees_its_shards};
+
+    type Basis = Footing<F>;
+
+    ghost basis = { λ seated. basis_of seated.pass.now };
+
+    ghost sight = { λ seated. sight_of seated.pass.now };
+
+    ghost always = { SeesShards };
+
+    ghost references = { λ seated. seated.pass.ghost_name ∷ [] };
+
+    ghost has_floor = { λ seated. has_its_floor seated.pass.now seated.last_is };
+
+    ghost is_always = { λ seated. sees_its_shards seated.pass.now seated.named };
+
+    fn call(&mut self, call: Call, moment: u64) -> Result<Receipt, CallFault> {
+        self.host.call(self.rt, self.pass, call, moment)
+    }
+}
