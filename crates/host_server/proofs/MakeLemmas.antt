@@ -1,6 +1,5 @@
 -- From an answer to a reply, or to want of memory for one.
-use Rattle.std.proofs.Common.{◌≡◌, ℕ, Bool, [], None, Some, Ok, Err, refl, sym, ap, subst, append-nil, inr}
-use Rattle.wopi_text.specs.declared.faults.Memory.{Memory}
+use Rattle.std.proofs.Common.{◌≡◌, ℕ, Bool, [], None, Some, Ok, refl, sym, ap, subst, append-nil, inr}
 use Rattle.wopi_http.specs.declared.message.Request.{Request}
 use Rattle.wopi_http.specs.declared.message.Reply.{Reply}
 use Rattle.wopi_http.specs.Replies.{reply_text}

@@ -6,7 +6,7 @@ use Rattle.outside.specs.declared.faults.Failed.{Failed}
 use Rattle.outside.specs.Clock.{GivesAll}
 use Rattle.outside.specs.Stream.{Are}
 use Rattle.wopi_http.specs.declared.message.Request.{Request}
-use Rattle.wopi_http.specs.declared.reading.Got.TheVariants.{Message, End as NoMore, Refused, ReadFault, WriteFault, Memory}
+use Rattle.wopi_http.specs.declared.reading.Got.TheVariants.{Message, Refused, ReadFault, WriteFault, Memory}
 use Rattle.wopi_http.specs.Answers.{hundred_text, Reads, Looked, IsRefused}
 use Rattle.wopi_http.specs.Replies.{Writes}
 use Rattle.host_server.specs.Texts.{bare_reply}
@@ -15,7 +15,7 @@ use Rattle.host_server.specs.declared.desk.Desk.{Desk}
 use Rattle.host_server.specs.Deeds.{Does}
 use Rattle.host_server.proofs.DeedLemmas.{Does-nil}
 use Rattle.host_server.specs.Turns.{said_text, Turn, IsTurn}
-use Rattle.host_server.specs.Connection.{is_last, closed, empty, refused, wanted, line, reply, last, IsLine}
+use Rattle.host_server.specs.Connection.{is_last, closed, refused, wanted, line, reply, last, IsLine}
 use Rattle.host_server.specs.Steps.{Replies, StepsOn, StepsOver, Breaks}
 use Rattle.host_server.proofs.SequenceLemmas.{GivesAll-nil}
 

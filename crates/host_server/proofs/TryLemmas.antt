@@ -1,5 +1,5 @@
 -- The calls of a PutRelativeFile, one by one.
-use Rattle.std.proofs.Common.{◌≡◌, ◌<◌, ◌+◌, ℕ, Bool, List, [], ◌∷◌, ◌++◌, length, map, Option, None, Some, refl, sym, ap, ◌∙◌, subst, append-nil, arith}
+use Rattle.std.proofs.Common.{◌≡◌, ◌<◌, ◌+◌, ℕ, Bool, List, [], ◌∷◌, ◌++◌, length, map, Option, None, Some, sym, ap, ◌∙◌, subst, append-nil, arith}
 use Rattle.std.specs.Prelude.{if◌then◌else◌, ◌==◌}
 use Rattle.std.proofs.lemmas.List.{length-append, map-append}
 use Rattle.wopi_model.specs.declared.token.Token.{Token}
@@ -17,7 +17,7 @@ use Rattle.host_server.specs.Calls.{Calls}
 use Rattle.put_relative.specs.CopyNames.{copy_name}
 use Rattle.host_server.specs.Copies.{IsTaken, AreTaken, Decides, create_as}
 use Rattle.host_server.specs.Tries.{Attempts, Judges, Going, Decided, Stopped}
-use Rattle.host_server.proofs.DeedLemmas.{Does-nil, Does-join}
+use Rattle.host_server.proofs.DeedLemmas.{Does-join}
 
 -- contents come back exactly where they weren't accepted
 taken_comes_back : (overwrite : Bool) (contents : List ℕ) (ruling : Ruling) → IsTaken ruling → back_of (act.Create overwrite contents) ruling ≡ Some contents
