@@ -129,7 +129,7 @@ module _ {F : Type 0} where
     based = refl;
     weights = let one : p.weight ≡ p.weight + 0 = omega arith in subst (λ (w : ℕ). Weigh w p.seats) one (seats_weigh p.number p.weight p.opened p.capacity 0 p.seats is.seats);
     gathered = λ k s e. let P : Option (Place F) → Type 0 = λ o. IsGathered (seat_in o ++ []) s in
-    subst P (sym e) (record { seen = (prefix_self s.seen, tt); own = sym (append-nil s.own) });
+        subst P (sym e) (record { seen = (prefix_self s.seen, tt); own = sym (append-nil s.own) });
   }
 
   are_append : (ps : List (PassView F)) (p : PassView F) → AllByRecursion IsPass ps → IsPass p → AllByRecursion IsPass (ps ++ p ∷ [])
@@ -146,11 +146,11 @@ module _ {F : Type 0} where
     free = joined_free seats p.seats joined old.free are;
     based = based_more ps p seats joined (joined_bases seats p.seats joined are) old.based;
     weights = let sum : total weight_of ps + p.weight ≡ total weight_of (ps ++ p ∷ []) = omega (arith, total-append weight_of ps (p ∷ [])) in
-    subst (λ (w : ℕ). Weigh w joined) sum (joined_weights seats p.seats joined (total weight_of ps) p.weight old.weights (seats_weigh p.number p.weight p.opened p.capacity 0 p.seats is.seats) are);
+        subst (λ (w : ℕ). Weigh w joined) sum (joined_weights seats p.seats joined (total weight_of ps) p.weight old.weights (seats_weigh p.number p.weight p.opened p.capacity 0 p.seats is.seats) are);
     gathered = λ k n e.
-    let at = joined_at seats p.seats joined k n are e in
-    let col : column k ps ++ at.1 ∷ [] ≡ column k (ps ++ p ∷ []) = sym (column-append k ps p ∙ ap (λ (o : Option (Place F)). column k ps ++ seat_in o) at.3) in
-    subst (λ (c : List (Place F)). IsGathered c n) col (gathered_more (column k ps) at.0 at.1 n (old.gathered k at.0 at.2) at.4);
+        let at = joined_at seats p.seats joined k n are e in
+        let col : column k ps ++ at.1 ∷ [] ≡ column k (ps ++ p ∷ []) = sym (column-append k ps p ∙ ap (λ (o : Option (Place F)). column k ps ++ seat_in o) at.3) in
+        subst (λ (c : List (Place F)). IsGathered c n) col (gathered_more (column k ps) at.0 at.1 n (old.gathered k at.0 at.2) at.4);
   }
 
   pub free_at : (xs ys : List (Place F)) (x : Place F) → AreFree (xs ++ x ∷ ys) → x.taken ≡ None

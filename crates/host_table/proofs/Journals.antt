@@ -236,9 +236,10 @@ module _ {F : Type 0} where
   parts_are : (merge : List Made) (j : ℕ) (parts : List (Left F)) → ((i : ℕ) (part : Left F) → slice_get parts i ≡ Some part → part.made ≡ filter (λ one. place_of one.step == j + i) merge) → AreParts merge j parts
   parts_are merge j [] f = tt
   parts_are merge j (part ∷ parts) f =
-      let z : j + 0 ≡ j = omega arith in
-      (f 0 part refl ∙ ap (λ (n : ℕ). filter (λ (one : Made). place_of one.step == n) merge) z,
-      parts_are merge (j + 1) parts (λ i p e. let n : j + suc i ≡ (j + 1) + i = omega arith in f (suc i) p e ∙ ap (λ (m : ℕ). filter (λ (one : Made). place_of one.step == m) merge) n))
+      let z : j + 0 ≡ j = omega arith in (
+        f 0 part refl ∙ ap (λ (n : ℕ). filter (λ (one : Made). place_of one.step == n) merge) z,
+        parts_are merge (j + 1) parts (λ i p e. let n : j + suc i ≡ (j + 1) + i = omega arith in f (suc i) p e ∙ ap (λ (m : ℕ). filter (λ (one : Made). place_of one.step == m) merge) n),
+      )
 
   seen_are : (seats : List (Place F)) (parts : List (Left F)) → length seats ≡ length parts → ((i : ℕ) (s : Place F) (part : Left F) → slice_get seats i ≡ Some s → slice_get parts i ≡ Some part → IsPrefix s.seen part.made) → AreSeen seats parts
   seen_are [] [] e f = tt
@@ -354,16 +355,16 @@ module _ {F : Type 0} (files : F → Option Files) (faults : F → ℕ) (opened 
   pass_rises : (n : ℕ) → RisesFrom 0 (stamps (filter (λ (entry : Entry). entry.pass == n) (steps_of merge)))
   pass_rises n = elim (numbered passes n) as (λ _. RisesFrom 0 (stamps (filter (λ (entry : Entry). entry.pass == n) (steps_of merge)))) [
     | inl some ↦
-      let is = all_at IsPass passes some.0 joined.passes_are some.1 in
-      let P : ℕ → Type 0 = λ m. RisesFrom 0 (stamps (filter (λ (entry : Entry). entry.pass == m) (steps_of merge))) in
-      let Q : List Entry → Type 0 = λ es. RisesFrom 0 (stamps es) in
-      subst P some.2 (subst Q (sym (own_is some.0 some.1)) (subst (RisesFrom 0) (sym (stamps-own (own_of some.0))) is.rises))
+        let is = all_at IsPass passes some.0 joined.passes_are some.1 in
+        let P : ℕ → Type 0 = λ m. RisesFrom 0 (stamps (filter (λ (entry : Entry). entry.pass == m) (steps_of merge))) in
+        let Q : List Entry → Type 0 = λ es. RisesFrom 0 (stamps es) in
+        subst P some.2 (subst Q (sym (own_is some.0 some.1)) (subst (RisesFrom 0) (sym (stamps-own (own_of some.0))) is.rises))
     | inr none ↦
-      let Q : List Entry → Type 0 = λ es. RisesFrom 0 (stamps es) in
-      subst Q (sym (filter_none (λ (entry : Entry). entry.pass == n) (steps_of merge) (λ e h t.
-      let m = map_has (λ (z : Made). z.step) merge e h in let w = whose m.0 m.1 in
-      let pass : m.0.step.pass ≡ e.pass = ap (λ (z : Entry). z.pass) m.2 in let q = w.3 in
-      let number : w.0.number ≡ n = grind (arith, nat_tests) in none w.0 w.2 number))) tt
+        let Q : List Entry → Type 0 = λ es. RisesFrom 0 (stamps es) in
+        subst Q (sym (filter_none (λ (entry : Entry). entry.pass == n) (steps_of merge) (λ e h t.
+        let m = map_has (λ (z : Made). z.step) merge e h in let w = whose m.0 m.1 in
+        let pass : m.0.step.pass ≡ e.pass = ap (λ (z : Entry). z.pass) m.2 in let q = w.3 in
+        let number : w.0.number ≡ n = grind (arith, nat_tests) in none w.0 w.2 number))) tt
   ]
 
   pub legal_host : LegalHost (openings parts) opened (steps_of merge)
@@ -388,8 +389,7 @@ pub ends_all : {F : Type 0} (files : F → Option Files) (faults : F → ℕ) (h
     → AreFound parts sorted × Ends files faults host passes (record { opened = host.opened; parts = parts; merge = merge_of parts sorted }) folders
 ends_all files faults host passes seats books parts folders sorted bases long of whole joined ends taken moved up =
     let same : map as_opened books ≡ host.bases = ended_bases seats books host.bases ends (based_on host passes seats of joined.based) in
-    let mine : AreBases host.opened host.capacity 0 (map as_opened books) = subst (λ (bs : List (Book _)). AreBases host.opened host.capacity 0 bs) (sym same) bases in
-    (
+    let mine : AreBases host.opened host.capacity 0 (map as_opened books) = subst (λ (bs : List (Book _)). AreBases host.opened host.capacity 0 bs) (sym same) bases in (
       spots_found files faults host.opened host.capacity host.made passes seats books parts folders sorted whole joined ends mine taken long moved up,
       record {
         opened_is = refl;

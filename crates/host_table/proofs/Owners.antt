@@ -46,9 +46,9 @@ owned_have : (j : ℕ) (seen : List Made) (places : List ℕ) (place : ℕ) (one
 owned_have j seen [] place one h e = absurd h
 owned_have j seen (p ∷ places) place one h e = elim h as (λ _. Has (owned_at j p (slice_get seen p) ++ owned j seen places) (record { shard = j; place = place; entry = one.step })) [
   | inl same ↦
-    let here : slice_get seen p ≡ Some one = ap (slice_get seen) same ∙ e in
-    let P : Option Made → Type 0 = λ o. Has (owned_at j p o ++ owned j seen places) (record { shard = j; place = place; entry = one.step }) in
-    subst P (sym here) (inl (ap (λ (n : ℕ). record { shard = j; place = n; entry = one.step }) same))
+      let here : slice_get seen p ≡ Some one = ap (slice_get seen) same ∙ e in
+      let P : Option Made → Type 0 = λ o. Has (owned_at j p o ++ owned j seen places) (record { shard = j; place = place; entry = one.step }) in
+      subst P (sym here) (inl (ap (λ (n : ℕ). record { shard = j; place = n; entry = one.step }) same))
   | inr k ↦ has_right (owned_at j p (slice_get seen p)) (owned j seen places) _ (owned_have j seen places place one k e)
 ]
 
@@ -80,9 +80,9 @@ module _ {F : Type 0} where
   in_from j [] o h = absurd h
   in_from j (s ∷ seats) o h = elim (has_either (owned j s.seen s.own) (owned_from (j + 1) seats) o h) as (λ _. IsOwned j (s ∷ seats) o) [
     | inl l ↦ let k = in_owned j s.seen s.own o l in let z : j ≡ j + 0 = omega arith in
-      record { shard = 0; seat = s; place = k.0; one = k.1; there = refl; own = k.2; seen = k.3; is = k.4 ∙ ap (λ (n : ℕ). record { shard = n; place = k.0; entry = k.1.step }) z }
+        record { shard = 0; seat = s; place = k.0; one = k.1; there = refl; own = k.2; seen = k.3; is = k.4 ∙ ap (λ (n : ℕ). record { shard = n; place = k.0; entry = k.1.step }) z }
     | inr r ↦ let k = in_from (j + 1) seats o r in let n : (j + 1) + k.shard ≡ j + suc k.shard = omega arith in
-      record { shard = suc k.shard; seat = k.seat; place = k.place; one = k.one; there = k.there; own = k.own; seen = k.seen; is = k.is ∙ ap (λ (m : ℕ). record { shard = m; place = k.place; entry = k.one.step }) n }
+        record { shard = suc k.shard; seat = k.seat; place = k.place; one = k.one; there = k.there; own = k.own; seen = k.seen; is = k.is ∙ ap (λ (m : ℕ). record { shard = m; place = k.place; entry = k.one.step }) n }
   ]
 
 put_have : (x : Own) (ys : List Own) (o : Own) → Has (x ∷ ys) o → Has (put_in x ys) o
@@ -135,8 +135,8 @@ module _ {F : Type 0} where
   column_has i [] q s h e = absurd h
   column_has i (p ∷ ps) q s h e = elim h as (λ _. Has (column i (p ∷ ps)) s) [
     | inl same ↦
-      let here : slice_get p.seats i ≡ Some s = ap (λ (z : PassView F). slice_get z.seats i) same ∙ e in
-      let P : Option (Place F) → Type 0 = λ o. Has (seat_in o ++ column i ps) s in subst P (sym here) (inl refl)
+        let here : slice_get p.seats i ≡ Some s = ap (λ (z : PassView F). slice_get z.seats i) same ∙ e in
+        let P : Option (Place F) → Type 0 = λ o. Has (seat_in o ++ column i ps) s in subst P (sym here) (inl refl)
     | inr k ↦ has_right (seat_in (slice_get p.seats i)) (column i ps) s (column_has i ps q s k e)
   ]
 

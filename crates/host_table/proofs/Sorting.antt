@@ -191,9 +191,10 @@ good_spots : {F : Type 0} (all : List (Left F)) (j place : ℕ) (part : Left F) 
     → AllByRecursion (IsGood all) (spots_from j place made)
 good_spots all j place part [] at same named = tt
 good_spots all j place part (one ∷ made) at same named =
-    let here : slice_get part.made place ≡ Some one = let z : place + 0 ≡ place = omega arith in ap (slice_get part.made) (sym z) ∙ same 0 in
-    ((one, ap (λ (o : Option (Left _)). made_in o place) at ∙ here, refl, sym named.0),
-    good_spots all j (place + 1) part made at (λ k. let n : (place + 1) + k ≡ place + suc k = omega arith in ap (slice_get part.made) n ∙ same (suc k)) named.1)
+    let here : slice_get part.made place ≡ Some one = let z : place + 0 ≡ place = omega arith in ap (slice_get part.made) (sym z) ∙ same 0 in (
+      (one, ap (λ (o : Option (Left _)). made_in o place) at ∙ here, refl, sym named.0),
+      good_spots all j (place + 1) part made at (λ k. let n : (place + 1) + k ≡ place + suc k = omega arith in ap (slice_get part.made) n ∙ same (suc k)) named.1,
+    )
 
 pub good_all : {F : Type 0} (all : List (Left F)) (j : ℕ) (parts : List (Left F)) → ((k : ℕ) → slice_get all (j + k) ≡ slice_get parts k) → ArePlaced j parts → AllByRecursion (IsGood all) (all_spots j parts)
 good_all all j [] same placed = tt
@@ -201,9 +202,9 @@ good_all all j (part ∷ parts) same placed =
     let here : slice_get all j ≡ Some part = let z : j + 0 ≡ j = omega arith in ap (slice_get all) (sym z) ∙ same 0 in
     both_good (spots_from j 0 part.made) (all_spots (j + 1) parts) (good_spots all j 0 part part.made here (λ k. let z : 0 + k ≡ k = omega arith in ap (slice_get part.made) z) placed.0)
     (good_all all (j + 1) parts (λ k. let n : (j + 1) + k ≡ j + suc k = omega arith in ap (slice_get all) n ∙ same (suc k)) placed.1) where
-  both_good : (xs ys : List Spot) → AllByRecursion (IsGood all) xs → AllByRecursion (IsGood all) ys → AllByRecursion (IsGood all) (xs ++ ys)
-  both_good [] ys a b = b
-  both_good (x ∷ xs) ys a b = (a.0, both_good xs ys a.1 b)
+      both_good : (xs ys : List Spot) → AllByRecursion (IsGood all) xs → AllByRecursion (IsGood all) ys → AllByRecursion (IsGood all) (xs ++ ys)
+      both_good [] ys a b = b
+      both_good (x ∷ xs) ys a b = (a.0, both_good xs ys a.1 b)
 
 -- the entries at spots that were sorted: they are in order, and just those of the shards
 module _ {F : Type 0} (parts : List (Left F)) (sorted : List Spot) (few : length parts ≤ 16) (rising : AreRising parts) (placed : ArePlaced 0 parts)
@@ -237,6 +238,6 @@ module _ {F : Type 0} (parts : List (Left F)) (sorted : List Spot) (few : length
       let same : g.0 ≡ one = cc (g.1, m.2) in
       let p = in_part (slice_get parts m.0.shard) m.0.place one m.2 in
       (m.0.shard, m.0.place, p.0, p.1, p.2, sym (g.3 ∙ ap (λ (z : Made). place_of z.step) same)) where
-    in_part : (o : Option (Left F)) (place : ℕ) (one : Made) → made_in o place ≡ Some one → (part : Left F) × (o ≡ Some part) × (slice_get part.made place ≡ Some one)
-    in_part None place one e = absurd (cc e)
-    in_part (Some part) place one e = (part, refl, e)
+        in_part : (o : Option (Left F)) (place : ℕ) (one : Made) → made_in o place ≡ Some one → (part : Left F) × (o ≡ Some part) × (slice_get part.made place ≡ Some one)
+        in_part None place one e = absurd (cc e)
+        in_part (Some part) place one e = (part, refl, e)

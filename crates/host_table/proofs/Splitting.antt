@@ -2,7 +2,7 @@
 use Rattle.std.proofs.Common.{◌≡◌, ℕ, ◌+◌, ◌-◌, ◌/◌, ◌≤◌, List, [], ◌∷◌, ◌++◌, map, refl, ap, sym, ◌∙◌, subst, arith}
 use Rattle.std.proofs.lemmas.List.{length-map}
 use Rattle.wopi_model.specs.Shard.{RisesFrom}
-use Rattle.host_table.specs.Passes.{Place, PassView, Own, stamp_of, owned, owned_from, by_stamp, top, AreSeats, IsPass, given_half, kept_half, given_pass, kept_pass}
+use Rattle.host_table.specs.Passes.{HostView, IsPassOf, lock_of, base_of, Place, PassView, Own, stamp_of, owned, owned_from, by_stamp, top, AreSeats, IsPass, given_half, kept_half, given_pass, kept_pass}
 use Rattle.host_table.specs.Rows.{CanSplit}
 
 module _ {F : Type 0} where
@@ -53,3 +53,23 @@ module _ {F : Type 0} where
     wide = length-map p.seats kept_half ∙ is.wide;
     rises = subst (λ (own : List Own). RisesFrom 0 (map stamp_of (by_stamp own))) (sym (own_kept 0 p.seats)) is.rises;
   }
+
+  pub given_of : (host : HostView F) (number : ℕ) (p : PassView F) → IsPassOf host p → IsPassOf (record host { made = host.made + 1 }) (given_pass number p)
+  given_of host number p of = record { locks = locks_given p.seats ∙ of.locks; bases = bases_given p.seats ∙ of.bases } where
+    locks_given : (ss : List (Place F)) → map lock_of (map given_half ss) ≡ map lock_of ss
+    locks_given [] = refl
+    locks_given (s ∷ ss) = ap (λ (z : List _). s.lock ∷ z) (locks_given ss)
+
+    bases_given : (ss : List (Place F)) → map base_of (map given_half ss) ≡ map base_of ss
+    bases_given [] = refl
+    bases_given (s ∷ ss) = ap (λ (z : List _). s.base ∷ z) (bases_given ss)
+
+  pub kept_of : (host : HostView F) (p : PassView F) → IsPassOf host p → IsPassOf (record host { made = host.made + 1 }) (kept_pass p)
+  kept_of host p of = record { locks = locks_kept p.seats ∙ of.locks; bases = bases_kept p.seats ∙ of.bases } where
+    locks_kept : (ss : List (Place F)) → map lock_of (map kept_half ss) ≡ map lock_of ss
+    locks_kept [] = refl
+    locks_kept (s ∷ ss) = ap (λ (z : List _). s.lock ∷ z) (locks_kept ss)
+
+    bases_kept : (ss : List (Place F)) → map base_of (map kept_half ss) ≡ map base_of ss
+    bases_kept [] = refl
+    bases_kept (s ∷ ss) = ap (λ (z : List _). s.base ∷ z) (bases_kept ss)

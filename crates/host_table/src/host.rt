@@ -171,13 +171,14 @@ impl<F: Folder> Host<F> {
     /// A new pass with the next number, which has seen what the old one has seen and has half of its weight,
     /// rounded down. It may wait.
     pub fn split<R: Wait>(&mut self, rt: &R, pass: &mut Pass<F>) -> Result<Pass<F>, Memory>
-        requires host { locks_of pass.old ≡ self.old.locks }
+        requires of_host { IsPassOf self.old pass.old }
         requires weight { 2 ≤ pass.old.weight }
         requires made { self.old.made < 4294967295 }
         ensures given { IfOk result (λ given. given ≡ given_pass self.old.made pass.old) }
         ensures kept { OnOk result (pass.new ≡ kept_pass pass.old) }
         ensures made { OnOk result (self.new ≡ record self.old { made = self.old.made + 1 }) }
         ensures memory { OnErr result ((pass.new ≡ pass.old) × (self.new ≡ self.old)) }
+        ensures of_host { IsPassOf self.new pass.new × IfOk result (IsPassOf self.new) }
     {
         let Ok(mut seats) = Vec::with_capacity(self.alloc, SHARDS) else {
             return Err(Memory);

@@ -18,10 +18,12 @@ mod opening;
 mod pass;
 mod rows;
 mod seated;
+#[cfg(test)]
+mod tests;
 mod whole;
 
 pub use host::{CloseFault, Host};
-pub use journal::Journal;
 pub use host_core::{CallFault, Receipt, StartFault};
+pub use journal::Journal;
 pub use pass::Pass;
 pub use seated::{Footing, Seated};

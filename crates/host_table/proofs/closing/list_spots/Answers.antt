@@ -12,7 +12,7 @@ loop-place-preserved g c =
     let p = c.push_reserved.ensures.len in let q = c.push_reserved.ensures.capacity in let len = inv.len in
     record {
       listed = c.push_reserved.ensures.items ∙ ((λ i. inv.listed i ++ same i ∷ []) ∙ (append_assoc c.args.spots.now.items (spots_from c.args.shard 0 (take k made)) (record { stamp = one.step.stamp; shard = c.args.shard; place = k } ∷ [])
-      ∙ ap (λ (z : List Spot). c.args.spots.now.items ++ z) (spots_more c.args.shard k made one (sym c.in-Some.ensures))));
+          ∙ ap (λ (z : List Spot). c.args.spots.now.items ++ z) (spots_more c.args.shard k made one (sym c.in-Some.ensures))));
       len = omega arith;
       capacity = q ∙ inv.capacity;
     }

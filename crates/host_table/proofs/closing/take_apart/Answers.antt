@@ -35,7 +35,7 @@ loop-held-preserved g c =
       room = omega arith;
       few = few.1;
       spots = c.list_spots.ensures.spots ∙ (ap (λ (z : List Spot). z ++ spots_from c.loop-held.number 0 part.made) inv.spots
-      ∙ (sym (all_push 0 c.loop-held.pasts.items part c.loop-held.number (omega (arith, c.loop-held.pasts.ok.0))) ∙ ap (all_spots 0) (sym c.push_reserved-in-Some.ensures.items)));
+          ∙ (sym (all_push 0 c.loop-held.pasts.items part c.loop-held.number (omega (arith, c.loop-held.pasts.ok.0))) ∙ ap (all_spots 0) (sym c.push_reserved-in-Some.ensures.items)));
       taken = (
         k.0 ++ held ∷ [],
         more_done c.args.shards.items k.0 rest rest' held k.1 c.in-Some.ensures.items,

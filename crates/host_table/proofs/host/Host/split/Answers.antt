@@ -1,7 +1,7 @@
-use Rattle.std.proofs.Common.{◌-◌, ◌/◌, ◌≤◌, sym, subst, List}
-use Rattle.host_table.specs.Views.{pass_of}
-use Rattle.host_table.specs.Passes.{Place, PassView, IsPass}
-use Rattle.host_table.proofs.Splitting.{can_split, pass_given, pass_kept}
+use Rattle.std.proofs.Common.{◌≡◌, ◌+◌, ◌-◌, ◌/◌, ◌≤◌, sym, subst, List}
+use Rattle.host_table.specs.Views.{pass_of, host_of}
+use Rattle.host_table.specs.Passes.{Place, PassView, HostView, IsPass, IsPassOf}
+use Rattle.host_table.proofs.Splitting.{can_split, pass_given, pass_kept, given_of, kept_of}
 use Rattle.host_table.proofs.host.Host.split.Goals as goal
 
 pub split_all-requires-clause-free : goal.split_all-requires-clause-free
@@ -20,3 +20,13 @@ invariant_of-pass g c =
     let p = pass_of c.pass.inside in
     let P : List (Place g.row.F.Denot) → Type 0 = λ seats. IsPass (record { number = p.number; last = p.last; weight = p.weight - p.weight / 2; opened = p.opened; capacity = p.capacity; seats = seats }) in
     subst P (sym c.split_all.ensures.kept) (pass_kept p c.pass.invariant)
+
+pub returns-clause-of_host : goal.returns-clause-of_host
+returns-clause-of_host g c =
+    let F = g.row.F.Denot in let p = pass_of c.pass.inside in let host = host_of c.self.inside in
+    let both : (c.args.self.now, c.args.pass.now) ≡ (host, p) = λ i. (sym c.self.view_is i, sym c.pass.view_is i) in
+    let of : IsPassOf host p = subst (λ (z : HostView F × PassView F). IsPassOf z.0 z.1) both c.requires.of_host in
+    let more : HostView F = record { locks = host.locks; bases = host.bases; opened = host.opened; capacity = host.capacity; made = host.made + 1 } in
+    let K : List (Place F) → Type 0 = λ seats. IsPassOf more (record { number = p.number; last = p.last; weight = p.weight - p.weight / 2; opened = p.opened; capacity = p.capacity; seats = seats }) in
+    let G : List (Place F) → Type 0 = λ seats. IsPassOf more (record { number = host.made; last = p.last; weight = p.weight / 2; opened = p.opened; capacity = p.capacity; seats = seats }) in
+    (subst K (sym c.split_all.ensures.kept) (kept_of host p of), subst G (sym c.split_all.ensures.given) (given_of host host.made p of))
