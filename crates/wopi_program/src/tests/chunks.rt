@@ -36,6 +36,7 @@ fn a_save_in_chunks_gets_its_line_and_its_reply(rt: HostRuntime) -> Result<(), F
         let left = once(&rt, alloc, &input)?;
         assert_eq!(rt; left.status, 0);
         assert_eq!(rt; left.output.as_slice(), wanted.as_bytes());
+        assert_eq!(rt; left.folders.len(), 1);
         let kept = left.folders[0].contents("a.csv").ok_or("a file")?;
         assert_eq!(rt; kept, b"1,9\n".as_slice());
     }
@@ -83,6 +84,7 @@ fn a_save_in_chunks_cut_at_any_place_is_bad(rt: HostRuntime) -> Result<(), Fail>
             behind.as_bytes()
         };
         assert_eq!(rt; left.output.as_slice(), wanted, "at {cut}");
+        assert_eq!(rt; left.folders.len(), 1);
         let kept = left.folders[0].contents("a.csv").ok_or("a file")?;
         assert_eq!(rt; kept, b"1,2\n".as_slice());
     }
