@@ -26,7 +26,6 @@ pub has_room : (count : ℕ) (q : Request) → is_last count q ≡ false → cou
 has_room count q stays few = grind (arith, stays, few)
 
 module _ (desk : Desk) (always : Sight → Type 0) (left clock : Option (List ℕ)) (history : Sight) (held : Option (List ℕ)) where
-
   module _ (count : ℕ) (left' clock' : Option (List ℕ)) (history' : Sight) (held' : Option (List ℕ))
       (running : Running desk always count left left' clock clock' history history' held held') where
     pub runs_on : (left'' clock'' : Option (List ℕ)) (history'' : Sight) (held'' : Option (List ℕ))

@@ -184,7 +184,6 @@ module _ (desk : Desk) (always : Sight → Type 0) (count : ℕ) (left left' clo
 
 module _ (desk : Desk) (always : Sight → Type 0) (count : ℕ) (left left' clock : Option (List ℕ)) (history : Sight)
     (held held' : Option (List ℕ)) where
-
   pub reading_broken : Reads left left' held held' ReadFault
       → (breaks : Breaks desk always count left clock clock history history held held') × IsLine breaks.next × (breaks.back ≡ [])
   reading_broken reads =

@@ -64,7 +64,6 @@ AreTaken-one calls moment first (x ∷ xs) entry all of taken =
     (all.0, all.1, AreTaken-one calls moment (first + 1) xs entry all.2 (subst (λ n. IsOf (calls n) moment entry) place of) taken)
 
 module _ (always : Sight → Type 0) (old mid new : Sight) (calls : ℕ → Call) (moment number : ℕ) where
-
   module _ (going : Going always old mid calls moment number) where
     behind : (entry : Entry) → Does always mid new (Made entry ∷ []) → Does always old new (map Made (going.taken ++ entry ∷ []))
     behind entry does =
