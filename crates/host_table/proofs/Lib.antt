@@ -19,3 +19,4 @@ pub mod Order
 pub mod Sorting
 pub mod Owners
 pub mod Journals
+pub mod Sends

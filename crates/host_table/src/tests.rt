@@ -1,6 +1,5 @@
 //! Calls on hosts over folders in memory, and the journals that they leave.
-ghost use Rattle.std.specs.Prelude.{◌≡◌, length, IfOk};
-ghost use Rattle.wopi_model.specs.Moment.{IsMoment};
+ghost use Rattle.std.specs.Prelude.{◌≡◌, ◌^◌, IfOk};
 ghost use Rattle.host_table.specs.Passes.{IsPassOf};
 
 use crate::{Host, Journal, Pass, Seated};
@@ -27,7 +26,8 @@ fn folder(alloc: Global) -> Result<MemFolder, Fail> {
 
 /// A host over 16 such folders, opened at 0, and its first pass.
 fn open(alloc: Global) -> Result<(Host<MemFolder>, Pass<MemFolder>), Fail>
-    ensures { IfOk result (λ begun. IsPassOf begun.0 begun.1) }
+    ensures of_host { IfOk result (λ begun. IsPassOf begun.0 begun.1) }
+    ensures fresh { IfOk result (λ begun. (begun.0.made ≡ 1) × (begun.1.weight ≡ 2 ^ 62)) }
 {
     let mut folders = Vec::new(alloc);
     for _ in 0..16 {

@@ -1,0 +1,64 @@
+-- Shards may go to other threads, where their folders may.
+use denote.RattleType.{RattleType}
+use denote.Param.Send.{IsSend, IsSync, sendable}
+use Rattle.std.proofs.Crossing as any
+use Rattle.wopi_text.proofs.file_name.FileName.TheSendSync.{the_send as name_send}
+use Rattle.wopi_text.proofs.lock_id.LockId.TheSendSync.{the_send as id_send}
+use Rattle.wopi_model.proofs.user.User.TheSendSync.{the_send as user_send}
+use Rattle.wopi_model.proofs.locks.Lock.TheSendSync.{the_send as lock_send}
+use Rattle.wopi_model.proofs.locks.Spent.TheSendSync.{the_send as spent_send}
+use Rattle.file_versions.proofs.Versions.TheSendSync.{the_send as versions_send}
+use Rattle.wopi_model.specs.contracts.token.Token as token
+use Rattle.wopi_text.specs.contracts.reason.Reason as reason
+use Rattle.wopi_text.specs.contracts.lock_field.LockField as lock_field
+use Rattle.host_core.specs.contracts.extent.Extent as extent
+use Rattle.host_core.specs.contracts.file.KeptFile as file
+use Rattle.host_core.specs.contracts.entry.EntryAct as act
+use Rattle.host_core.specs.contracts.entry.Asked as asked
+use Rattle.host_core.specs.contracts.entry.Entry as entry
+use Rattle.host_core.specs.contracts.ledger.Ledger as ledger
+use Rattle.host_core.specs.contracts.shard.Shard as shard
+use Rattle.turn_lock.proofs.seat.Seat.TheSendSync.{the_send as seat_send}
+use Rattle.turn_lock.proofs.lock.TurnLock.TheSendSync.{the_sync as lock_sync}
+use Rattle.host_table.specs.contracts.held.Held as held
+use Rattle.host_table.specs.contracts.pass.Pass as pass
+use Rattle.host_table.specs.contracts.host.Host as host
+
+extent_send : IsSend extent.the_row
+extent_send = search sendable depth 20
+
+file_send : IsSend file.the_row
+file_send = search (sendable, any.crosses, extent_send, name_send, lock_send, spent_send) depth 20
+
+token_send : IsSend (token.the_field).row
+token_send = search (sendable, any.crosses, name_send, user_send) depth 20
+
+act_send : IsSend (act.the_field).row
+act_send = search (sendable, any.crosses, id_send) depth 20
+
+field_send : IsSend (lock_field.the_field).row
+field_send = search (sendable, any.crosses, id_send) depth 20
+
+asked_send : IsSend asked.the_row
+asked_send = search (sendable, any.crosses, name_send, token_send, act_send) depth 20
+
+reason_send : IsSend (reason.the_field).row
+reason_send = search sendable depth 20
+
+entry_send : IsSend entry.the_row
+entry_send = search (sendable, any.crosses, asked_send, field_send, reason_send) depth 20
+
+ledger_field : IsSend (ledger.the_field).row
+ledger_field = search (sendable, any.crosses, file_send, entry_send, versions_send) depth 20
+
+pub shard_send : (F : RattleType) (d : _) → IsSend F → IsSend (shard.the_row F d)
+shard_send F d f = search (sendable, any.crosses, ledger_field) depth 20
+
+pub held_send : (F : RattleType) (d : _) → IsSend F → IsSend (held.the_row F d)
+held_send F d f = search (sendable, shard_send) depth 20
+
+pub pass_send : (F : RattleType) (d : _) → IsSend F → IsSend (pass.the_row F d)
+pass_send F d f = search (sendable, any.crosses, seat_send, held_send) depth 20
+
+pub host_sync : (F : RattleType) (d : _) → IsSend F → IsSync (host.the_row F d)
+host_sync F d f = search (sendable, any.crosses, lock_sync, held_send) depth 20
