@@ -1,4 +1,4 @@
-use crate::{Answer, AskFault, BodyKind, Op, Target, ask_of, reply_of};
+use crate::{Answer, Ask, AskFault, BodyKind, Op, Target, ask_of, reply_of};
 use std::alloc::Global;
 use std::test::Fail;
 use wopi_http::{Field, Fields, Method, Request};
@@ -102,24 +102,21 @@ const RELATIVE: &str = "X-WOPI-RelativeTarget";
 const OVERWRITE: &str = "X-WOPI-OverwriteRelativeTarget";
 
 /// The target of a copy that these fields ask for.
-fn target(
+fn target<'x>(
     alloc: Global,
-    name: (&str, &str),
-    overwrite: Option<&str>,
+    name: (&'x str, &'x str),
+    overwrite: &'x str,
 ) -> Result<Option<Target>, Memory> {
     let copy = ("X-WOPI-Override", "PUT_RELATIVE");
-    let asked = match overwrite {
-        Some(word) => {
-            let named = [copy, name, (OVERWRITE, word)];
-            ask_of(alloc, &request(alloc, Method::Post, FILE, &named)?)
+    let named = [copy, name, (OVERWRITE, overwrite)];
+    match ask_of(alloc, &request(alloc, Method::Post, FILE, &named)?) {
+        Ok(ask) => {
+            let Ask { file: _file, token: _token, op } = ask;
+            match op {
+                Op::PutRelative { target } => Ok(Some(target)),
+                _other => Ok(None),
+            }
         }
-        None => ask_of(alloc, &request(alloc, Method::Post, FILE, &[copy, name])?),
-    };
-    match asked {
-        Ok(ask) => match ask.op {
-            Op::PutRelative { target } => Ok(Some(target)),
-            _ => Ok(None),
-        },
         Err(AskFault::Refused { .. }) => Ok(None),
         Err(AskFault::Memory) => Err(Memory),
     }
@@ -127,19 +124,34 @@ fn target(
 
 #[test]
 fn a_copy_has_the_name_that_its_header_stands_for(rt: HostRuntime) -> Result<(), Fail> {
-    match target(rt.alloc(), (SUGGESTED, "+AOk-.csv"), None)? {
+    let found = target(rt.alloc(), (SUGGESTED, "+AOk-.csv"), "no")?;
+    match &found {
         Some(Target::Suggested(name)) => assert_eq!(rt; name.as_slice(), "é.csv".as_bytes()),
         _ => assert!(rt; false),
     }
-    let choices = [(None, false), (Some("false"), false), (Some("True"), true)];
-    for (word, wanted) in choices {
-        match target(rt.alloc(), (RELATIVE, "b.csv"), word)? {
+    for (word, wanted) in [("false", false), ("True", true)] {
+        let found = target(rt.alloc(), (RELATIVE, "b.csv"), word)?;
+        match &found {
             Some(Target::Relative { name, overwrite }) => {
                 assert_eq!(rt; name.as_slice(), b"b.csv".as_slice());
-                assert_eq!(rt; overwrite, wanted);
+                assert_eq!(rt; *overwrite, wanted);
             }
             _ => assert!(rt; false),
         }
+    }
+    Ok(())
+}
+
+#[test]
+fn a_copy_overwrites_nothing_unasked(rt: HostRuntime) -> Result<(), Fail> {
+    let alloc = rt.alloc();
+    let named = [("X-WOPI-Override", "PUT_RELATIVE"), (RELATIVE, "b.csv")];
+    let ask = ask_of(alloc, &request(alloc, Method::Post, FILE, &named)?)?;
+    match &ask.op {
+        Op::PutRelative { target: Target::Relative { name: _, overwrite } } => {
+            assert!(rt; !*overwrite);
+        }
+        _ => assert!(rt; false),
     }
     Ok(())
 }
