@@ -111,7 +111,11 @@ fn target<'x>(
     let named = [copy, name, (OVERWRITE, overwrite)];
     match ask_of(alloc, &request(alloc, Method::Post, FILE, &named)?) {
         Ok(ask) => {
-            let Ask { file: _file, token: _token, op } = ask;
+            let Ask {
+                file: _file,
+                token: _token,
+                op,
+            } = ask;
             match op {
                 Op::PutRelative { target } => Ok(Some(target)),
                 _other => Ok(None),
@@ -148,7 +152,9 @@ fn a_copy_overwrites_nothing_unasked(rt: HostRuntime) -> Result<(), Fail> {
     let named = [("X-WOPI-Override", "PUT_RELATIVE"), (RELATIVE, "b.csv")];
     let ask = ask_of(alloc, &request(alloc, Method::Post, FILE, &named)?)?;
     match &ask.op {
-        Op::PutRelative { target: Target::Relative { name: _, overwrite } } => {
+        Op::PutRelative {
+            target: Target::Relative { name: _, overwrite },
+        } => {
             assert!(rt; !*overwrite);
         }
         _ => assert!(rt; false),
