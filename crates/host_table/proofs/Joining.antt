@@ -1,12 +1,12 @@
 -- Seats that are joined in rows.
-use Rattle.std.proofs.Common.{◌≡◌, ℕ, zero, suc, ◌+◌, ◌≤◌, ◌<◌, Option, None, Some, List, [], ◌∷◌, ◌++◌, map, length, set, get_or, slice_get, refl, ap, sym, subst, ◌∙◌, arith, append_assoc, length-append}
+use Rattle.std.proofs.Common.{◌≡◌, ℕ, zero, suc, ◌+◌, ◌<◌, Option, None, Some, List, [], ◌∷◌, ◌++◌, map, length, set, get_or, slice_get, refl, ap, sym, subst, ◌∙◌, arith, append_assoc, length-append}
 use Rattle.std.proofs.lemmas.List.{append-nil}
 use Rattle.std.specs.List.{AllByRecursion}
 use mathlib.Core.List.{IsPrefix}
-use Rattle.turn_lock.specs.Places.{total, longer}
+use Rattle.turn_lock.specs.Places.{total}
 use Rattle.turn_lock.proofs.Prefixes.{prefix_self, prefix_trans}
 use Rattle.turn_lock.proofs.Sums.{total-append}
-use Rattle.host_table.specs.Passes.{Place, PassView, lock_of, base_of, IsSeat, AreSeats, IsPass}
+use Rattle.host_table.specs.Passes.{Place, PassView, lock_of, base_of, AreSeats, IsPass}
 use Rattle.host_table.specs.Close.{weight_of, IsJoined, AreJoined, AreFree, seat_in, column, places_in, IsGathered, IsBasedOn, IsJoinOf}
 
 module _ {A : Type 0} where

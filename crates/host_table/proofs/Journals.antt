@@ -1,32 +1,32 @@
 -- The journal of a host and of all its passes.
-use Rattle.std.proofs.Common.{◌≡◌, ◌≢◌, ◌⊎◌, inl, inr, ℕ, zero, suc, ◌+◌, ◌*◌, ◌^◌, ◌≤◌, ◌<◌, ◌==◌, suc-mul, zero-mul, true, false, Bool, cond, Option, None, Some, List, [], ◌∷◌, ◌++◌, map, length, filter, slice_get, refl, ap, sym, subst, ◌∙◌, arith, IsPermutation}
+use Rattle.std.proofs.Common.{◌≡◌, ◌≢◌, ◌⊎◌, inl, inr, ℕ, zero, suc, ◌+◌, ◌*◌, ◌^◌, ◌≤◌, ◌<◌, ◌==◌, suc-mul, zero-mul, true, false, Bool, cond, Option, Some, List, [], ◌∷◌, ◌++◌, map, length, filter, slice_get, refl, ap, sym, subst, ◌∙◌, arith, IsPermutation}
 use Rattle.std.proofs.lemmas.Bool.Decides.{nat_tests}
 use Rattle.std.proofs.lemmas.List.{length-map, append-nil}
 use Rattle.std.proofs.lemmas.List.Elements.{filter-append}
 use Rattle.std.specs.List.{AllByRecursion}
 use Rattle.std.specs.List.Sorted.{IsNonDecreasingBy}
 use mathlib.Core.List.{IsPrefix}
-use Rattle.turn_lock.specs.Places.{total, times, once_below, AreAllBelow}
+use Rattle.turn_lock.specs.Places.{total, times}
 use Rattle.outside.specs.Folder.{Files}
 use Rattle.wopi_text.specs.FileName.{shard_of}
-use Rattle.wopi_model.specs.Shard.{Opening, Entry, Item, Step, Legal, RisesFrom, stamps, entries}
+use Rattle.wopi_model.specs.Shard.{Opening, Entry, Item, Step, Legal, RisesFrom, stamps}
 use Rattle.wopi_model.specs.Host.{place_of, opening_of, part_of, LegalHost, IsInOrder}
 use Rattle.host_core.specs.Opening.{IsTaken}
-use Rattle.host_core.specs.Entries.{Made, history_of}
+use Rattle.host_core.specs.Entries.{Made}
 use Rattle.host_core.specs.Value.{Book, Left, IsLawful}
 use Rattle.host_table.specs.declared.journal.Spot.{Spot}
 use Rattle.host_table.specs.Histories.{steps_of, untimed, last_time, as_opened, AreNamed}
-use Rattle.host_table.specs.Held.{IsHeld, IsTaken as IsTakenApart}
-use Rattle.host_table.specs.Passes.{Place, PassView, HostView, Own, stamp_of, own_of, owned_from, lock_of, base_of, IsPassOf, IsBase, AreBases, IsPass, IsHost, HasOwn, Owns}
-use Rattle.host_table.specs.Rows.{CanClose, IsEnd, AreEnds}
-use Rattle.host_table.specs.Journal.{JournalView, order_of, all_spots, found, merge_of, AreFound, openings, AreParts}
-use Rattle.host_table.specs.Close.{number_of, capacity_of, AreFree, IsWhole, IsBasedOn, IsJoinOf, AreSeen, ended_book, AreTaken, IsEnded, AreEnded, Ends}
+use Rattle.host_table.specs.Held.{IsTaken as IsTakenApart}
+use Rattle.host_table.specs.Passes.{Place, PassView, HostView, Own, stamp_of, own_of, owned_from, lock_of, base_of, IsPassOf, AreBases, IsPass, IsHost, HasOwn}
+use Rattle.host_table.specs.Rows.{CanClose, AreEnds}
+use Rattle.host_table.specs.Journal.{order_of, all_spots, merge_of, AreFound, openings, AreParts}
+use Rattle.host_table.specs.Close.{number_of, capacity_of, AreFree, IsWhole, IsBasedOn, IsJoinOf, AreSeen, AreTaken, IsEnded, AreEnded, Ends}
 use Rattle.host_table.proofs.Timing.{entries-history, legal-untimed}
 use Rattle.host_table.proofs.Stamps.{prefix_get, get_inside}
 use Rattle.host_table.proofs.Owned.{has_own}
 use Rattle.host_table.proofs.Order.{Has, all_at, all_of, has_filter, filter_has, filter_none, has_map, map_has, filter_map_is, AreOrdered, ordered_filter, one_order, rises_ordered}
 use Rattle.host_table.proofs.Sorting.{AreRising, ArePlaced, sorted_found, sorted_ordered, entry_has, has_entry}
-use Rattle.host_table.proofs.Owners.{in_from, in_sorted, same_number, seat_at, owner_of, seen_begins, has_times}
+use Rattle.host_table.proofs.Owners.{in_from, in_sorted, same_number, seat_at, owner_of, seen_begins}
 
 module _ {A : Type 0} where
   -- a place inside a list

@@ -1,8 +1,8 @@
 -- Lists that are in the order of a merge: two with the same members are one.
-use Rattle.std.proofs.Common.{◌≡◌, ◌⊎◌, inl, inr, ℕ, zero, suc, ◌+◌, ◌≤◌, ◌<◌, Bool, true, false, cond, List, [], ◌∷◌, ◌++◌, map, length, filter, get_or, refl, ap, sym, subst, ◌∙◌, arith}
+use Rattle.std.proofs.Common.{◌≡◌, ◌⊎◌, inl, inr, ℕ, zero, suc, ◌<◌, Bool, true, false, cond, List, [], ◌∷◌, ◌++◌, map, length, filter, get_or, refl, ap, sym, subst, ◌∙◌, arith}
 use Rattle.std.specs.List.{AllByRecursion, Contains}
 use Rattle.wopi_model.specs.Shard.{Entry, RisesFrom, stamps}
-use Rattle.wopi_model.specs.Host.{place_of, ComesBefore, IsInOrder}
+use Rattle.wopi_model.specs.Host.{ComesBefore, IsInOrder}
 
 module _ {A : Type 0} where
   -- x is one of the list's

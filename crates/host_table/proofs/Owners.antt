@@ -1,15 +1,14 @@
 -- Whose an entry is, among passes that are all of a host.
-use Rattle.std.proofs.Common.{◌≡◌, ◌⊎◌, inl, inr, ℕ, zero, suc, ◌+◌, ◌≤◌, ◌<◌, ◌==◌, ltb, true, false, Bool, cond, Option, None, Some, List, [], ◌∷◌, ◌++◌, map, length, slice_get, refl, ap, sym, subst, ◌∙◌, arith}
+use Rattle.std.proofs.Common.{◌≡◌, inl, inr, ℕ, zero, suc, ◌+◌, ◌≤◌, ◌==◌, ltb, true, false, Bool, cond, Option, None, Some, List, [], ◌∷◌, ◌++◌, map, slice_get, refl, ap, sym, subst, ◌∙◌, arith}
 use Rattle.std.proofs.lemmas.Bool.Decides.{nat_tests}
-use Rattle.std.specs.List.{AllByRecursion}
 use mathlib.Core.List.{IsPrefix}
-use Rattle.turn_lock.specs.Places.{times, once_below, AreAllBelow}
+use Rattle.turn_lock.specs.Places.{times}
 use Rattle.turn_lock.proofs.Prefixes.{prefix_trans}
 use Rattle.host_core.specs.Entries.{Made}
 use Rattle.host_core.specs.Value.{Book}
-use Rattle.host_table.specs.Passes.{Place, PassView, Own, owned_at, owned, owned_from, put_in, by_stamp, stamp_of, own_of, HasOwn, Owns, IsSeat, AreSeats, IsPass}
+use Rattle.host_table.specs.Passes.{Place, PassView, Own, owned_at, owned, owned_from, put_in, by_stamp, stamp_of, own_of, HasOwn, IsSeat, AreSeats, IsPass}
 use Rattle.host_table.specs.Rows.{IsEnd, AreEnds}
-use Rattle.host_table.specs.Close.{number_of, seat_in, column, places_in, IsGathered, IsJoinOf}
+use Rattle.host_table.specs.Close.{number_of, seat_in, column, places_in, IsJoinOf}
 use Rattle.host_table.proofs.Stamps.{prefix_get, get_inside}
 use Rattle.host_table.proofs.Owned.{has_own}
 use Rattle.host_table.proofs.Order.{Has, has_left, has_right, has_either, all_at}

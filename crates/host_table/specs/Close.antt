@@ -1,16 +1,15 @@
 -- How a host ends. (Own.)
-use Rattle.std.specs.Prelude.{◌≡◌, ⊤, ℕ, ◌+◌, ◌==◌, ◌^◌, List, [], ◌∷◌, ◌++◌, filter, map, length, Option, None, Some, slice_get}
+use Rattle.std.specs.Prelude.{◌≡◌, ⊤, ℕ, ◌+◌, ◌==◌, ◌^◌, List, [], ◌∷◌, ◌++◌, filter, map, Option, None, Some, slice_get}
 use Rattle.std.specs.List.{AllByRecursion}
 use mathlib.Core.List.{IsPrefix}
 use Rattle.turn_lock.specs.Places.{total, AreAllBelow, longer}
 use Rattle.outside.specs.Folder.{Files}
 use Rattle.wopi_model.specs.Host.{LegalHost}
-use Rattle.host_core.specs.Entries.{Made}
 use Rattle.host_core.specs.Value.{Book, Left, IsLawful}
 use Rattle.host_table.specs.Histories.{steps_of, last_time, IsTimely}
 use Rattle.host_table.specs.Held.{IsTaken}
 use Rattle.host_table.specs.Journal.{JournalView, AreParts, openings}
-use Rattle.host_table.specs.Passes.{Place, PassView, HostView, Own, own_of, base_of, IsPass}
+use Rattle.host_table.specs.Passes.{Place, PassView, HostView, own_of, base_of, IsPass}
 
 module _ {F : Type 0} where
   abbrev pub number_of : PassView F → ℕ

@@ -1,5 +1,5 @@
 -- A pass at its host, as any caller. (Own.)
-use Rattle.std.specs.Prelude.{◌≡◌, ℕ, ◌+◌, List, [], ◌∷◌, map, Option, Some}
+use Rattle.std.specs.Prelude.{◌≡◌, ℕ, ◌+◌, List, [], ◌∷◌, map, Option}
 use Rattle.std.specs.List.{AllByRecursion, AllByRecursion-prop, Contains}
 use Rattle.std.specs.Coded.{×_prop, Unit-prop, Coded-set, coded_ℕ}
 use Rattle.atomic_table.specs.Seated.{TableId}

@@ -1,11 +1,11 @@
 -- What holds of every pass's sight, with its proofs, which a trait's laws cite. (Own.)
-use Rattle.std.specs.Prelude.{◌≡◌, ◌⊎◌, ⊤, ℕ, zero, suc, ◌+◌, ◌≤◌, ◌<◌, max, ltb, Bool, true, false, cond, Option, None, Some, List, [], ◌∷◌, ◌++◌, map, length, slice_get}
+use Rattle.std.specs.Prelude.{◌≡◌, ◌⊎◌, ⊤, ℕ, zero, suc, ◌+◌, ltb, true, false, cond, Option, None, Some, List, [], ◌∷◌, ◌++◌, map, length, slice_get}
 use Rattle.std.specs.List.{AllByRecursion, Contains}
 use Rattle.std.proofs.Common.{inl, inr, refl, ap, sym, subst, ◌∙◌, zero-lt-suc, le_of_lt, add-zero, add-suc, add-one, suc-add, zero-add}
 use Rattle.std.proofs.Math.Nat.{max-eq_left, max-eq_right, suc-le-suc_iff}
 use Rattle.std.proofs.lemmas.Bool.Decides.{leb_tells}
 use Rattle.wopi_text.specs.FileName.{shard_of}
-use Rattle.wopi_model.specs.Shard.{Entry, Item, entries, stamps, last_from}
+use Rattle.wopi_model.specs.Shard.{Entry, entries, stamps, last_from}
 use Rattle.host_core.specs.Caller.{HasFloor}
 use Rattle.host_core.specs.Entries.{Made}
 use Rattle.host_core.specs.Opening.{IsOfShard}

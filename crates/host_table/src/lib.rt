@@ -5,7 +5,11 @@
 //! waits for the turn of the call's shard and makes one step there, above every stamp that the pass has seen
 //! in any shard. Contracts see of a pass what it has seen of each shard, its own entries with their places,
 //! and its last stamp, so that each call stands behind all that its pass had seen. Passes are split off one
-//! another, and each has a part of the weight 2^62.
+//! another, and each has a part of the weight 2^62. A [`Seated`] pass is a caller like any other.
+//!
+//! [`Host::whole`] tells whether the passes at hand are all that were made. [`Host::close`] then ends the host:
+//! it gives the folders back and one [`Journal`], of the opening files and of all entries in the order of
+//! stamps and shards, in which the entries of a pass's number are the pass's own.
 //!
 //! Nothing is said of progress: a call that may wait owes no return.
 #![tactic(auto)]

@@ -1,12 +1,11 @@
-use Rattle.std.proofs.Common.{rules, arith, IsPermutation, ap, sym, subst, ◌∙◌, ◌≡◌, ◌*◌, ◌≤◌, ◌<◌, List, map, length, vec_capacity}
+use Rattle.std.proofs.Common.{rules, IsPermutation, ap, sym, subst, ◌≡◌, ◌*◌, ◌≤◌, List, vec_capacity}
 use Rattle.std.proofs.lemmas.List.Sorted.{IsNonDecreasingBy-from_sort_by_key}
 use Rattle.std.specs.List.{AllByRecursion}
 use Rattle.std.specs.List.Sorted.{IsNonDecreasingBy}
-use Rattle.turn_lock.specs.Places.{total}
 use Rattle.host_table.specs.declared.journal.Spot.{Spot}
 use Rattle.host_table.specs.Views.{host_of}
 use Rattle.host_table.specs.Passes.{HostView, IsPassOf}
-use Rattle.host_table.specs.Close.{capacity_of, IsWhole, Ends}
+use Rattle.host_table.specs.Close.{IsWhole, Ends}
 use Rattle.host_table.specs.Journal.{order_of, merge_of}
 use Rattle.host_table.proofs.Journals.{can_close, shards_ends, shards_long, shards_sum, shards_fit, ends_all}
 use Rattle.host_table.proofs.closing.end_host.Goals as goal

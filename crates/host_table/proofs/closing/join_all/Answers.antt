@@ -1,10 +1,10 @@
-use Rattle.std.proofs.Common.{arith, ap, sym, subst, ◌∙◌, ◌≡◌, ◌+◌, List, [], ◌∷◌, ◌++◌, map, length, refl}
+use Rattle.std.proofs.Common.{arith, ap, sym, subst, ◌∙◌, ◌≡◌, ◌+◌, List, [], ◌∷◌, ◌++◌, length}
 use Rattle.std.proofs.lemmas.List.{append-nil}
 use Rattle.std.specs.Vec.Iter.{into_iter_items, into_iter_len}
 use Rattle.std.specs.List.{AllByRecursion}
-use Rattle.host_table.specs.Passes.{Place, PassView, lock_of, locks_of, IsPass}
+use Rattle.host_table.specs.Passes.{PassView, locks_of}
 use Rattle.host_table.specs.Views.{pass_of}
-use Rattle.host_table.specs.Close.{AreFree, AreJoined, IsJoinOf}
+use Rattle.host_table.specs.Close.{IsJoinOf}
 use Rattle.host_table.proofs.Ending.{more_done, nothing_left}
 use Rattle.host_table.proofs.Joining.{joined_locks, pass_free, join_first, join_more}
 use Rattle.host_table.proofs.closing.join_all.Goals as goal

@@ -1,4 +1,4 @@
-use Rattle.std.proofs.Common.{arith, ap, sym, ◌∙◌, ◌≡◌, ◌+◌, ◌∷◌, [], ◌++◌, List, take, append_assoc}
+use Rattle.std.proofs.Common.{arith, ap, sym, ◌∙◌, ◌≡◌, ◌∷◌, [], ◌++◌, List, take, append_assoc}
 use Rattle.host_table.specs.declared.journal.Spot.{Spot}
 use Rattle.host_table.specs.Journal.{spots_from}
 use Rattle.host_table.proofs.Listing.{spots_more}

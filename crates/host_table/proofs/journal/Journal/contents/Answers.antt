@@ -1,6 +1,5 @@
-use Rattle.std.proofs.Common.{◌≡◌, ◌∙◌, ◌<◌, arith, ap, sym, subst, slice_get, None, Some, option_map, List, [], ℕ}
-use Rattle.host_core.specs.Value.{Left}
-use Rattle.host_core.specs.Entries.{Made, accepted_at}
+use Rattle.std.proofs.Common.{◌≡◌, ◌∙◌, arith, ap, sym, subst, slice_get, None, Some, option_map, []}
+use Rattle.host_core.specs.Entries.{accepted_at}
 use Rattle.host_table.specs.Journal.{JournalView, made_in, found, merge_of, IsFound}
 use Rattle.host_table.proofs.Reading.{found_at, merge_at, merge_none, part_inside, accepted_same, spot_there, spot_past, part_there}
 use Rattle.host_table.proofs.journal.Journal.contents.Goals as goal
