@@ -12,6 +12,7 @@ use Rattle.host_server.specs.Connection.{Serves}
 use Rattle.wopi_program.specs.declared.outside_world.Outside.{Outside}
 use Rattle.wopi_program.specs.declared.once.OnceEnd.{OnceEnd}
 use Rattle.wopi_program.specs.declared.once.OnceEnd.TheVariants.{Served, FolderFault, TooLarge, Memory}
+use Rattle.wopi_program.specs.Meanings.{Meanings}
 use Rattle.wopi_program.specs.Once.{IsFresh, ServesShard, OpensAndServes, Finishes, OnceEnds}
 
 module _ {F : Type 0} (files : F → Option Files) (faults : F → ℕ) where
@@ -69,10 +70,7 @@ Finishes-known held count status old new (TooLarge name) (inr want) two = absurd
 Finishes-known held count status old new Memory is two = absurd (omega (arith, is.0, two))
 
 -- a run of `once` doesn't end as words that are no command
-pub OnceEnds-known : {S K F N D C : Type 0} (left : S → Option (List ℕ)) (read_faults : S → ℕ) (held : K → Option (List ℕ)) (write_faults : K → ℕ)
-    (files : F → Option Files) (faults : F → ℕ) (moments : C → Option (List ℕ)) (words : List (List ℕ)) (status : ℕ) (old new : Outside S K F N D C)
-    → OnceEnds left read_faults held write_faults files faults moments words status old new → status ≢ 2
-OnceEnds-known left read_faults held write_faults files faults moments words status old new (inl want) =
-    λ two. let six = want.status_is in absurd (omega (arith, six, two))
-OnceEnds-known left read_faults held write_faults files faults moments words status old new (inr ran) =
-    Finishes-known held write_faults status old.notes new.notes ran.end ran.finishes
+pub OnceEnds-known : {S K F N D C L : Type 0} (m : Meanings S K F N D C L) (words : List (List ℕ)) (status : ℕ) (old new : Outside S K F N D C)
+    → OnceEnds m words status old new → status ≢ 2
+OnceEnds-known m words status old new (inl want) = λ two. let six = want.status_is in absurd (omega (arith, six, two))
+OnceEnds-known m words status old new (inr ran) = Finishes-known m.held m.write_faults status old.notes new.notes ran.end ran.finishes
