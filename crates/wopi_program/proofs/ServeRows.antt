@@ -1,5 +1,5 @@
 -- The row of `serve` in the table of words.
-use Rattle.std.proofs.Common.{◌≡◌, ◌≢◌, ℕ, suc, ◌<◌, List, [], ◌∷◌, None, Some, Option, true, length, map, get_or, drop, codes, refl, sym, ap, ◌∙◌, subst, arith}
+use Rattle.std.proofs.Common.{◌≡◌, ◌≢◌, ◌↔◌, ℕ, suc, ◌<◌, List, [], ◌∷◌, None, Some, Option, true, length, map, get_or, drop, codes, refl, sym, ap, ◌∙◌, subst, arith}
 use Rattle.access_tokens.specs.Key.{IsHexOf}
 use Rattle.host_server.specs.Bases.{is_base}
 use Rattle.wopi_program.specs.declared.serve_words.ServeAsk.{ServeAsk}
@@ -78,3 +78,12 @@ ask_same words key base key' base' ask ask' one two =
     let o : one.options ≡ two.options = cc same in
     sym one.ask_is ∙ ap (λ (l : List ℕ). asked_of l one.workers one.options) p ∙ ap (λ (l : List ℕ). asked_of two.port l one.options) w
     ∙ ap (λ (l : List (List ℕ)). asked_of two.port two.workers l) o ∙ two.ask_is
+
+pub ask_exact : (words : List (List ℕ)) (key base : List ℕ) (ask : ServeAsk) → IsServeRow words key base ask → (other : ServeAsk)
+    → (Some ask ≡ Some other) ↔ ((key : List ℕ) × (base : List ℕ) × IsServeRow words key base other)
+ask_exact words key base ask row = λ other.
+    ((λ e. let same : ask ≡ other = cc e in (key, base, subst (IsServeRow words key base) same row)), λ all. ask_same words key base all.0 all.1 ask other row all.2)
+
+pub ask_none : (words : List (List ℕ)) → (IsServe words → ⊥) → (other : ServeAsk)
+    → (None ≡ Some other) ↔ ((key : List ℕ) × (base : List ℕ) × IsServeRow words key base other)
+ask_none words none = λ other. ((λ e. absurd (cc e)), λ all. absurd (none (all.0, all.1, other, all.2)))

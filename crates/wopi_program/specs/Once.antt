@@ -1,9 +1,10 @@
 -- What a run of `once` promises.
-use Rattle.std.specs.Prelude.{◌≡◌, ◌⊎◌, ⊤, ℕ, false, List, [], ◌∷◌, ◌++◌, Option, None, codes}
+use Rattle.std.specs.Prelude.{◌≡◌, ◌⊎◌, ⊤, ℕ, false, List, [], ◌∷◌, ◌++◌, map, Option, None, codes}
 use Rattle.outside.specs.Faults.{Rose}
 use Rattle.outside.specs.Clock.{Gives}
 use Rattle.outside.specs.Folder.{Files, Keeps}
 use Rattle.wopi_text.specs.Ids.{id_of}
+use Rattle.wopi_model.specs.Shard.{Step, Legal}
 use Rattle.host_core.specs.declared.opening.StartFault.{StartFault}
 use Rattle.host_core.specs.declared.opening.StartFault.TheVariants as start
 use Rattle.host_core.specs.Value.{Book, IsLawful}
@@ -13,6 +14,7 @@ use Rattle.host_server.specs.declared.desk.Desk.{Desk}
 use Rattle.host_server.specs.declared.connection.ConnEnd.{ConnEnd}
 use Rattle.host_server.specs.declared.connection.ConnEnd.TheVariants as conn
 use Rattle.host_server.specs.Connection.{Serves}
+use Rattle.host_server.specs.Deeds.{made}
 use Rattle.wopi_program.specs.declared.outside_world.Outside.{Outside}
 use Rattle.wopi_program.specs.declared.once.OnceEnd.{OnceEnd}
 use Rattle.wopi_program.specs.declared.once.OnceEnd.TheVariants.{Served, FolderFault, TooLarge, Memory}
@@ -76,7 +78,8 @@ pub record ServesShard {F : Type 0} (files : F → Option Files) (faults : F →
   pub lawful : IsLawful last (files last.start) (files last.folder) (faults last.start) (faults last.folder)
   pub folder_is : folder ≡ last.folder
 
--- The clock's first moment opened the shard, and the connection was served by its later ones.
+-- The clock's first moment opened the shard, and the connection was served by its later ones. The entries that were made are
+-- legal by themselves, from the opening: nobody set the shard's time beside them.
 pub record OpensAndServes {F : Type 0} (files : F → Option Files) (faults : F → ℕ) (key base : List ℕ) (end : ConnEnd)
     (left clock clock' held held' : Option (List ℕ)) (folder folder' : F) : Type 0 where
   pub desk : Desk
@@ -87,6 +90,7 @@ pub record OpensAndServes {F : Type 0} (files : F → Option Files) (faults : F 
   pub times : Gives clock mid desk.opened
   pub opens : IsFresh files folder desk.opened first
   pub serves : ServesShard files faults desk end left mid clock' held held' first folder'
+  pub legal : Legal first.opening desk.opened (map Step (made serves.serves.deeds))
 
 -- What a run did, by its end. Where no shard was opened the folder holds what it held.
 abbrev pub OnceRuns : {F : Type 0} → (F → Option Files) → (F → ℕ) → List ℕ → List ℕ → OnceEnd
