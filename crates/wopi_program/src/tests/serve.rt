@@ -56,7 +56,7 @@ fn serve<R: Threads + Wait + Sync + Abort, F: Folder + Send, L: Link + Send + Dr
     Ok(run(rt, alloc, &words, outside))
 }
 
-/// A request on a file by its id, with this token.
+/// A POST on a file by its id, with this token.
 fn request(
     alloc: Global,
     id: &str,
@@ -70,6 +70,19 @@ fn request(
         body.len()
     )?;
     Ok(Bytes::from_vec(text.into_bytes()))
+}
+
+/// Requests on `a.csv` one after another, each a method, a path behind the id, header lines and a body.
+fn requests(alloc: Global, list: &[[&str; 4]]) -> Result<Bytes, Memory> {
+    let mut bytes = Vec::new(alloc);
+    for [method, path, headers, body] in list {
+        let text = format!(in alloc;
+            "{method} /wopi/files/612e637376{path}?access_token={EARLY} HTTP/1.1\r\nHost: h\r\n{headers}Content-Length: {}\r\n\r\n{body}",
+            body.len()
+        )?;
+        bytes.extend_from_slice(text.as_bytes())?;
+    }
+    Ok(Bytes::from_vec(bytes))
 }
 
 /// A folder with `a.csv` of these contents.
@@ -157,6 +170,67 @@ fn a_listener_that_fails_is_told_after_the_journal(rt: HostRuntime) -> Result<()
     assert_eq!(rt; status, 10);
     assert_eq!(rt; outside.output.as_slice(), JOURNAL);
     assert_eq!(rt; outside.notes.as_slice(), b"listener fault\n".as_slice());
+    Ok(())
+}
+
+/// Requests of every kind, with the ways in which they are refused.
+const EVERY_KIND: [[&str; 4]; 16] = [
+    ["GET", "", "", ""],
+    ["GET", "/contents", "", ""],
+    ["GET", "/contents", "X-WOPI-MaxExpectedSize: 3\r\n", ""],
+    ["POST", "/contents", "X-WOPI-Override: PUT\r\n", "x"],
+    ["POST", "", LOCK, ""],
+    ["POST", "/contents", "X-WOPI-Override: PUT\r\nX-WOPI-Lock: L1\r\n", "x"],
+    ["POST", "", "X-WOPI-Override: LOCK\r\nX-WOPI-Lock: L2\r\n", ""],
+    ["POST", "", "X-WOPI-Override: GET_LOCK\r\n", ""],
+    ["POST", "", "X-WOPI-Override: REFRESH_LOCK\r\nX-WOPI-Lock: L1\r\n", ""],
+    ["POST", "", "X-WOPI-Override: LOCK\r\nX-WOPI-Lock: L2\r\nX-WOPI-OldLock: L1\r\n", ""],
+    ["POST", "", LOCK, ""],
+    ["POST", "", "X-WOPI-Override: PUT_RELATIVE\r\nX-WOPI-SuggestedTarget: .txt\r\n", "y"],
+    ["POST", "", "X-WOPI-Override: PUT_RELATIVE\r\nX-WOPI-RelativeTarget: a.txt\r\n", "z"],
+    ["POST", "", "X-WOPI-Override: PUT_RELATIVE\r\nX-WOPI-RelativeTarget: a.txt\r\nX-WOPI-OverwriteRelativeTarget: true\r\n", "z"],
+    ["POST", "", "X-WOPI-Override: UNLOCK\r\nX-WOPI-Lock: L2\r\n", ""],
+    ["POST", "", "X-WOPI-Override: DELETE\r\n", ""],
+];
+
+/// The lines that the format of the journal gives for them.
+const EVERY_LINE: [&str; 22] = [
+    "wopi journal 1 opened 0",
+    "file 612e637376 312c320a",
+    "1 11 0 5 612e637376 info ann.612e637376.w.2.0.9000000 200 - - v1 -",
+    "2 11 0 5 612e637376 get - ann.612e637376.w.2.0.9000000 200 - - v1 -",
+    "3 11 0 5 612e637376 get 3 ann.612e637376.w.2.0.9000000 412 - - - -",
+    "4 11 0 5 612e637376 put - 1 ann.612e637376.w.2.0.9000000 409 - not-locked - -",
+    "5 11 0 5 612e637376 lock 4c31 ann.612e637376.w.2.0.9000000 200 - - v1 -",
+    "6 11 0 5 612e637376 put 4c31 1 ann.612e637376.w.2.0.9000000 200 - - v2 78",
+    "7 11 0 5 612e637376 lock 4c32 ann.612e637376.w.2.0.9000000 409 4c31 locked - -",
+    "8 11 0 5 612e637376 getlock ann.612e637376.w.2.0.9000000 200 4c31 - - -",
+    "9 11 0 5 612e637376 refresh 4c31 ann.612e637376.w.2.0.9000000 200 - - - -",
+    "10 11 0 5 612e637376 relock 4c31 4c32 ann.612e637376.w.2.0.9000000 200 - - v2 -",
+    "11 11 0 5 612e637376 lock 4c31 ann.612e637376.w.2.0.9000000 409 4c32 spent - -",
+    "12 11 0 5 612e637376 look ann.612e637376.w.2.0.9000000 200 - - - -",
+    "13 15 0 5 612e747874 create no 1 ann.612e637376.w.2.0.9000000 200 - - v1 79",
+    "14 11 0 5 612e637376 look ann.612e637376.w.2.0.9000000 200 - - - -",
+    "15 15 0 5 612e747874 create no 1 ann.612e637376.w.2.0.9000000 409 - taken - -",
+    "16 11 0 5 612e637376 look ann.612e637376.w.2.0.9000000 200 - - - -",
+    "17 15 0 5 612e747874 create yes 1 ann.612e637376.w.2.0.9000000 200 - - v2 7a",
+    "18 11 0 5 612e637376 unlock 4c32 ann.612e637376.w.2.0.9000000 200 - - v2 -",
+    "19 11 0 5 612e637376 delete ann.612e637376.w.2.0.9000000 200 - - - -",
+    "end",
+];
+
+#[test]
+fn a_journal_has_a_line_for_each_call(rt: HostRuntime) -> Result<(), Fail> {
+    let alloc = rt.alloc();
+    let mut outside = one_worker(alloc, requests(alloc, &EVERY_KIND)?, &[])?;
+    let status = serve(&rt, alloc, &ONE_WORKER, &mut outside)?;
+    assert_eq!(rt; status, 0);
+    let mut wanted = Vec::new(alloc);
+    for line in &EVERY_LINE {
+        wanted.extend_from_slice(line.as_bytes())?;
+        wanted.push(b'\n')?;
+    }
+    assert_eq!(rt; outside.output.as_slice(), wanted.as_slice());
     Ok(())
 }
 
