@@ -57,7 +57,7 @@ fn parts_of(words: &[String]) -> Parts
     match read_words(words) {
         Some(Command::Once) => Parts {
             folders: 1,
-                    clocks: 1,
+            clocks: 1,
         },
         Some(Command::Serve) => parts_of_serve(words),
         Some(Command::Token) => NONE,
@@ -114,7 +114,13 @@ fn listeners<R: Net<Stream = TcpStream, Listener = TcpListener>>(
     match serve_ask(words) {
         Some(ask) => {
             let address = format!(in alloc; "127.0.0.1:{}", ask.port)?;
-            TcpListen::bind(alloc, rt, address.as_str(), ask.workers as usize, ask.each as u64)
+            TcpListen::bind(
+                alloc,
+                rt,
+                address.as_str(),
+                ask.workers as usize,
+                ask.each as u64,
+            )
         }
         None => Ok(Vec::new(alloc)),
     }

@@ -55,26 +55,26 @@ pub fn run_serve<
     requires folders { length outside.old.folders.items ≡ 16 }
     requires workers { (key : List ℕ) (base : List ℕ) (ask : ServeAsk) → IsServeRow (map string_bytes words.now) key base ask
         → (length outside.old.listeners.items ≡ ask.workers) × (length outside.old.clocks.items ≡ ask.workers) }
-ensures { ServeEnds (record {
-          left = S.left;
-          read_faults = S.read_faults;
-          held = K.held;
-          write_faults = K.write_faults;
-          files = F.files;
-          folder_faults = F.faults;
-          links_left = N.links_left;
-          finished_links = N.finished_links;
-          accepted = N.accepted;
-          finished = N.finished;
-          listener_faults = N.faults;
-          link_left = N.Link.left;
-          link_held = N.Link.held;
-          link_read_faults = N.Link.read_faults;
-          link_write_faults = N.Link.write_faults;
-          exchanges = D.exchanges;
-          dialer_faults = D.faults;
-          moments = C.moments;
-        }) (map string_bytes words.now) result outside.old outside.new }
+    ensures { ServeEnds (record {
+      left = S.left;
+      read_faults = S.read_faults;
+      held = K.held;
+      write_faults = K.write_faults;
+      files = F.files;
+      folder_faults = F.faults;
+      links_left = N.links_left;
+      finished_links = N.finished_links;
+      accepted = N.accepted;
+      finished = N.finished;
+      listener_faults = N.faults;
+      link_left = N.Link.left;
+      link_held = N.Link.held;
+      link_read_faults = N.Link.read_faults;
+      link_write_faults = N.Link.write_faults;
+      exchanges = D.exchanges;
+      dialer_faults = D.faults;
+      moments = C.moments;
+    }) (map string_bytes words.now) result outside.old outside.new }
 {
     let Some((key, base, ask)) = serve_words(words) else {
         unreachable!()

@@ -7,9 +7,8 @@ use outside::{
 };
 use std::alloc::Global;
 use std::process::Abort;
-use std::sync::Arc;
-use std::sync::Wait;
 use std::sync::atomic::AtomicU64;
+use std::sync::{Arc, Wait};
 use std::test::Fail;
 use std::thread::Threads;
 use wopi_text::{Bytes, Memory};
@@ -20,11 +19,27 @@ const EARLY: &str =
 
 /// Live tokens for `a.csv` and `b.csv`.
 const FIRST: &str = crate::tests::TOKEN;
+
 const SECOND: &str =
     "v1.ann.622e637376.w.1.253402300000000.253402300799999.ecb6745633f01ab207ff2932290a35139878df681ed788df6dcd09cabf9387fb";
 
-const ONE_WORKER: [&str; 6] = ["serve", ".", "8880", "4a656665", "http://localhost:8880", "1"];
-const TWO_WORKERS: [&str; 6] = ["serve", ".", "8880", "4a656665", "http://localhost:8880", "2"];
+const ONE_WORKER: [&str; 6] = [
+    "serve",
+    ".",
+    "8880",
+    "4a656665",
+    "http://localhost:8880",
+    "1",
+];
+
+const TWO_WORKERS: [&str; 6] = [
+    "serve",
+    ".",
+    "8880",
+    "4a656665",
+    "http://localhost:8880",
+    "2",
+];
 
 type MemLink = Pair<MemSource, MemSink>;
 
@@ -110,7 +125,11 @@ fn listener(alloc: Global, input: Bytes, failing: &[u64]) -> Result<MemListener<
 }
 
 /// The streams, folders and one worker's listener and clock, which opens at 0 and then gives 5.
-fn one_worker(alloc: Global, input: Bytes, failing: &[u64]) -> Result<Served<MemFolder, MemLink>, Memory> {
+fn one_worker(
+    alloc: Global,
+    input: Bytes,
+    failing: &[u64],
+) -> Result<Served<MemFolder, MemLink>, Memory> {
     let mut listeners = Vec::new(alloc);
     listeners.push(listener(alloc, input, failing)?)?;
     let mut clocks = Vec::new(alloc);
@@ -135,9 +154,11 @@ fn meet<F: Drop, L: Drop>(
     })
 }
 
-const JOURNAL: &[u8] = b"wopi journal 1 opened 0\nfile 612e637376 312c320a\n1 11 0 5 612e637376 lock 4c31 ann.612e637376.w.2.0.9000000 200 - - v1 -\nend\n";
+const JOURNAL: &[u8] =
+    b"wopi journal 1 opened 0\nfile 612e637376 312c320a\n1 11 0 5 612e637376 lock 4c31 ann.612e637376.w.2.0.9000000 200 - - v1 -\nend\n";
 
 const LOCK: &str = "X-WOPI-Override: LOCK\r\nX-WOPI-Lock: L1\r\n";
+
 const LOCKED: &[u8] = b"HTTP/1.1 200 OK\r\nContent-Length: 0\r\nX-WOPI-ItemVersion: v1\r\n\r\n";
 
 #[test]
@@ -180,16 +201,56 @@ const EVERY_KIND: [[&str; 4]; 16] = [
     ["GET", "/contents", "X-WOPI-MaxExpectedSize: 3\r\n", ""],
     ["POST", "/contents", "X-WOPI-Override: PUT\r\n", "x"],
     ["POST", "", LOCK, ""],
-    ["POST", "/contents", "X-WOPI-Override: PUT\r\nX-WOPI-Lock: L1\r\n", "x"],
-    ["POST", "", "X-WOPI-Override: LOCK\r\nX-WOPI-Lock: L2\r\n", ""],
+    [
+        "POST",
+        "/contents",
+        "X-WOPI-Override: PUT\r\nX-WOPI-Lock: L1\r\n",
+        "x",
+    ],
+    [
+        "POST",
+        "",
+        "X-WOPI-Override: LOCK\r\nX-WOPI-Lock: L2\r\n",
+        "",
+    ],
     ["POST", "", "X-WOPI-Override: GET_LOCK\r\n", ""],
-    ["POST", "", "X-WOPI-Override: REFRESH_LOCK\r\nX-WOPI-Lock: L1\r\n", ""],
-    ["POST", "", "X-WOPI-Override: LOCK\r\nX-WOPI-Lock: L2\r\nX-WOPI-OldLock: L1\r\n", ""],
+    [
+        "POST",
+        "",
+        "X-WOPI-Override: REFRESH_LOCK\r\nX-WOPI-Lock: L1\r\n",
+        "",
+    ],
+    [
+        "POST",
+        "",
+        "X-WOPI-Override: LOCK\r\nX-WOPI-Lock: L2\r\nX-WOPI-OldLock: L1\r\n",
+        "",
+    ],
     ["POST", "", LOCK, ""],
-    ["POST", "", "X-WOPI-Override: PUT_RELATIVE\r\nX-WOPI-SuggestedTarget: .txt\r\n", "y"],
-    ["POST", "", "X-WOPI-Override: PUT_RELATIVE\r\nX-WOPI-RelativeTarget: a.txt\r\n", "z"],
-    ["POST", "", "X-WOPI-Override: PUT_RELATIVE\r\nX-WOPI-RelativeTarget: a.txt\r\nX-WOPI-OverwriteRelativeTarget: true\r\n", "z"],
-    ["POST", "", "X-WOPI-Override: UNLOCK\r\nX-WOPI-Lock: L2\r\n", ""],
+    [
+        "POST",
+        "",
+        "X-WOPI-Override: PUT_RELATIVE\r\nX-WOPI-SuggestedTarget: .txt\r\n",
+        "y",
+    ],
+    [
+        "POST",
+        "",
+        "X-WOPI-Override: PUT_RELATIVE\r\nX-WOPI-RelativeTarget: a.txt\r\n",
+        "z",
+    ],
+    [
+        "POST",
+        "",
+        "X-WOPI-Override: PUT_RELATIVE\r\nX-WOPI-RelativeTarget: a.txt\r\nX-WOPI-OverwriteRelativeTarget: true\r\n",
+        "z",
+    ],
+    [
+        "POST",
+        "",
+        "X-WOPI-Override: UNLOCK\r\nX-WOPI-Lock: L2\r\n",
+        "",
+    ],
     ["POST", "", "X-WOPI-Override: DELETE\r\n", ""],
 ];
 
@@ -273,7 +334,14 @@ fn entwined(alloc: Global) -> Result<Served<GateFolder, FlagLink>, Fail> {
     let first = Arc::new(alloc, AtomicU64::new(0))?;
     let second = Arc::new(alloc, AtomicU64::new(0))?;
     let folders = gated(alloc, &first, &second)?;
-    let save = request(alloc, "612e637376", FIRST, "/contents", "X-WOPI-Override: PUT\r\n", "x")?;
+    let save = request(
+        alloc,
+        "612e637376",
+        FIRST,
+        "/contents",
+        "X-WOPI-Override: PUT\r\n",
+        "x",
+    )?;
     let lock = request(alloc, "622e637376", SECOND, "", LOCK, "")?;
     let mut listeners = Vec::new(alloc);
     listeners.push(flagged(alloc, save, None)?)?;
@@ -299,7 +367,10 @@ fn two_workers_run_beside_each_other(rt: HostRuntime) -> Result<(), Fail> {
     let [locked] = two.finished_links() else {
         return Err("one link".into());
     };
-    assert_eq!(rt; saved.sink.as_slice(), b"HTTP/1.1 200 OK\r\nContent-Length: 0\r\nX-WOPI-ItemVersion: v2\r\n\r\n".as_slice());
+    assert_eq!(rt;
+        saved.sink.as_slice(),
+        b"HTTP/1.1 200 OK\r\nContent-Length: 0\r\nX-WOPI-ItemVersion: v2\r\n\r\n".as_slice()
+    );
     assert_eq!(rt; locked.sink.as_slice(), LOCKED);
     Ok(())
 }
