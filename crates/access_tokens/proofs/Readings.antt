@@ -18,7 +18,7 @@ use Rattle.access_tokens.specs.declared.reading.TokenFault.{TokenFault}
 use Rattle.access_tokens.specs.declared.reading.TokenFault.TheVariants.{BadForm, BadMac}
 use Rattle.access_tokens.specs.TokenText.{HasReading, IsForged, IsReading, IsSigned, mac_of, IsWritable, IsMac, is_lower_digit, period, rights_of, signed_text}
 use Rattle.access_tokens.proofs.Bytes.{lower-encode}
-use Rattle.access_tokens.proofs.Decimals.{AreDigits, own}
+use Rattle.wopi_text.proofs.Decimals.{AreDigits, own}
 use Rattle.access_tokens.proofs.Parts.{EachLacks, Lacks, Lacks-list_all, parts_of-join}
 
 -- a token's text is its fields, joined by periods
