@@ -1,5 +1,6 @@
-// A file system that stops after some steps, as at a crash: from then on each call fails, and the
-// write that is cut leaves half of its bytes. Each folder begins with some names more.
+// A file system that stops after some steps, as at a crash: from then on each call fails with the
+// same fault, and the write that is cut leaves half of its bytes. Each folder begins with some names
+// more.
 use std::alloc::Allocator;
 use std::cell::Cell;
 use std::fs::{Metadata, OpenFile, OpenOptions, Permissions};
@@ -9,24 +10,31 @@ use std::rt::Files;
 #[derive(Drop)]
 pub struct Stopping<'a, R> {
     pub rt: &'a R,
-    pub left: &'a Cell<u32>,
+    pub steps: Steps<'a>,
     // Each ended by a NUL.
     pub names: &'static [u8],
 }
 
-fn step(left: &Cell<u32>) -> io::Result<()> {
-    let steps = left.get();
-    if steps == 0 {
-        return Err(io::Error::from(ErrorKind::Other));
+// The steps that are left, and the fault of each one after them.
+#[derive(Clone, Copy)]
+pub struct Steps<'a> {
+    pub left: &'a Cell<u32>,
+    pub fault: ErrorKind,
+}
+
+fn step(steps: &Steps<'_>) -> io::Result<()> {
+    let left = steps.left.get();
+    if left == 0 {
+        return Err(io::Error::from(steps.fault));
     }
-    left.set(steps - 1);
+    steps.left.set(left - 1);
     Ok(())
 }
 
 #[derive(Drop)]
 pub struct StoppingFile<'a, F> {
     file: F,
-    left: &'a Cell<u32>,
+    steps: Steps<'a>,
 }
 
 #[derive(Drop)]
@@ -49,14 +57,14 @@ impl<D: Read> Read for LongerDir<D> {
 
 impl<'a, F: Read> Read for StoppingFile<'a, F> {
     fn read(&mut self, buf: &mut [u8]) -> io::Result<usize> {
-        step(self.left)?;
+        step(&self.steps)?;
         self.file.read(buf)
     }
 }
 
 impl<'a, F: Write> Write for StoppingFile<'a, F> {
     fn write(&mut self, buf: &[u8]) -> io::Result<usize> {
-        if let Err(error) = step(self.left) {
+        if let Err(error) = step(&self.steps) {
             let _cut = self.file.write(&buf[..buf.len() / 2]);
             return Err(error);
         }
@@ -84,7 +92,7 @@ impl<'a, F: OpenFile> OpenFile for StoppingFile<'a, F> {
     }
 
     fn sync_all(&self) -> io::Result<()> {
-        step(self.left)?;
+        step(&self.steps)?;
         self.file.sync_all()
     }
 
@@ -93,7 +101,7 @@ impl<'a, F: OpenFile> OpenFile for StoppingFile<'a, F> {
     }
 
     fn set_permissions(&self, perm: Permissions) -> io::Result<()> {
-        step(self.left)?;
+        step(&self.steps)?;
         self.file.set_permissions(perm)
     }
 }
@@ -104,15 +112,15 @@ impl<'a, R: Files> Files for Stopping<'a, R> {
     type Dir = LongerDir<R::Dir>;
 
     fn open_file(&self, how: &OpenOptions, path: &str) -> io::Result<StoppingFile<'a, R::File>> {
-        step(self.left)?;
+        step(&self.steps)?;
         Ok(StoppingFile {
             file: self.rt.open_file(how, path)?,
-            left: self.left,
+            steps: self.steps,
         })
     }
 
     fn open_dir(&self, path: &str) -> io::Result<LongerDir<R::Dir>> {
-        step(self.left)?;
+        step(&self.steps)?;
         Ok(LongerDir {
             names: self.names,
             dir: self.rt.open_dir(path)?,
@@ -124,7 +132,7 @@ impl<'a, R: Files> Files for Stopping<'a, R> {
     }
 
     fn symlink_metadata(&self, path: &str) -> io::Result<Metadata> {
-        step(self.left)?;
+        step(&self.steps)?;
         self.rt.symlink_metadata(path)
     }
 
@@ -133,12 +141,12 @@ impl<'a, R: Files> Files for Stopping<'a, R> {
     }
 
     fn rename(&self, from: &str, to: &str) -> io::Result<()> {
-        step(self.left)?;
+        step(&self.steps)?;
         self.rt.rename(from, to)
     }
 
     fn remove_file(&self, path: &str) -> io::Result<()> {
-        step(self.left)?;
+        step(&self.steps)?;
         self.rt.remove_file(path)
     }
 
