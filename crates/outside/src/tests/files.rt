@@ -1,4 +1,4 @@
-use super::stopping::{Steps, Stopping};
+use super::stopping::Stopping;
 use crate::{DirFolder, Folder, FolderRead, Names, OutFault};
 use std::cell::Cell;
 use std::os::unix::fs::{PermissionsExt, symlink};
@@ -126,7 +126,8 @@ fn stopped_after(rt: &HostRuntime, steps: u32, fault: io::ErrorKind) -> Result<S
     let left = Cell::new(steps);
     let stopping = Stopping {
         rt,
-        steps: Steps { left: &left, fault },
+        left: &left,
+        fault,
         names: b"",
     };
     let replaced = DirFolder::new(rt.alloc(), &stopping, FOLDER)?.replace("a.txt", b"renewed");
@@ -185,10 +186,8 @@ fn a_name_that_is_not_utf_8_makes_the_list_fail(rt: HostRuntime) -> Result<(), F
     let left = Cell::new(u32::MAX);
     let odd = Stopping {
         rt: &rt,
-        steps: Steps {
-            left: &left,
-            fault: io::ErrorKind::Other,
-        },
+        left: &left,
+        fault: io::ErrorKind::Other,
         names: b"a\xff\0",
     };
     let mut folder = DirFolder::new(rt.alloc(), &odd, FOLDER)?;

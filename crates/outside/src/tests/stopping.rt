@@ -10,31 +10,26 @@ use std::rt::Files;
 #[derive(Drop)]
 pub struct Stopping<'a, R> {
     pub rt: &'a R,
-    pub steps: Steps<'a>,
+    pub left: &'a Cell<u32>,
+    pub fault: ErrorKind,
     // Each ended by a NUL.
     pub names: &'static [u8],
 }
 
-// The steps that are left, and the fault of each one after them.
-#[derive(Clone, Copy)]
-pub struct Steps<'a> {
-    pub left: &'a Cell<u32>,
-    pub fault: ErrorKind,
-}
-
-fn step(steps: &Steps<'_>) -> io::Result<()> {
-    let left = steps.left.get();
-    if left == 0 {
-        return Err(io::Error::from(steps.fault));
+fn step(left: &Cell<u32>, fault: ErrorKind) -> io::Result<()> {
+    let steps = left.get();
+    if steps == 0 {
+        return Err(io::Error::from(fault));
     }
-    steps.left.set(left - 1);
+    left.set(steps - 1);
     Ok(())
 }
 
 #[derive(Drop)]
 pub struct StoppingFile<'a, F> {
     file: F,
-    steps: Steps<'a>,
+    left: &'a Cell<u32>,
+    fault: ErrorKind,
 }
 
 #[derive(Drop)]
@@ -57,14 +52,14 @@ impl<D: Read> Read for LongerDir<D> {
 
 impl<'a, F: Read> Read for StoppingFile<'a, F> {
     fn read(&mut self, buf: &mut [u8]) -> io::Result<usize> {
-        step(&self.steps)?;
+        step(self.left, self.fault)?;
         self.file.read(buf)
     }
 }
 
 impl<'a, F: Write> Write for StoppingFile<'a, F> {
     fn write(&mut self, buf: &[u8]) -> io::Result<usize> {
-        if let Err(error) = step(&self.steps) {
+        if let Err(error) = step(self.left, self.fault) {
             let _cut = self.file.write(&buf[..buf.len() / 2]);
             return Err(error);
         }
@@ -92,7 +87,7 @@ impl<'a, F: OpenFile> OpenFile for StoppingFile<'a, F> {
     }
 
     fn sync_all(&self) -> io::Result<()> {
-        step(&self.steps)?;
+        step(self.left, self.fault)?;
         self.file.sync_all()
     }
 
@@ -101,7 +96,7 @@ impl<'a, F: OpenFile> OpenFile for StoppingFile<'a, F> {
     }
 
     fn set_permissions(&self, perm: Permissions) -> io::Result<()> {
-        step(&self.steps)?;
+        step(self.left, self.fault)?;
         self.file.set_permissions(perm)
     }
 }
@@ -112,15 +107,16 @@ impl<'a, R: Files> Files for Stopping<'a, R> {
     type Dir = LongerDir<R::Dir>;
 
     fn open_file(&self, how: &OpenOptions, path: &str) -> io::Result<StoppingFile<'a, R::File>> {
-        step(&self.steps)?;
+        step(self.left, self.fault)?;
         Ok(StoppingFile {
             file: self.rt.open_file(how, path)?,
-            steps: self.steps,
+            left: self.left,
+            fault: self.fault,
         })
     }
 
     fn open_dir(&self, path: &str) -> io::Result<LongerDir<R::Dir>> {
-        step(&self.steps)?;
+        step(self.left, self.fault)?;
         Ok(LongerDir {
             names: self.names,
             dir: self.rt.open_dir(path)?,
@@ -132,7 +128,7 @@ impl<'a, R: Files> Files for Stopping<'a, R> {
     }
 
     fn symlink_metadata(&self, path: &str) -> io::Result<Metadata> {
-        step(&self.steps)?;
+        step(self.left, self.fault)?;
         self.rt.symlink_metadata(path)
     }
 
@@ -141,12 +137,12 @@ impl<'a, R: Files> Files for Stopping<'a, R> {
     }
 
     fn rename(&self, from: &str, to: &str) -> io::Result<()> {
-        step(&self.steps)?;
+        step(self.left, self.fault)?;
         self.rt.rename(from, to)
     }
 
     fn remove_file(&self, path: &str) -> io::Result<()> {
-        step(&self.steps)?;
+        step(self.left, self.fault)?;
         self.rt.remove_file(path)
     }
 
