@@ -4,6 +4,7 @@ use Rattle.std.proofs.lemmas.Bool.Decides.{nat_tests}
 use Rattle.std.proofs.lemmas.List.Sums.{sum_by_push}
 use Rattle.std.proofs.lemmas.Slice.Eq.{bytes_eq-Decides}
 use Rattle.std.specs.Str.{bytes_eq}
+use Rattle.wopi_text.proofs.Disjunctions.{or_none}
 use Rattle.host_core.specs.Opening.{IsTaken}
 use Rattle.host_core.specs.Archive.{IsArchive, AreKept, AreWithin, IsKept, StaysKept, names_of}
 use Rattle.wopi_model.specs.Shard.{Opening}
@@ -65,10 +66,6 @@ agrees-stays only (Some start) (Some now) (Some now') files files' agrees same k
 both : (b : Bool) → b ≡ true → b ≡ false → ⊥
 both b h e = cc
 
-or_parts : (b c : Bool) → (b || c) ≡ false → b ≡ false
-or_parts true c e = cc
-or_parts false c e = refl
-
 -- after a step the folder agrees with the files after it
 pub agrees-step : (only : Option ℕ) (start now now' : Option Files) (files files' : List KeptFile) (call : Call) (opened time : ℕ) (ruling : Ruling) → Agrees only start now (files_of files) (torn_in files)
     → IsTaken only call.name → TakesStep files files' call opened time ruling → StoresAs now now' call ruling → Agrees only start now' (files_of files') (torn_in files')
@@ -90,7 +87,7 @@ agrees-step only (Some start) (Some now) (Some now') files files' call opened ti
         stores.holds e done ∙ sym (contents-step (settled (files_of files call.name) time) call opened time ruling takes.outcome done
         ∙ ap (λ (b : Bool). if b then brought call.act else (files_of files call.name).contents) e)
     here false e whole =
-        let done : ruling.status == 500 ≡ false = or_parts (ruling.status == 500) (ruling.status == 200 && is_stored call.act) e in
+        let done : ruling.status == 500 ≡ false = (or_none (ruling.status == 500) (ruling.status == 200 && is_stored call.act) e).0 in
         let before : torn_in files call.name ≡ false = sym (ap (λ (b : Bool). if b then ruling.status == 500 else torn_in files call.name) e) ∙ whole in
         stores.stays e call.name ∙ agrees.0 call.name own before
         ∙ sym (contents-step (settled (files_of files call.name) time) call opened time ruling takes.outcome done
