@@ -28,13 +28,7 @@ fn standing_lock(lock: &Option<Lock>, now: u64) -> Option<&Lock>
 {
     match lock {
         None => None,
-        Some(held) => {
-            if is_over(held, now) {
-                None
-            } else {
-                Some(held)
-            }
-        }
+        Some(held) => { if is_over(held, now) { None } else { Some(held) } }
     }
 }
 
