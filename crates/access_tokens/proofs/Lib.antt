@@ -1,5 +1,4 @@
 mod Blocks
 mod Bytes
-pub mod Decimals
 mod Parts
 mod Readings

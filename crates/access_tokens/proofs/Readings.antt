@@ -16,9 +16,9 @@ use Rattle.access_tokens.specs.Fields.{fields_of, list_of, parts_of}
 use Rattle.access_tokens.specs.declared.fields.Fields.{Fields}
 use Rattle.access_tokens.specs.declared.reading.TokenFault.{TokenFault}
 use Rattle.access_tokens.specs.declared.reading.TokenFault.TheVariants.{BadForm, BadMac}
-use Rattle.access_tokens.specs.TokenText.{HasReading, IsForged, IsReading, IsSigned, mac_of, IsWritable, IsMac, is_lower_digit, period, rights_of, signed_text}
+use Rattle.access_tokens.specs.TokenText.{HasReading, IsForged, ReadsAs, IsSigned, mac_of, IsWritable, IsMac, is_lower_digit, period, rights_of, signed_text}
 use Rattle.access_tokens.proofs.Bytes.{lower-encode}
-use Rattle.access_tokens.proofs.Decimals.{AreDigits, own}
+use Rattle.wopi_text.proofs.Decimals.{AreDigits, own}
 use Rattle.access_tokens.proofs.Parts.{EachLacks, Lacks, Lacks-list_all, parts_of-join}
 
 -- a token's text is its fields, joined by periods
@@ -61,7 +61,7 @@ fields-lack token mac form digits = (
 )
 
 -- a reading shows the parts of the text
-pub parts_of-reading : (text : List ℕ) (token : Token) (mac : List ℕ) → IsReading text token mac → parts_of text ≡ fields_of token mac
+pub parts_of-reading : (text : List ℕ) (token : Token) (mac : List ℕ) → ReadsAs text token mac → parts_of text ≡ fields_of token mac
 parts_of-reading text token mac reading =
     ap parts_of (reading.fields ∙ joined token mac)
     ∙ parts_of-join _ _ (fields-lack token mac reading.form reading.digits)
@@ -107,16 +107,16 @@ unfolding place
 last_field fields token mac same = ap (λ all. place all 7) same
 
 -- fields that are a token's make a reading
-pub IsReading-fields : (text : List ℕ) (fields : Fields) (token : Token) → parts_of text ≡ list_of fields
-    → (IsWritable token × IsMac fields.mac.now × (list_of fields ≡ fields_of token fields.mac.now)) → IsReading text token fields.mac.now
-IsReading-fields text fields token parts told = record {
+pub ReadsAs-fields : (text : List ℕ) (fields : Fields) (token : Token) → parts_of text ≡ list_of fields
+    → (IsWritable token × IsMac fields.mac.now × (list_of fields ≡ fields_of token fields.mac.now)) → ReadsAs text token fields.mac.now
+ReadsAs-fields text fields token parts told = record {
   form = told.0;
   digits = told.1;
   fields = text_from_parts text token fields.mac.now (parts ∙ told.2);
 }
 
 -- a text has one reading
-pub one_reading : (text : List ℕ) (token other : Token) (mac code : List ℕ) → IsReading text token mac → IsReading text other code
+pub one_reading : (text : List ℕ) (token other : Token) (mac code : List ℕ) → ReadsAs text token mac → ReadsAs text other code
     → (token ≡ other) × (mac ≡ code)
 unfolding place
 one_reading text token other mac code first second =
@@ -132,7 +132,7 @@ one_reading text token other mac code first second =
     )
 
 -- what stands before the last period is what is signed
-pub signed_part : (text : List ℕ) (token : Token) (mac : List ℕ) → IsReading text token mac
+pub signed_part : (text : List ℕ) (token : Token) (mac : List ℕ) → ReadsAs text token mac
     → (65 ≤ length text) × (take (length text - 65) text ≡ signed_text token)
 signed_part text token mac reading =
     let len = ap length reading.fields ∙ length-append (signed_text token) (period ∷ mac) in
@@ -170,7 +170,7 @@ IsAnswer-signed key text token signed = record {
   );
 }
 
-pub IsAnswer-forged : (key text : List ℕ) (token : Token) (mac : List ℕ) → IsReading text token mac → mac ≢ mac_of key (signed_text token)
+pub IsAnswer-forged : (key text : List ℕ) (token : Token) (mac : List ℕ) → ReadsAs text token mac → mac ≢ mac_of key (signed_text token)
     → IsAnswer key text (Err BadMac)
 IsAnswer-forged key text token mac reading differs = record {
   exact = λ other. (

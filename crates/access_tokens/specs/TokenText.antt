@@ -50,20 +50,20 @@ pub record IsWritable (token : Token) : Type 0 where
   pub expires : IsMoment token.expires
 
 -- the text reads as this token and these digits of a code, whether they are the right ones or not
-pub record IsReading (text : List ℕ) (token : Token) (mac : List ℕ) : Type 0 where
+pub record ReadsAs (text : List ℕ) (token : Token) (mac : List ℕ) : Type 0 where
   pub form : IsWritable token
   pub digits : IsMac mac
   pub fields : text ≡ signed_text token ++ period ∷ mac
 
 -- the text has a reading
 abbrev pub HasReading : List ℕ → Type 0
-HasReading text = (token : Token) × (mac : List ℕ) × IsReading text token mac
+HasReading text = (token : Token) × (mac : List ℕ) × ReadsAs text token mac
 
 -- the text reads as this token, under its right code
 abbrev pub IsSigned : List ℕ → List ℕ → Token → Type 0
-IsSigned key text token = IsReading text token (mac_of key (signed_text token))
+IsSigned key text token = ReadsAs text token (mac_of key (signed_text token))
 
 -- the text reads as some token, under a code that isn't the right one
 abbrev pub IsForged : List ℕ → List ℕ → Type 0
 IsForged key text =
-    (token : Token) × (mac : List ℕ) × IsReading text token mac × (mac ≢ mac_of key (signed_text token))
+    (token : Token) × (mac : List ℕ) × ReadsAs text token mac × (mac ≢ mac_of key (signed_text token))

@@ -1,10 +1,10 @@
 //! Keys, inline.
-ghost use Rattle.std.specs.Prelude.{true, false, ◌≡◌, ◌≢◌, ◌↔◌, List, ℕ, IsSome, IfSome, Ok, length};
-ghost use Rattle.hex.specs.Hex.{decode_sized};
+ghost use Rattle.std.specs.Prelude.{◌≡◌, ◌↔◌, List, ℕ, IsSome, IfSome};
 ghost use Rattle.access_tokens.specs.Key.{IsKey, IsHexOf};
 
 use arrayvec::ArrayVec;
 use std::marker::Model;
+use wopi_text::decode_hex;
 
 /// The most bytes of a key.
 const MOST: usize = 64;
@@ -39,7 +39,7 @@ impl Key {
         }
         let mut decoded = [0u8; MOST];
         let bytes = &mut decoded[..half];
-        if !decodes(hex, bytes) {
+        if !decode_hex(hex, bytes) {
             return None;
         }
         let mut inline = ArrayVec::new();
@@ -62,16 +62,5 @@ impl Key {
         let mut inline = ArrayVec::new();
         let _fits = inline.try_extend_from_slice(self.bytes.as_slice());
         Key { bytes: inline }
-    }
-}
-
-/// Decodes hex digits into room for so many bytes, where they are so many and hex.
-fn decodes(digits: &[u8], into: &mut [u8]) -> bool
-    ensures some { result ≡ true → decode_sized digits.now (length into.old) ≡ Ok into.new }
-    ensures none { result ≡ false → (bytes : List ℕ) → decode_sized digits.now (length into.old) ≢ Ok bytes }
-{
-    match hex::decode_to_slice(digits, into) {
-        Ok(()) => true,
-        Err(_) => false,
     }
 }

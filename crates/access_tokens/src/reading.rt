@@ -11,10 +11,7 @@ use crate::form::{MAC, is_mac, may_write};
 use crate::mac::mac_of;
 use thiserror::Error;
 use wopi_model::{Token, User};
-use wopi_text::{decimal_read, id_read};
-
-/// One more than the greatest moment, in milliseconds.
-const MOMENTS: u64 = 253_402_300_800_000;
+use wopi_text::{MOMENTS_END, decimal_read, id_read};
 
 /// Why a text is no token.
 #[derive(Clone, Copy, Debug, PartialEq, Eq, Error)]
@@ -85,7 +82,11 @@ pub fn moment_read(digits: &[u8]) -> Option<u64>
     ensures { (moment : ℕ) → (result ≡ Some moment) ↔ (IsMoment moment × (digits.now ≡ decimal moment)) }
 {
     let moment = number_read(digits)?;
-    if moment < MOMENTS { Some(moment) } else { None }
+    if moment < MOMENTS_END {
+        Some(moment)
+    } else {
+        None
+    }
 }
 
 /// Whether the code is that of what stands before it and its period.

@@ -191,10 +191,11 @@ impl<F: Folder> Shard<F> {
             None => None,
             Some(place) => {
                 let file = &self.ledger.files[place];
-                if file.version == 0 {
-                    None
-                } else {
+                let is_met = file.version > 0;
+                if is_met {
                     Some(view_of(&self.ledger.versions, place as u32, file, self.ledger.time))
+                } else {
+                    None
                 }
             }
         }

@@ -99,7 +99,7 @@ fn info_of(
         name: Bytes::from_slice(alloc, name.as_slice())?,
         owner: Bytes::from_slice(alloc, OWNER)?,
         user: Bytes::from_slice(alloc, token.user.as_slice())?,
-        version: Bytes::from_vec(version_text(alloc, version)?),
+        version: version_text(alloc, version)?,
         size,
         can_write: token.write,
     })

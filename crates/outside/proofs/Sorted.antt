@@ -1,5 +1,6 @@
 -- Names in their order differ.
 use Rattle.std.proofs.Common.{◌≡◌, List, [], ◌∷◌, String, string_bytes, map, true, false, refl, sym, ◌∙◌}
+use Rattle.std.proofs.lemmas.Bool.{or_from}
 use Rattle.std.proofs.lemmas.Map.Keys.{IsDistinct-from_sorted}
 use Rattle.std.proofs.lemmas.Map.Text.{is_eq-slice_cmp}
 use Rattle.std.specs.List.{list_any, AllByRecursion, IsDistinct}
@@ -9,7 +10,7 @@ use Rattle.std.specs.Str.{bytes_eq}
 use Rattle.std.specs.String.{string_cmp}
 use Rattle.std.specs.declared.alloc.Global.{Global}
 use Rattle.outside.specs.Folder.{all_differ}
-use Rattle.outside.proofs.Distinct.{differ-whole, or-whole, bytes_eq-swap}
+use Rattle.outside.proofs.Distinct.{differ-whole, bytes_eq-swap}
 
 abbrev Names : Type 0
 Names = List (String Global)
@@ -18,7 +19,7 @@ alone : (name : String Global) (names : Names) → AllByRecursion (λ other. eq_
     → list_any (λ other. bytes_eq other (string_bytes name)) (map string_bytes names) ≡ false
 alone name [] apart = refl
 alone name (other ∷ names) (now, later) =
-    or-whole (bytes_eq (string_bytes other) (string_bytes name)) (list_any (λ o. bytes_eq o (string_bytes name)) (map string_bytes names))
+    or_from (bytes_eq (string_bytes other) (string_bytes name)) (list_any (λ o. bytes_eq o (string_bytes name)) (map string_bytes names))
     (bytes_eq-swap (string_bytes name) (string_bytes other) (sym (is_eq-slice_cmp (string_bytes name) (string_bytes other)) ∙ now)) (alone name names later)
 
 differ_from_distinct : (names : Names) → IsDistinct (eq_by_cmp string_cmp) names → all_differ (map string_bytes names) ≡ true

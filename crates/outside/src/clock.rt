@@ -1,4 +1,5 @@
 ghost use Rattle.std.specs.Prelude.{◌≡◌, ◌<◌, ℕ, List, Option};
+ghost use Rattle.wopi_text.specs.Moments.{moments_end};
 ghost use Rattle.outside.specs.Clock.{Gives};
 
 /// Where the time comes from.
@@ -8,6 +9,6 @@ pub trait Clock: Drop {
 
     /// Milliseconds since 1970. It takes no memory and never fails.
     fn now(&mut self) -> u64
-        ensures moment { result < 253402300800000 }
+        ensures moment { result < moments_end }
         ensures told { Gives (moments self.old) (moments self.new) result };
 }

@@ -75,6 +75,7 @@ impl<'a, R: Files> DirFolder<'a, R> {
         contents_of(self.rt, self.alloc, &self.path, most)
     }
 
+    // Up to the rename, which is yet to be made last.
     fn replace_file(&mut self, name: &str, contents: &[u8]) -> io::Result<()>
         ensures { self.new.faults ≡ self.old.faults }
     {
@@ -83,8 +84,7 @@ impl<'a, R: Files> DirFolder<'a, R> {
         }
         join(&mut self.path, &self.folder, "", name, "");
         join(&mut self.temporary, &self.folder, ".", name, ".tmp");
-        store(self.rt, &self.path, &self.temporary, contents)?;
-        sync_folder(self.rt, &self.folder)
+        store(self.rt, &self.path, &self.temporary, contents)
     }
 
     fn remove_file(&mut self, name: &str) -> io::Result<()>
@@ -122,9 +122,17 @@ impl<'a, R: Files> Folder for DirFolder<'a, R> {
     }
 
     fn replace(&mut self, name: &str, contents: &[u8]) -> Result<(), OutFault> {
-        match self.replace_file(name, contents) {
+        if let Err(error) = self.replace_file(name, contents) {
+            return Err(self.fault(error));
+        }
+
+        // The name holds the contents by now, so want of memory is no answer any more.
+        match sync_folder(self.rt, &self.folder) {
             Ok(()) => Ok(()),
-            Err(error) => Err(self.fault(error)),
+            Err(error) => {
+                let _fault = self.fault(error);
+                Err(OutFault::Failed)
+            }
         }
     }
 

@@ -1,6 +1,6 @@
 ghost use Rattle.std.specs.Prelude.{◌≡◌, ◌≤◌, ℕ, IfOk, OnOk, IsErrOf, OnErr, Option};
 ghost use Rattle.outside.specs.Faults.{Rose};
-ghost use Rattle.outside.specs.Folder.{Files, Lists, Reads, Keeps, Replaces, OpensOnly, Removes};
+ghost use Rattle.outside.specs.Folder.{Files, Lists, ReadsFile, Keeps, Replaces, OpensOnly, Removes};
 
 use crate::{Failed, Names, OutFault};
 use wopi_text::Bytes;
@@ -30,7 +30,7 @@ pub trait Folder: Drop {
 
     /// The bytes under a name, where they are at most `most`.
     fn read(&mut self, name: &str, most: usize) -> Result<FolderRead, OutFault>
-        ensures read { IfOk result (Reads (files self.old) name.now most) }
+        ensures read { IfOk result (ReadsFile (files self.old) name.now most) }
         ensures same { Keeps (files self.old) (files self.new) }
         ensures never_falls { faults self.old ≤ faults self.new }
         ensures failed { IsErrOf result OutFault.Failed → Rose (faults self.old) (faults self.new) };

@@ -9,7 +9,7 @@ use Rattle.std.proofs.lemmas.Int.Digits.{all_below_base_digits_of}
 use Rattle.std.specs.Int.Digits.{digits_of}
 use Rattle.std.specs.List.{list_all, AllByRecursion}
 use Rattle.std.specs.Str.{IsUtf8, IsAscii, IsCharBoundary, chars}
-use Rattle.wopi_text.specs.FileName.{IsFileName, is_name_char}
+use Rattle.wopi_text.specs.FileName.{name_limit, IsFileName, is_name_char}
 use Rattle.put_relative.specs.CopyNames.{is_period}
 
 all_chars : (xs ys : List ℕ) → IsUtf8 xs → list_all is_name_char (chars xs) ≡ true → list_all is_name_char (chars ys) ≡ true → list_all is_name_char (chars (xs ++ ys)) ≡ true
@@ -62,7 +62,7 @@ last_byte s d e P paren other =
     let three = last_of_both s (codes " (" ++ (d ++ t)) (longer (codes " (") (d ++ t) (longer d t some)) in
     subst P (sym (three ∙ two ∙ one)) (of_tail s e P paren other)
 
-pub copy_is_name : (name s e d : List ℕ) → IsFileName name → name ≡ s ++ e → 0 < length s → IsUtf8 s → IsUtf8 e → IsAscii d → list_all is_name_char d ≡ true → length (s ++ (codes " (" ++ (d ++ (codes ")" ++ e)))) ≤ 128
+pub copy_is_name : (name s e d : List ℕ) → IsFileName name → name ≡ s ++ e → 0 < length s → IsUtf8 s → IsUtf8 e → IsAscii d → list_all is_name_char d ≡ true → length (s ++ (codes " (" ++ (d ++ (codes ")" ++ e)))) ≤ name_limit
     → IsFileName (s ++ (codes " (" ++ (d ++ (codes ")" ++ e))))
 copy_is_name name s e d form cut some su eu ascii digits short =
     let closed = codes ")" ++ e in
@@ -119,12 +119,12 @@ positive name zero form period = absurd (form.no_leading_period (eqb-true (get_o
 positive name (suc m) form period = omega arith
 
 -- the name of a copy, at the place where the stem ends
-pub copy_form : (name text : List ℕ) (m n : ℕ) → IsFileName name → m ≤ length name → (m < length name → is_period (get_or name m 0) ≡ true) → 0 < n → n < 2 ^ 64 → text ≡ take m name ++ (codes " (" ++ (decimal n ++ (codes ")" ++ drop m name))) → length text ≤ 128 → IsFileName text
+pub copy_form : (name text : List ℕ) (m n : ℕ) → IsFileName name → m ≤ length name → (m < length name → is_period (get_or name m 0) ≡ true) → 0 < n → n < 2 ^ 64 → text ≡ take m name ++ (codes " (" ++ (decimal n ++ (codes ")" ++ drop m name))) → length text ≤ name_limit → IsFileName text
 copy_form name text m n form inside period some small is short =
     let edge : IsCharBoundary name m = boundary name m inside period in
     let more : 0 < m = positive name m form period in
     let len : length (take m name) ≡ m = length-take-le m name inside in
     let whole : name ≡ take m name ++ drop m name = sym (take-append-drop m name) in
-    let fits = subst (λ t. length t ≤ 128) is short in
+    let fits = subst (λ t. length t ≤ name_limit) is short in
     let made = copy_is_name name (take m name) (drop m name) (decimal n) form whole (omega (arith, len, more)) (IsUtf8-take name m form.utf8 edge) (IsUtf8-drop name m form.utf8 edge) (IsAscii-decimal n small) (decimal_name n some small) fits in
     subst IsFileName (sym is) made

@@ -6,6 +6,7 @@ use Rattle.std.proofs.lemmas.List.Sums.{suffix_len_is}
 use Rattle.std.proofs.lemmas.Fmt.{length-decimal-le}
 use Rattle.std.proofs.lemmas.List.{length-take, length-drop}
 use Rattle.std.specs.List.{list_any, suffix_len}
+use Rattle.wopi_text.specs.FileName.{name_limit}
 use Rattle.put_relative.specs.CopyNames.{IsTidy, is_period, stem_of, ending_of, copy_name, is_closing, without_closing}
 
 -- no period stands from this place on
@@ -44,11 +45,11 @@ copy_length name d =
     let four = length-append (codes ")") ending in
     omega (arith, short, rest, one, two, three, four)
 
-either_fits : (b : Bool) (xs ys : List ℕ) → length xs ≤ 128 → length ys ≤ 128 → length (cond b xs ys) ≤ 128
+either_fits : (b : Bool) (xs ys : List ℕ) → length xs ≤ name_limit → length ys ≤ name_limit → length (cond b xs ys) ≤ name_limit
 either_fits true xs ys h k = h
 either_fits false xs ys h k = k
 
-pub copies_fit : (name : List ℕ) (n : ℕ) → IsTidy name → n < 100 → length (copy_name name n) ≤ 128
+pub copies_fit : (name : List ℕ) (n : ℕ) → IsTidy name → n < 100 → length (copy_name name n) ≤ name_limit
 copies_fit name n tidy small =
     let digits = length-decimal-le 2 n (lit< tt) small (omega (arith, small)) in
     let len = copy_length name (decimal n) in

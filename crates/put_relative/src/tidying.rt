@@ -5,7 +5,7 @@ ghost use Rattle.put_relative.specs.CopyNames.{IsTidy, asked_for, in_a_name, is_
 use crate::stem::stem_len;
 use std::alloc::{AllocError, Global};
 use thiserror::Error;
-use wopi_text::{FileName, Memory};
+use wopi_text::{FileName, Memory, is_name_char};
 
 /// The most bytes of a tidied name, which leave room for ` (99)`.
 const MOST: usize = 123;
@@ -65,10 +65,10 @@ fn replaced(alloc: Global, text: &str) -> Result<String, AllocError>
 fn in_a_name(character: char) -> char
     ensures { result ≡ in_a_name character }
 {
-    match character {
-        '/' | '\\' | ':' | '*' | '?' | '"' | '<' | '>' | '|' => '_',
-        other if other.is_control() => '_',
-        other => other,
+    if is_name_char(character) {
+        character
+    } else {
+        '_'
     }
 }
 

@@ -1,3 +1,4 @@
 pub mod Naming
 pub mod IdForms
 pub mod Ignoring
+pub mod Stepping

@@ -130,7 +130,7 @@ was_read session _ reply = tells (record session { contents = Some reply.body })
 abbrev pub with_next : State → State
 with_next session = record session { number = session.number + 1; used = false; relocking = false }
 
--- The next id is held, and what it was wanted for goes on. No relock is sent for a start or a read, nor where there is no next number.
+-- The next id is held, and what it was wanted for goes on. No relock is sent for a start or a read, nor where there is no next number, so that nothing is ever handed back here.
 abbrev pub continues_with : State → Goal → Answer → Turn
 continues_with session goal.Save reply = puts (with_next session) session.body
 continues_with session goal.Refresh reply = sends (with_next session) goal.Refresh (op.Refresh (session.number + 1))

@@ -23,7 +23,7 @@ mod state;
 mod wishes;
 
 pub use input::Input;
-pub use laws::{an_ignored_input_changes_nothing, ids_differ};
+pub use laws::{an_awaited_answer_is_heard, an_ignored_input_changes_nothing, ids_differ};
 pub use nonce::Nonce;
 pub use output::{Outcome, Output};
 pub use session::Session;

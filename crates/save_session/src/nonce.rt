@@ -50,6 +50,15 @@ impl Nonce {
     {
         self.bytes.as_slice()
     }
+
+    /// An equal nonce. It takes no memory.
+    pub fn copy(&self) -> Nonce
+        ensures { result ≡ self.now }
+    {
+        let mut inline = ArrayVec::new();
+        let _fits = inline.try_extend_from_slice(self.bytes.as_slice());
+        Nonce { bytes: inline }
+    }
 }
 
 fn has_nonce_bytes(bytes: &[u8]) -> bool

@@ -2,6 +2,7 @@
 ghost use Rattle.std.specs.Prelude.{◌≡◌, ◌+◌, ◌&&◌, IsTrue};
 ghost use Rattle.save_session.specs.declared.state.SessionOp.TheVariants as op;
 ghost use Rattle.save_session.specs.LockIds.{lock_id};
+ghost use Rattle.save_session.specs.Relocking.{wants_next, is_sound};
 ghost use Rattle.save_session.specs.Session as machine;
 
 use crate::ids::names;
@@ -66,17 +67,15 @@ fn with_next(mut session: State) -> State
 
 /// The next id is held, and what it was wanted for goes on.
 fn continued(session: State, goal: Goal, reply: Answer) -> Turn
+    requires { IsTrue (wants_next goal && machine.has_next session.number) }
     ensures { result ≡ machine.continues session goal reply }
 {
-    if !has_next(session.number) {
-        return ignored(session, Input::Reply(reply));
-    }
     let number = session.number + 1;
     match goal {
         Goal::Save => put_sent(with_next(session)),
         Goal::Refresh => sent(with_next(session), goal, SessionOp::Refresh { number }),
         Goal::Close => sent(with_next(session), goal, SessionOp::Unlock { number }),
-        Goal::Start | Goal::Read => ignored(session, Input::Reply(reply)),
+        Goal::Start | Goal::Read => unreachable!(),
     }
 }
 
@@ -139,6 +138,7 @@ fn names_next(nonce: &Nonce, number: u64, reply: &Answer) -> bool
 }
 
 fn reply_to_relock(nonce: &Nonce, session: State, goal: Goal, number: u64, reply: Answer) -> Turn
+    requires { IsTrue (wants_next goal && machine.has_next session.number) }
     ensures { result ≡ machine.reply_to nonce.now session goal (op.Relock number) reply }
 {
     if reply.status == 200 {
@@ -185,6 +185,7 @@ fn reply_to_unlock(nonce: &Nonce, session: State, goal: Goal, number: u64, reply
 
 /// An answer comes.
 pub fn answered(nonce: &Nonce, session: State, reply: Answer) -> Turn
+    requires { IsTrue (is_sound session) }
     ensures { result ≡ machine.answered nonce.now session reply }
 {
     let Some(waiting) = session.waits else {

@@ -49,6 +49,6 @@ pub record IsBadAt (bytes : List ℕ) (at : ℕ) : Type 0 where
   pub bad : BeginsNoPiece rest
 
 -- why the bytes aren't read
-abbrev pub IsFaultOf : List ℕ → Utf7Fault → Type 0
-IsFaultOf bytes (Bad at) = IsBadAt bytes at
-IsFaultOf bytes Memory = ⊤
+abbrev pub IsUtf7FaultOf : List ℕ → Utf7Fault → Type 0
+IsUtf7FaultOf bytes (Bad at) = IsBadAt bytes at
+IsUtf7FaultOf bytes Memory = ⊤

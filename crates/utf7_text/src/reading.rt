@@ -1,7 +1,7 @@
 //! How UTF-7 is read.
 ghost use Rattle.std.specs.Prelude.{◌≡◌, ◌≢◌, ◌<◌, Some, slice_get, length, string_bytes, IfOk, IfErr, IsUtf8, List, ℕ};
 ghost use Rattle.utf7_text.specs.Pieces.{is_direct};
-ghost use Rattle.utf7_text.specs.Readings.{IsFaultOf, IsReading, TakesPiece};
+ghost use Rattle.utf7_text.specs.Readings.{IsUtf7FaultOf, IsReading, TakesPiece};
 
 use crate::Utf7Fault;
 use crate::shift::{digits_len, shift_text};
@@ -14,7 +14,7 @@ use wopi_text::{Bytes, Memory};
 pub fn utf7_read(alloc: Global, bytes: &[u8]) -> Result<Bytes, Utf7Fault>
     ensures ok { IfOk result (IsReading bytes.now) }
     ensures utf8 { IfOk result IsUtf8 }
-    ensures fault { IfErr result (IsFaultOf bytes.now) }
+    ensures fault { IfErr result (IsUtf7FaultOf bytes.now) }
     ensures no_reading { IfErr result (λ fault. fault ≢ Utf7Fault.Memory → (text : List ℕ) → ¬ IsReading bytes.now text) }
 {
     let mut text = String::new(alloc);

@@ -7,7 +7,7 @@ use Rattle.std.proofs.lemmas.List.{drop_all}
 use Rattle.wopi_text.specs.Decimals.{decimal_of}
 use Rattle.wopi_model.specs.declared.token.Token as model
 use Rattle.access_tokens.specs.TokenText.{IsWritable}
-use Rattle.access_tokens.proofs.Decimals.{decimal_of-decimal}
+use Rattle.wopi_text.proofs.Decimals.{decimal_of-decimal}
 use Rattle.wopi_program.specs.declared.command.Command.{Command}
 use Rattle.wopi_program.specs.Words.{IsRow, IsCommand, words_of}
 

@@ -1,3 +1,4 @@
+pub mod Decimals
 pub mod Disjunctions
 pub mod IdLemmas
 pub mod Utf8Bytes

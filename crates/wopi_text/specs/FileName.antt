@@ -12,10 +12,14 @@ forbidden = codes "/\\:*?\"<>|"
 abbrev pub is_name_char : ℕ → Bool
 is_name_char character = not (is_control character) && not (list_any (λ other. other == character) forbidden)
 
+-- the most bytes of a name
+abbrev pub name_limit : ℕ
+name_limit = 128
+
 -- 1 to 128 bytes of UTF-8, of such characters, with no leading period and no closing period or space
 pub record IsFileName (bytes : List ℕ) : Type 0 where
   pub not_empty : 0 < length bytes
-  pub short : length bytes ≤ 128
+  pub short : length bytes ≤ name_limit
   pub utf8 : IsUtf8 bytes
   pub allowed : list_all is_name_char (chars bytes) ≡ true
   pub no_leading_period : slice_index bytes 0 ≢ 46

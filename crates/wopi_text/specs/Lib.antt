@@ -2,4 +2,5 @@ pub mod Decimals
 pub mod FileName
 pub mod Ids
 pub mod LockId
+pub mod Moments
 pub mod Reasons

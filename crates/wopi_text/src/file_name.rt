@@ -9,7 +9,7 @@ use arrayvec::ArrayVec;
 use std::marker::Model;
 
 /// The most bytes of a file's name.
-const MOST: usize = 128;
+pub const NAME_LIMIT: usize = 128;
 
 /// The number of shards of a host.
 const SHARDS: u32 = 16;
@@ -18,7 +18,7 @@ const SHARDS: u32 = 16;
 /// that file systems keep for themselves, with no leading period and no closing period or space.
 #[derive(PartialEq, Eq, Drop)]
 pub struct FileName {
-    bytes: ArrayVec<u8, MOST>,
+    bytes: ArrayVec<u8, NAME_LIMIT>,
 }
 
 impl Model for FileName {
@@ -96,7 +96,9 @@ fn is_forbidden(character: char) -> bool
     )
 }
 
-fn is_name_char(character: char) -> bool
+/// Whether a file's name may have the character: it is no control character and none of those that
+/// file systems keep for themselves.
+pub fn is_name_char(character: char) -> bool
     ensures { result ≡ is_name_char character }
 {
     !character.is_control() && !is_forbidden(character)
@@ -111,7 +113,7 @@ fn has_name_chars(text: &str) -> bool
 fn is_file_name(bytes: &[u8]) -> bool
     ensures { IsTrue result ↔ IsFileName bytes.now }
 {
-    if bytes.is_empty() || bytes.len() > MOST {
+    if bytes.is_empty() || bytes.len() > NAME_LIMIT {
         return false;
     }
     let last = bytes[bytes.len() - 1];

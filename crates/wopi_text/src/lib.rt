@@ -1,5 +1,6 @@
 //! The small texts of the protocol, each a type of its own: contents, lock ids, file names and the
-//! reasons of a refusal, and how the ids of files and decimal numbers are written.
+//! reasons of a refusal, how the ids of files and decimal numbers are written, and where moments
+//! end. What holds of ids and decimals stands in [`laws`].
 //!
 //! Lock ids and file names stand inline, so that a lock table and a journal take no memory for
 //! them. A contract sees each of these types as the list of its bytes, and the type keeps the form
@@ -10,18 +11,23 @@ mod bytes;
 mod decimal;
 mod faults;
 mod file_name;
+mod hex_digits;
 mod id;
+pub mod laws;
 mod lock_field;
 mod lock_id;
+mod moment;
 mod reason;
 
 pub use bytes::Bytes;
-pub use decimal::{decimal_read, digits_read};
+pub use decimal::{are_digits, decimal_read, digits_read, digits_up_to};
 pub use faults::{BadId, BadName, Memory};
-pub use file_name::FileName;
+pub use file_name::{FileName, NAME_LIMIT, is_name_char};
+pub use hex_digits::decode_hex;
 pub use id::{id_read, id_text};
 pub use lock_field::LockField;
 pub use lock_id::LockId;
+pub use moment::MOMENTS_END;
 pub use reason::Reason;
 
 #[cfg(test)]

@@ -1,4 +1,7 @@
-use crate::{BadId, BadName, Bytes, FileName, LockId, decimal_read, id_read, id_text};
+use crate::{
+    BadId, BadName, Bytes, FileName, LockId, are_digits, decimal_read, decode_hex, digits_read,
+    digits_up_to, id_read, id_text, is_name_char,
+};
 use std::test::Fail;
 
 #[test]
@@ -47,6 +50,36 @@ fn decimals_end_at_the_greatest_u64(rt: HostRuntime) {
     for digits in ["18446744073709551616", "00", "01", "", "+1", "-1", "1 "] {
         assert_eq!(rt; decimal_read(digits.as_bytes()), None, "{digits}");
     }
+}
+
+#[test]
+fn digits_may_begin_with_zeros_and_end_at_a_limit(rt: HostRuntime) {
+    assert!(rt; are_digits(b"007"));
+    assert!(rt; !are_digits(b"") && !are_digits(b"7a"));
+    assert_eq!(rt; digits_read(b"007"), Some(7));
+    assert_eq!(rt; digits_read(b"18446744073709551615"), Some(u64::MAX));
+    assert_eq!(rt; digits_up_to(b"016777216", 16_777_216), Some(16_777_216));
+    assert_eq!(rt; digits_up_to(b"16777217", 16_777_216), None);
+    assert_eq!(rt;
+        digits_up_to(b"99999999999999999999999999999999", u64::MAX),
+        None
+    );
+}
+
+#[test]
+fn hex_of_either_case_fills_its_room(rt: HostRuntime) {
+    let mut room = [0u8; 2];
+    assert!(rt; decode_hex(b"4a6F", &mut room));
+    assert_eq!(rt; room, [0x4a, 0x6f]);
+    for digits in ["4a", "4a6", "4a6f00", "4a6g"] {
+        assert!(rt; !decode_hex(digits.as_bytes(), &mut room), "{digits}");
+    }
+}
+
+#[test]
+fn a_name_has_no_control_character_and_no_separator(rt: HostRuntime) {
+    assert!(rt; is_name_char('a') && is_name_char(' ') && is_name_char('ä'));
+    assert!(rt; !is_name_char('/') && !is_name_char('\u{85}'));
 }
 
 #[test]

@@ -2,7 +2,7 @@
 ghost use Rattle.std.specs.Prelude.{◌≡◌, ◌≢◌, ◌≤◌, ◌↔◌, ◌/◌, ℕ, List, length, take, map, string_bytes, option_map, Some, None, IsTrue, IfOk, IsErr, IsErrOf, MatchOption, OnOk, OnErr};
 ghost use Rattle.outside.specs.Failing.{FailsNext, CountsOne, IsFresh};
 ghost use Rattle.outside.specs.Faults.{Rose};
-ghost use Rattle.outside.specs.Folder.{all_differ, Lists, Reads, Keeps, Replaces, OpensOnly, Removes};
+ghost use Rattle.outside.specs.Folder.{all_differ, Lists, ReadsFile, Keeps, Replaces, OpensOnly, Removes};
 ghost use Rattle.outside.specs.MemFolder.{names_of, contents_of, IsPlace};
 
 use crate::{Failed, Failing, Folder, FolderRead, Names, OutFault};
@@ -69,7 +69,7 @@ impl Folder for MemFolder {
     }
 
     fn read(&mut self, name: &str, most: usize) -> Result<FolderRead, OutFault>
-        ensures read { IfOk result (Reads (map_of self.old) name.now most) }
+        ensures read { IfOk result (ReadsFile (map_of self.old) name.now most) }
         ensures same { Keeps (map_of self.old) (map_of self.new) }
         ensures never_falls { (script self.old).faults ≤ (script self.new).faults }
         ensures failed { IsErrOf result OutFault.Failed → Rose (script self.old).faults (script self.new).faults }

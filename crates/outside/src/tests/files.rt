@@ -113,13 +113,13 @@ fn a_file_of_many_pieces_is_read_whole(rt: HostRuntime) -> Result<(), Fail> {
 // What a replacement of `old` by `renewed` leaves that stops after so many steps.
 #[derive(Drop)]
 struct Stopped {
-    is_done: bool,
+    fault: Option<OutFault>,
     is_old: bool,
     is_new: bool,
     names: String,
 }
 
-fn stopped_after(rt: &HostRuntime, steps: u32) -> Result<Stopped, Fail> {
+fn stopped_after(rt: &HostRuntime, steps: u32, fault: io::ErrorKind) -> Result<Stopped, Fail> {
     const FOLDER: &str = "outside_test_stop";
     empty_folder(rt, FOLDER)?;
     fs::write(rt, "outside_test_stop/a.txt", b"old".as_slice())?;
@@ -127,6 +127,7 @@ fn stopped_after(rt: &HostRuntime, steps: u32) -> Result<Stopped, Fail> {
     let stopping = Stopping {
         rt,
         left: &left,
+        fault,
         names: b"",
     };
     let replaced = DirFolder::new(rt.alloc(), &stopping, FOLDER)?.replace("a.txt", b"renewed");
@@ -138,7 +139,7 @@ fn stopped_after(rt: &HostRuntime, steps: u32) -> Result<Stopped, Fail> {
     folder.replace("a.txt", b"again")?;
     fs::remove_dir_all(rt, FOLDER)?;
     Ok(Stopped {
-        is_done: replaced.is_ok(),
+        fault: replaced.err(),
         is_old: found.as_slice() == b"old".as_slice(),
         is_new: found.as_slice() == b"renewed".as_slice(),
         names,
@@ -151,16 +152,30 @@ fn a_replacement_that_stops_at_any_step_leaves_the_old_or_the_new(
 ) -> Result<(), Fail> {
     let mut was_done = false;
     for steps in 0..16 {
-        let stopped = stopped_after(&rt, steps)?;
+        let stopped = stopped_after(&rt, steps, io::ErrorKind::Other)?;
+        let is_done = stopped.fault.is_none();
         assert!(rt;
-            stopped.is_new || (stopped.is_old && !stopped.is_done),
+            stopped.is_new || (stopped.is_old && !is_done),
             "after {steps} steps"
         );
         assert_eq!(rt; stopped.names.as_str(), "a.txt ");
-        assert!(rt; stopped.is_done || !was_done);
-        was_done = stopped.is_done;
+        assert!(rt; is_done || !was_done);
+        was_done = is_done;
     }
     assert!(rt; was_done);
+    Ok(())
+}
+
+#[test]
+fn want_of_memory_is_told_only_where_the_old_contents_stand(rt: HostRuntime) -> Result<(), Fail> {
+    let mut failed_late = false;
+    for steps in 0..16 {
+        let stopped = stopped_after(&rt, steps, io::ErrorKind::OutOfMemory)?;
+        let is_memory = stopped.fault == Some(OutFault::Memory);
+        assert!(rt; stopped.is_old == is_memory, "after {steps} steps");
+        failed_late = failed_late || (stopped.is_new && stopped.fault == Some(OutFault::Failed));
+    }
+    assert!(rt; failed_late);
     Ok(())
 }
 
@@ -172,6 +187,7 @@ fn a_name_that_is_not_utf_8_makes_the_list_fail(rt: HostRuntime) -> Result<(), F
     let odd = Stopping {
         rt: &rt,
         left: &left,
+        fault: io::ErrorKind::Other,
         names: b"a\xff\0",
     };
     let mut folder = DirFolder::new(rt.alloc(), &odd, FOLDER)?;

@@ -1,5 +1,6 @@
-// A file system that stops after some steps, as at a crash: from then on each call fails, and the
-// write that is cut leaves half of its bytes. Each folder begins with some names more.
+// A file system that stops after some steps, as at a crash: from then on each call fails with the
+// same fault, and the write that is cut leaves half of its bytes. Each folder begins with some names
+// more.
 use std::alloc::Allocator;
 use std::cell::Cell;
 use std::fs::{Metadata, OpenFile, OpenOptions, Permissions};
@@ -10,14 +11,15 @@ use std::rt::Files;
 pub struct Stopping<'a, R> {
     pub rt: &'a R,
     pub left: &'a Cell<u32>,
+    pub fault: ErrorKind,
     // Each ended by a NUL.
     pub names: &'static [u8],
 }
 
-fn step(left: &Cell<u32>) -> io::Result<()> {
+fn step(left: &Cell<u32>, fault: ErrorKind) -> io::Result<()> {
     let steps = left.get();
     if steps == 0 {
-        return Err(io::Error::from(ErrorKind::Other));
+        return Err(io::Error::from(fault));
     }
     left.set(steps - 1);
     Ok(())
@@ -27,6 +29,7 @@ fn step(left: &Cell<u32>) -> io::Result<()> {
 pub struct StoppingFile<'a, F> {
     file: F,
     left: &'a Cell<u32>,
+    fault: ErrorKind,
 }
 
 #[derive(Drop)]
@@ -49,14 +52,14 @@ impl<D: Read> Read for LongerDir<D> {
 
 impl<'a, F: Read> Read for StoppingFile<'a, F> {
     fn read(&mut self, buf: &mut [u8]) -> io::Result<usize> {
-        step(self.left)?;
+        step(self.left, self.fault)?;
         self.file.read(buf)
     }
 }
 
 impl<'a, F: Write> Write for StoppingFile<'a, F> {
     fn write(&mut self, buf: &[u8]) -> io::Result<usize> {
-        if let Err(error) = step(self.left) {
+        if let Err(error) = step(self.left, self.fault) {
             let _cut = self.file.write(&buf[..buf.len() / 2]);
             return Err(error);
         }
@@ -84,7 +87,7 @@ impl<'a, F: OpenFile> OpenFile for StoppingFile<'a, F> {
     }
 
     fn sync_all(&self) -> io::Result<()> {
-        step(self.left)?;
+        step(self.left, self.fault)?;
         self.file.sync_all()
     }
 
@@ -93,7 +96,7 @@ impl<'a, F: OpenFile> OpenFile for StoppingFile<'a, F> {
     }
 
     fn set_permissions(&self, perm: Permissions) -> io::Result<()> {
-        step(self.left)?;
+        step(self.left, self.fault)?;
         self.file.set_permissions(perm)
     }
 }
@@ -104,15 +107,16 @@ impl<'a, R: Files> Files for Stopping<'a, R> {
     type Dir = LongerDir<R::Dir>;
 
     fn open_file(&self, how: &OpenOptions, path: &str) -> io::Result<StoppingFile<'a, R::File>> {
-        step(self.left)?;
+        step(self.left, self.fault)?;
         Ok(StoppingFile {
             file: self.rt.open_file(how, path)?,
             left: self.left,
+            fault: self.fault,
         })
     }
 
     fn open_dir(&self, path: &str) -> io::Result<LongerDir<R::Dir>> {
-        step(self.left)?;
+        step(self.left, self.fault)?;
         Ok(LongerDir {
             names: self.names,
             dir: self.rt.open_dir(path)?,
@@ -124,7 +128,7 @@ impl<'a, R: Files> Files for Stopping<'a, R> {
     }
 
     fn symlink_metadata(&self, path: &str) -> io::Result<Metadata> {
-        step(self.left)?;
+        step(self.left, self.fault)?;
         self.rt.symlink_metadata(path)
     }
 
@@ -133,12 +137,12 @@ impl<'a, R: Files> Files for Stopping<'a, R> {
     }
 
     fn rename(&self, from: &str, to: &str) -> io::Result<()> {
-        step(self.left)?;
+        step(self.left, self.fault)?;
         self.rt.rename(from, to)
     }
 
     fn remove_file(&self, path: &str) -> io::Result<()> {
-        step(self.left)?;
+        step(self.left, self.fault)?;
         self.rt.remove_file(path)
     }
 

@@ -1,8 +1,8 @@
 use Rattle.std.proofs.Common.{length, Ok, Err, refl, sym, ap, subst, ◌∙◌}
 use Rattle.access_tokens.specs.Fields.{fields_of}
 use Rattle.access_tokens.specs.declared.reading.TokenFault.TheVariants.{BadMac}
-use Rattle.access_tokens.specs.TokenText.{HasReading, IsMac, IsReading, mac_of}
-use Rattle.access_tokens.proofs.Readings.{IsAnswer, IsAnswer-unread, IsAnswer-signed, IsAnswer-forged, parts_of-reading, IsReading-fields, signed_part, last_field}
+use Rattle.access_tokens.specs.TokenText.{HasReading, IsMac, ReadsAs, mac_of}
+use Rattle.access_tokens.proofs.Readings.{IsAnswer, IsAnswer-unread, IsAnswer-signed, IsAnswer-forged, parts_of-reading, ReadsAs-fields, signed_part, last_field}
 use Rattle.access_tokens.proofs.reading.read.Goals as goal
 
 -- without eight parts there is no reading
@@ -36,14 +36,14 @@ pub returns-in_default-token_of-clause-bad_mac : goal.returns-in_default-token_o
 returns-in_default-token_of-clause-bad_mac c = (IsAnswer-unread c.args.key.now c.args.text.now (malformed c)).bad_mac
 
 pub is_right-requires-clause-within : goal.is_right-requires-clause-within
-is_right-requires-clause-within c = (signed_part _ _ _ (IsReading-fields _ c.in-Some.fields _ c.in-Some.ensures.some c.in-Some-token_of.ensures.some)).0
+is_right-requires-clause-within c = (signed_part _ _ _ (ReadsAs-fields _ c.in-Some.fields _ c.in-Some.ensures.some c.in-Some-token_of.ensures.some)).0
 
 -- the code is right
 signed : (c : goal.Then-is_right) → IsAnswer c.args.key.now c.args.text.now (Ok c.in-Some-token_of.token)
 signed c =
-    let reading = IsReading-fields _ c.in-Some.fields _ c.in-Some.ensures.some c.in-Some-token_of.ensures.some in
+    let reading = ReadsAs-fields _ c.in-Some.fields _ c.in-Some.ensures.some c.in-Some-token_of.ensures.some in
     let mac = c.if-is_right.ensures.0 refl ∙ ap (mac_of c.args.key.now) (signed_part _ _ _ reading).1 in
-    IsAnswer-signed c.args.key.now c.args.text.now c.in-Some-token_of.token (subst (IsReading c.args.text.now c.in-Some-token_of.token) mac reading)
+    IsAnswer-signed c.args.key.now c.args.text.now c.in-Some-token_of.token (subst (ReadsAs c.args.text.now c.in-Some-token_of.token) mac reading)
 
 pub returns-then-is_right-clause-exact : goal.returns-then-is_right-clause-exact
 returns-then-is_right-clause-exact c = (signed c).exact
@@ -57,7 +57,7 @@ returns-then-is_right-clause-bad_mac c = (signed c).bad_mac
 -- the code is wrong
 forged : (c : goal.Else-is_right) → IsAnswer c.args.key.now c.args.text.now (Err BadMac)
 forged c =
-    let reading = IsReading-fields _ c.in-Some.fields _ c.in-Some.ensures.some c.in-Some-token_of.ensures.some in
+    let reading = ReadsAs-fields _ c.in-Some.fields _ c.in-Some.ensures.some c.in-Some-token_of.ensures.some in
     let part = (signed_part _ _ _ reading).1 in
     IsAnswer-forged c.args.key.now c.args.text.now c.in-Some-token_of.token c.in-Some.fields.mac.now reading
     (λ mac. let right = c.if-is_right.ensures.1 (mac ∙ ap (mac_of c.args.key.now) (sym part)) in cc right)

@@ -1,6 +1,6 @@
 use Rattle.std.proofs.Common.{refl, sym, subst, ◌∙◌, rules}
 use Rattle.wopi_model.specs.User.{IsUser}
-use Rattle.access_tokens.proofs.Decimals.{decimal_of-some}
+use Rattle.wopi_text.proofs.Decimals.{decimal_of-some}
 use Rattle.wopi_program.proofs.Rows.{same_words, serial_refused}
 use Rattle.wopi_program.proofs.token_words.token_of.Goals as goal
 

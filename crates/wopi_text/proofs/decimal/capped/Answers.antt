@@ -8,8 +8,8 @@ use Rattle.std.proofs.lemmas.Int.Digits.{digits_value_more}
 use Rattle.wopi_text.proofs.decimal.capped.Goals as goal
 
 -- one digit more, under a cap
-capped_more : (v total d : ℕ) → total ≡ min v 18446744073709551616 → min (total * 10 + d) 18446744073709551616 ≡ min (v * 10 + d) 18446744073709551616
-capped_more v total d e = omega arith
+capped_more : (cap v total d : ℕ) → total ≡ min v cap → min (total * 10 + d) cap ≡ min (v * 10 + d) cap
+capped_more cap v total d e = omega arith
 
 pub loop-byte-preserved : goal.loop-byte-preserved
 loop-byte-preserved c =
@@ -18,9 +18,9 @@ loop-byte-preserved c =
     let byte = get_or bytes i 0 in
     let below : i < length bytes = omega arith in
     let more = digits_value_more 10 bytes i below in
-    let digit : is_ascii_digit byte ≡ true = AllPass-from_list_all is_ascii_digit bytes c.requires i 0 below in
+    let digit : is_ascii_digit byte ≡ true = AllPass-from_list_all is_ascii_digit bytes c.requires.digits i 0 below in
     let range : IsInRange 48 57 byte = search (rules, tests) in
     let value : digit_value byte ≡ c.from.result = omega (arith, digit_value_digit byte range, c.from.ensures) in
     let before = digits_value 10 (take i bytes) in
-    c.min-total.ensures ∙ capped_more before c.loop-byte.total c.from.result c.loop-byte.invariant
-    ∙ ap (λ z. min z 18446744073709551616) (ap (λ d. before * 10 + d) (sym value) ∙ sym more)
+    c.min-total.ensures ∙ capped_more c.args.cap before c.loop-byte.total c.from.result c.loop-byte.invariant
+    ∙ ap (λ z. min z c.args.cap) (ap (λ d. before * 10 + d) (sym value) ∙ sym more)

@@ -4,6 +4,7 @@ use Rattle.std.specs.List.{list_all}
 use Rattle.std.specs.Char.{is_ascii_digit}
 use Rattle.std.specs.Fmt.{decimal}
 use Rattle.std.specs.Str.Parse.{digits_value}
+use Rattle.std.specs.Cmp.Derive.{both_true}
 use Rattle.std.proofs.lemmas.Bool.{and_parts, cases_lt, ltb-true, lt-ltb}
 use Rattle.std.proofs.lemmas.Str.Parse.{IsNumeralModel, numerals_by_value}
 use Rattle.std.proofs.lemmas.Fmt.{decimal-digits_value, decimal_nonempty, decimal_digit, digits_decimal, digits_value-decimal, first_decimal}
@@ -39,16 +40,19 @@ decimal_of-some digits n h =
     let back = decimal-digits_value own digits form.1 some (only_zero digits first.0) below in
     (rw value at below, sym back ∙ ap decimal value)
 
+-- what `decimal` writes is digits
+pub digits-decimal : (n : ℕ) → n < 2 ^ 64 → list_all is_ascii_digit (decimal n) ≡ true
+unfolding AreDigits
+digits-decimal n h = digits_decimal own n h
+
+-- of that number
+pub value-decimal : (n : ℕ) → n < 2 ^ 64 → digits_value 10 (decimal n) ≡ n
+value-decimal n h = digits_value-decimal own n h
+
 given : (b c : Bool) (v n : ℕ) → b ≡ true → c ≡ true → v ≡ n → cond b (cond c (Some v) None) None ≡ Some n
 given true true v n _ _ e = ap Some e
 given true false v n h k e = cc k
 given false c v n h k e = cc h
-
-all_three : (a b c : Bool) → a ≡ true → b ≡ true → c ≡ true → ((a && b) && c) ≡ true
-all_three true true true _ _ _ = refl
-all_three true true false _ _ h = cc h
-all_three true false c _ h _ = cc h
-all_three false b c h _ _ = cc h
 
 zero_alone : (digits : List ℕ) → (length digits ≡ 1) ⊎ (48 < get_or digits 0 0) → has_no_leading_zero digits ≡ true
 zero_alone digits (inl one) = grind arith
@@ -66,13 +70,10 @@ no_leading_zero n h =
 
 -- what `decimal` writes of a number is a canonical decimal of it
 pub decimal_of-decimal : (n : ℕ) → n < 2 ^ 64 → decimal_of (decimal n) ≡ Some n
-unfolding AreDigits
 decimal_of-decimal n h =
-    let digits = digits_decimal own n h in
-    let some = decimal_nonempty n h in
-    let value = digits_value-decimal own n h in
+    let value = value-decimal n h in
     let fits : digits_value 10 (decimal n) < 2 ^ 64 = rw value h in
-    let within : nat_lt (digits_value 10 (decimal n)) (2 ^ 64) ≡ true = lt-ltb _ _ fits in
-    let any : nat_lt 0 (length (decimal n)) ≡ true = lt-ltb _ _ some in
-    let inner : are_digits (decimal n) && nat_lt (digits_value 10 (decimal n)) (2 ^ 64) ≡ true = all_three _ _ _ any digits within in
-    given (has_no_leading_zero (decimal n)) (are_digits (decimal n) && nat_lt (digits_value 10 (decimal n)) (2 ^ 64)) _ n (no_leading_zero n h) inner value
+    let some = lt-ltb 0 (length (decimal n)) (decimal_nonempty n h) in
+    let within = lt-ltb (digits_value 10 (decimal n)) (2 ^ 64) fits in
+    given (has_no_leading_zero (decimal n)) (are_digits (decimal n) && nat_lt (digits_value 10 (decimal n)) (2 ^ 64)) _ n (no_leading_zero n h)
+    (both_true (both_true some (digits-decimal n h)) within) value

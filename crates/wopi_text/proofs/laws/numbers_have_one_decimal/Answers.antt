@@ -1,7 +1,7 @@
 use Rattle.std.proofs.Common.{ap, ◌∙◌}
 use Rattle.wopi_text.specs.Decimals.{decimal_of}
-use Rattle.access_tokens.proofs.Decimals.{decimal_of-some, decimal_of-decimal}
-use Rattle.access_tokens.proofs.laws.numbers_have_one_decimal.Goals as goal
+use Rattle.wopi_text.proofs.Decimals.{decimal_of-some, decimal_of-decimal}
+use Rattle.wopi_text.proofs.laws.numbers_have_one_decimal.Goals as goal
 
 pub returns : goal.returns
 returns c = λ digits number. (
