@@ -1,0 +1,6 @@
+pub mod Cells
+pub mod Numbers
+pub mod Places
+pub mod Reading
+pub mod Sheets
+pub mod Values
