@@ -1,2 +1,5 @@
+pub mod Folds
+pub mod Looks
 pub mod ReaderLemmas
+pub mod Valued
 pub mod Walks

@@ -16,7 +16,7 @@ text_at rows place = unwrap_or (cell_at rows (place / 1024 + 1) (place % 1024 + 
 
 -- the place of the cell of a span with this number, counted from 0 along the rows
 abbrev pub nth_of : Span → ℕ → ℕ
-nth_of span n = span.first + 1024 * (n / span.columns) + n % span.columns
+nth_of span n = span.first + 1024 * (n / (span.last_column + 1)) + n % (span.last_column + 1)
 
 -- the places of a span, by row and column
 abbrev pub places_of : Span → List ℕ
@@ -24,9 +24,9 @@ places_of span = map (nth_of span) (range_with_len 0 span.size)
 
 -- the cells that a step names
 abbrev pub cells_named : Step → Span
-cells_named (step.Cell place) = record { first = place; columns = 1; size = 1 }
+cells_named (step.Cell place) = record { first = place; last_column = 0; size = 1 }
 cells_named (step.Sum span) = span
-cells_named _ = record { first = 0; columns = 1; size = 0 }
+cells_named _ = record { first = 0; last_column = 0; size = 0 }
 
 -- the places that a formula names, each as often as it is named
 abbrev pub reads_of : List Step → List ℕ

@@ -62,7 +62,7 @@ span_of a b =
     let columns = b.column + 1 - a.column in
     let size = (b.row + 1 - a.row) * columns in
     if (nat_le a.row b.row && nat_le a.column b.column) && nat_le size 100000 then
-    Some (record { first = place_of a.row a.column; columns = columns; size = size }) else None
+    Some (record { first = place_of a.row a.column; last_column = b.column - a.column; size = size }) else None
 
 -- two cells with a colon between them, and the parenthesis that ends the range
 abbrev pub span_at : List ℕ → Found Span

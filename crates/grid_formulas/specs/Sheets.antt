@@ -1,9 +1,14 @@
 -- What a sheet keeps of its cells, and facts of single cells from which the values of all follow.
-use Rattle.std.specs.Prelude.{ℕ, ◌≡◌, Bool, true, false, List, Option, unwrap_or, if◌then◌else◌}
+use Rattle.std.specs.Prelude.{ℕ, ◌≡◌, Bool, true, false, List, Option, Some, None, option_map, unwrap_or, IsSome, is_some, length, slice_index, nat_eq, ◌+◌, ◌*◌, ◌<◌, if◌then◌else◌}
 use Rattle.std.specs.List.{list_any}
+use Rattle.std.specs.Option.{option_or}
+use Rattle.grid_formulas.specs.declared.cells.Node.{Node}
+use Rattle.grid_formulas.specs.declared.formula.Step.{Step}
 use Rattle.grid_formulas.specs.declared.value.Value.{Value}
 use Rattle.grid_formulas.specs.declared.value.Value.TheVariants as value
 use Rattle.grid_formulas.specs.Cells.{formula_count, has_walk, reads}
+use Rattle.grid_sheet.specs.Rows.{Rows}
+use Rattle.grid_formulas.specs.Places.{text_at}
 use Rattle.grid_formulas.specs.Numbers.{plain_value}
 use Rattle.grid_formulas.specs.Reading.{formula_of, is_formula}
 use Rattle.grid_formulas.specs.Values.{value_of_formula}
@@ -20,6 +25,25 @@ any_cycle values places = list_any (λ place. is_cycle (values place)) places
 abbrev pub stored : (ℕ → List ℕ) → (ℕ → Option Value) → ℕ → Value
 stored text kept place = if is_formula (text place) then unwrap_or (kept place) value.Cycle else plain_value (text place)
 
+abbrev pub value_in : Option Node → Option Value
+value_in node = option_map (λ n. n.value) node
+
+-- the values of formula cells
+abbrev pub kept_values : (ℕ → Option Node) → ℕ → Option Value
+kept_values nodes place = value_in (nodes place)
+
+-- the values at these places, and elsewhere the others
+abbrev pub over : (ℕ → Option Value) → (ℕ → Option Value) → ℕ → Option Value
+over after kept place = option_or (after place) (kept place)
+
+-- a formula cell without a value has Cycle
+abbrev pub kept_value : (ℕ → Option Node) → ℕ → Value
+kept_value nodes place = unwrap_or (kept_values nodes place) value.Cycle
+
+-- the values of a grid's cells
+abbrev pub values_over : Rows → (ℕ → Option Node) → (ℕ → Option Value) → ℕ → Value
+values_over rows nodes after = stored (text_at rows) (over after (kept_values nodes))
+
 -- a formula cell's value follows from those that it reads, none of which is Cycle
 pub record IsSettled (text : ℕ → List ℕ) (values : ℕ → Value) (place : ℕ) : Type 0 where
   pub ends : has_walk text (formula_count text) place ≡ false
@@ -35,3 +59,54 @@ pub record AreSettled (text : ℕ → List ℕ) (values : ℕ → Value) : Type 
 abbrev pub AreStuck : (ℕ → List ℕ) → (ℕ → Value) → Type 0
 AreStuck text values =
     (place : ℕ) → is_formula (text place) ≡ true → is_cycle (values place) ≡ true → any_cycle values (reads (text place)) ≡ true
+
+abbrev pub formula_in : Option Node → Option (List Step)
+formula_in None = None
+formula_in (Some node) = option_map (λ steps. steps.items) node.formula
+
+-- each formula cell is among the nodes, with its formula
+pub record KnowsFormulas (text : ℕ → List ℕ) (nodes : ℕ → Option Node) : Type 0 where
+  pub there : (place : ℕ) → is_formula (text place) ≡ true → IsSome (nodes place)
+  pub known : (place : ℕ) → is_formula (text place) ≡ true → formula_in (nodes place) ≡ formula_of (text place)
+
+-- the number of the link from a cell to one that reads it
+abbrev pub link_of : ℕ → ℕ → ℕ
+link_of place reader = place * 102400000 + reader
+
+-- each cell that a formula names has a link to it
+abbrev pub KnowsReaders : (ℕ → List ℕ) → (ℕ → Bool) → Type 0
+KnowsReaders text links =
+    (reader : ℕ) → is_formula (text reader) ≡ true → (place : ℕ) → place < 102400000 → list_any (nat_eq place) (reads (text reader)) ≡ true → links (link_of place reader) ≡ true
+
+-- the cell is one of those looked at anew
+abbrev pub is_in : (ℕ → Option Value) → ℕ → Bool
+is_in after place = is_some (after place)
+
+-- where a cell has Cycle, it reads another that has
+abbrev pub IsStuckAt : (ℕ → List ℕ) → (ℕ → Value) → ℕ → Type 0
+IsStuckAt text values place = is_formula (text place) ≡ true → is_cycle (values place) ≡ true → any_cycle values (reads (text place)) ≡ true
+
+-- the cell is looked at anew and has Cycle still
+abbrev pub waits : Option Value → Bool
+waits None = false
+waits (Some v) = is_cycle v
+
+-- what one look at a cell does: it settles the cell, or changes nothing
+pub record LooksAt (rows : Rows) (nodes : ℕ → Option Node) (before after : ℕ → Option Value) (settled : Bool) (place : ℕ) : Type 0 where
+  pub keys : (q : ℕ) → is_in after q ≡ is_in before q
+  pub kept : AreSettled (text_at rows) (values_over rows nodes before) → AreSettled (text_at rows) (values_over rows nodes after)
+  pub idle : settled ≡ false → after ≡ before
+  pub stuck : settled ≡ false → is_in before place ≡ true → IsStuckAt (text_at rows) (values_over rows nodes before) place
+
+-- what a look at the first n cells of a list does
+pub record Sweeps (rows : Rows) (nodes : ℕ → Option Node) (order : List ℕ) (n : ℕ) (before after : ℕ → Option Value) (moved : Bool) : Type 0 where
+  pub keys : (q : ℕ) → is_in after q ≡ is_in before q
+  pub kept : AreSettled (text_at rows) (values_over rows nodes before) → AreSettled (text_at rows) (values_over rows nodes after)
+  pub idle : moved ≡ false → after ≡ before
+  pub stuck : moved ≡ false → (k : ℕ) → k < n → is_in before (slice_index order k) ≡ true → IsStuckAt (text_at rows) (values_over rows nodes before) (slice_index order k)
+
+-- what looking at the cells of a list does until nothing moves
+pub record Rests (rows : Rows) (nodes : ℕ → Option Node) (order : List ℕ) (before after : ℕ → Option Value) : Type 0 where
+  pub keys : (q : ℕ) → is_in after q ≡ is_in before q
+  pub kept : AreSettled (text_at rows) (values_over rows nodes before) → AreSettled (text_at rows) (values_over rows nodes after)
+  pub stuck : (k : ℕ) → k < length order → is_in after (slice_index order k) ≡ true → IsStuckAt (text_at rows) (values_over rows nodes after) (slice_index order k)

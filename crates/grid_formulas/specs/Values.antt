@@ -30,11 +30,17 @@ abbrev pub operated : (ℤ → ℤ → ℤ) → Value → Value → Value
 operated f (value.Number a) right = with_right (f a) right
 operated f fault right = fault
 
+-- the exact operation on numbers that a step stands for
+abbrev pub operation_of : Step → ℤ → ℤ → ℤ
+operation_of step.Product a b = a *ℤ b
+operation_of step.Minus a b = a -ℤ b
+operation_of _ a b = a +ℤ b
+
 -- a total with one cell more: it passes over empty cells and texts, and stops with the first fault
 abbrev pub with_cell : Value → Value → Value
 with_cell total value.Empty = total
 with_cell total value.Text = total
-with_cell total v = operated (λ a b. a +ℤ b) total v
+with_cell total v = operated (operation_of step.Plus) total v
 
 abbrev pub sum_of : (ℕ → Value) → List ℕ → Value
 sum_of values places = fold (λ total place. with_cell total (values place)) (value.Number (pos 0)) places
@@ -55,11 +61,15 @@ after_step values stack (step.Digits number) = stack ++ value.Number number ∷ 
 after_step values stack (step.Cell place) = stack ++ as_number (values place) ∷ []
 after_step values stack (step.Sum span) = stack ++ sum_of values (places_of span) ∷ []
 after_step values stack step.Negative = popped stack ++ with_right neg_ℤ (top stack) ∷ []
-after_step values stack step.Product = with_operation (λ a b. a *ℤ b) stack
-after_step values stack step.Plus = with_operation (λ a b. a +ℤ b) stack
-after_step values stack step.Minus = with_operation (λ a b. a -ℤ b) stack
+after_step values stack step.Product = with_operation (operation_of step.Product) stack
+after_step values stack step.Plus = with_operation (operation_of step.Plus) stack
+after_step values stack step.Minus = with_operation (operation_of step.Minus) stack
 
 -- the value of a formula; one that the grammar doesn't have is a fault and reads nothing
 unfoldable pub value_of_formula : (ℕ → Value) → Option (List Step) → Value
 value_of_formula values None = value.NameFault
 value_of_formula values (Some steps) = top (fold (after_step values) [] steps)
+
+abbrev pub number_or_fault : Option ℤ → Value
+number_or_fault None = value.NumberFault
+number_or_fault (Some number) = value.Number number

@@ -7,11 +7,11 @@ ghost use Rattle.grid_formulas.specs.Places.{cells_named, nth_of, place_of};
 #[derive(Clone, Copy, Debug, PartialEq, Eq)]
 pub struct Span {
     /// The place of the first cell.
-    pub first: usize,
-    /// How many columns it has.
-    pub columns: usize,
+    pub first: u32,
+    /// The last column, counted from 0 at the first.
+    pub last_column: u32,
     /// How many cells it has.
-    pub size: usize,
+    pub size: u32,
 }
 
 /// A step of a formula in postfix order.
@@ -20,7 +20,7 @@ pub enum Step {
     /// A number in digits.
     Digits(i128),
     /// The value of the cell at a place.
-    Cell(usize),
+    Cell(u32),
     /// The sum of cells.
     Sum(Span),
     /// The negative of the operand.
@@ -41,15 +41,26 @@ impl Step {
         match self {
             Step::Cell(place) => Span {
                 first: *place,
-                columns: 1,
+                last_column: 0,
                 size: 1,
             },
             Step::Sum(span) => *span,
             _ => Span {
                 first: 0,
-                columns: 1,
+                last_column: 0,
                 size: 0,
             },
         }
+    }
+}
+
+impl Span {
+    /// The place of the cell with this number, counted from 0 along the rows.
+    pub fn nth(&self, n: u32) -> usize
+        ensures { result ≡ nth_of self.now n }
+    {
+        let columns = self.last_column as usize + 1;
+        let n = n as usize;
+        self.first as usize + 1024 * (n / columns) + n % columns
     }
 }

@@ -1,11 +1,16 @@
 //! Formula cells: the values of a grid whose cells may be formulas.
 #![tactic(auto)]
 
+mod cells;
+mod evaluate;
+mod fault;
 mod formula;
 mod number;
 mod reader;
 mod reference;
+mod settle;
 mod value;
 
+pub use fault::SheetFault;
 pub use formula::{Span, Step};
 pub use value::Value;

@@ -133,12 +133,12 @@ pub fn reference_at(text: &[u8]) -> Option<(Reference, &[u8])>
 
 impl Reference {
     /// The place of the cell.
-    pub fn place(&self) -> usize
+    pub fn place(&self) -> u32
         requires rows { self.now.row ≤ 100000 }
         requires columns { self.now.column ≤ 1024 }
         ensures { result ≡ place_of self.now.row self.now.column }
     {
-        self.row.saturating_sub(1) * MOST_CELLS + self.column.saturating_sub(1)
+        (self.row.saturating_sub(1) * MOST_CELLS + self.column.saturating_sub(1)) as u32
     }
 }
 
@@ -159,8 +159,8 @@ fn span(a: &Reference, b: &Reference) -> Option<Span>
     }
     Some(Span {
         first: a.place(),
-        columns,
-        size,
+        last_column: (b.column - a.column) as u32,
+        size: size as u32,
     })
 }
 

@@ -25,10 +25,11 @@ product-unaries-preserved t c =
     let lt : c.unaries.counter < length c.in-Some.rest.now = omega arith in
     let operator : star_at c.unaries.rest.now ≡ Some (c.in-Some-star.operation, c.in-Some-star.operand.now) = sym c.in-Some-star.ensures in
     let found = adds_some c.unaries.steps.items c.unary-in-unaries.new.steps.items _ c.in-Some-2.behind.now ((unary_at c.args.depth) c.in-Some-star.operand.now) (ap (option_map (λ s. s.now)) c.in-Some-2.is) c.in_ok-behind.ensures in
-    let items : c.push.new.self.items ≡ c.unary-in-unaries.new.steps.items ++ c.in-Some-star.operation ∷ [] = c.in_ok-push.ensures.items in
-    ((inv.0 ++ found.0) ++ c.in-Some-star.operation ∷ [],
-    items ∙ ap (λ l. l ++ c.in-Some-star.operation ∷ []) (found.2 ∙ ap (λ l. l ++ found.0) inv.1) ∙ regroup c.args.steps.now.items inv.0 found.0 c.in-Some-star.operation,
-    inv.2 ∙ more_goes_on star_at (unary_at c.args.depth) (length c.in-Some.rest.now) c.unaries.counter inv.0 found.0 c.unaries.rest.now c.in-Some-star.operation c.in-Some-star.operand.now c.in-Some-2.behind.now lt operator found.1)
+    let items : c.push.new.self.items ≡ c.unary-in-unaries.new.steps.items ++ c.in-Some-star.operation ∷ [] = c.in_ok-push.ensures.items in (
+      (inv.0 ++ found.0) ++ c.in-Some-star.operation ∷ [],
+      items ∙ ap (λ l. l ++ c.in-Some-star.operation ∷ []) (found.2 ∙ ap (λ l. l ++ found.0) inv.1) ∙ regroup c.args.steps.now.items inv.0 found.0 c.in-Some-star.operation,
+      inv.2 ∙ more_goes_on star_at (unary_at c.args.depth) (length c.in-Some.rest.now) c.unaries.counter inv.0 found.0 c.unaries.rest.now c.in-Some-star.operation c.in-Some-star.operand.now c.in-Some-2.behind.now lt operator found.1,
+    )
 
 pub product-returns : goal.product-returns
 product-returns t c =
@@ -59,10 +60,11 @@ sum-products-preserved t c =
     let lt : c.products.counter < length c.in-Some.rest.now = omega arith in
     let operator : sign_at c.products.rest.now ≡ Some (c.in-Some-sign.operation, c.in-Some-sign.operand.now) = sym c.in-Some-sign.ensures in
     let found = adds_some c.products.steps.items c.product-in-products.new.steps.items _ c.in-Some-2.behind.now ((product_at (unary_at c.args.depth)) c.in-Some-sign.operand.now) (ap (option_map (λ s. s.now)) c.in-Some-2.is) c.in_ok-behind.ensures in
-    let items : c.push.new.self.items ≡ c.product-in-products.new.steps.items ++ c.in-Some-sign.operation ∷ [] = c.in_ok-push.ensures.items in
-    ((inv.0 ++ found.0) ++ c.in-Some-sign.operation ∷ [],
-    items ∙ ap (λ l. l ++ c.in-Some-sign.operation ∷ []) (found.2 ∙ ap (λ l. l ++ found.0) inv.1) ∙ regroup c.args.steps.now.items inv.0 found.0 c.in-Some-sign.operation,
-    inv.2 ∙ more_goes_on sign_at (product_at (unary_at c.args.depth)) (length c.in-Some.rest.now) c.products.counter inv.0 found.0 c.products.rest.now c.in-Some-sign.operation c.in-Some-sign.operand.now c.in-Some-2.behind.now lt operator found.1)
+    let items : c.push.new.self.items ≡ c.product-in-products.new.steps.items ++ c.in-Some-sign.operation ∷ [] = c.in_ok-push.ensures.items in (
+      (inv.0 ++ found.0) ++ c.in-Some-sign.operation ∷ [],
+      items ∙ ap (λ l. l ++ c.in-Some-sign.operation ∷ []) (found.2 ∙ ap (λ l. l ++ found.0) inv.1) ∙ regroup c.args.steps.now.items inv.0 found.0 c.in-Some-sign.operation,
+      inv.2 ∙ more_goes_on sign_at (product_at (unary_at c.args.depth)) (length c.in-Some.rest.now) c.products.counter inv.0 found.0 c.products.rest.now c.in-Some-sign.operation c.in-Some-sign.operand.now c.in-Some-2.behind.now lt operator found.1,
+    )
 
 pub sum-returns : goal.sum-returns
 sum-returns t c =
