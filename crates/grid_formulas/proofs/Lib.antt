@@ -1,4 +1,5 @@
 pub mod Folds
+pub mod Gathered
 pub mod Looks
 pub mod ReaderLemmas
 pub mod Valued

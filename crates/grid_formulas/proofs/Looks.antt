@@ -54,7 +54,7 @@ any_in_step f (s ∷ steps) (suc k) d lt e =
 
 -- ---- a grid has no cell past the last place
 
-no_cell : (a b c : Bool) → b ≡ false → ((a && b) && c) ≡ false
+pub no_cell : (a b c : Bool) → b ≡ false → ((a && b) && c) ≡ false
 no_cell true true c e = absurd (true_false e)
 no_cell true false c e = refl
 no_cell false b c e = refl
@@ -62,12 +62,13 @@ no_cell false b c e = refl
 pub within_grid : (rows : Rows) → IsGrid rows → Within (text_at rows)
 unfolding most_places
 within_grid rows g p is =
-    elim (cases_lt p 102400000) as (λ _. p < 102400000)
-    [ inl below ↦ below
-    | inr above ↦
-        let few : length rows ≤ 100000 = g.few in
-        let far : nat_le (p / 1024 + 1) (length rows) ≡ false = grind (arith, nat_tests) in
-        absurd (true_false (sym is ∙ ap (λ b. is_formula (unwrap_or (cond b (Some (slice_index_or (row_at rows (p / 1024 + 1)) (p % 1024 + 1 - 1) [])) None) [])) (no_cell _ _ _ far))) ]
+    elim (cases_lt p 102400000) as (λ _. p < 102400000) [
+      | inl below ↦ below
+      | inr above ↦
+          let few : length rows ≤ 100000 = g.few in
+          let far : nat_le (p / 1024 + 1) (length rows) ≡ false = grind (arith, nat_tests) in
+          absurd (true_false (sym is ∙ ap (λ b. is_formula (unwrap_or (cond b (Some (slice_index_or (row_at rows (p / 1024 + 1)) (p % 1024 + 1 - 1) [])) None) [])) (no_cell _ _ _ far)))
+    ]
 
 -- ---- one look
 
@@ -90,14 +91,15 @@ looked_true rows nodes before after place v f g is wait formula none follows her
     let w = waiting (before place) wait in
     let values = values_over rows nodes before in
     record {
-      keys = λ q. elim (cases_eq q place) as (λ _. is_in after q ≡ is_in before q)
-        [ inl at ↦ ap (λ z. is_some (after z)) at ∙ ap is_some here ∙ sym (ap is_some w.1) ∙ sym (ap (λ z. is_some (before z)) at)
-        | inr not_at ↦ ap is_some (apart q not_at) ];
+      keys = λ q. elim (cases_eq q place) as (λ _. is_in after q ≡ is_in before q) [
+        | inl at ↦ ap (λ z. is_some (after z)) at ∙ ap is_some here ∙ sym (ap is_some w.1) ∙ sym (ap (λ z. is_some (before z)) at)
+        | inr not_at ↦ ap is_some (apart q not_at)
+      ];
       kept = λ s. settle_one (text_at rows) values (values_over rows nodes after) (within_grid rows g) s place is
-        (ap is_cycle (value_here rows nodes before place w.0 is w.1) ∙ w.2)
-        (ap (λ z. any_cycle values (reads_if z)) (sym formula) ∙ none)
-        (λ q not_at. values_same rows nodes before after q (apart q not_at))
-        (value_here rows nodes after place v is here ∙ follows ∙ ap (value_of_formula values) formula);
+          (ap is_cycle (value_here rows nodes before place w.0 is w.1) ∙ w.2)
+          (ap (λ z. any_cycle values (reads_if z)) (sym formula) ∙ none)
+          (λ q not_at. values_same rows nodes before after q (apart q not_at))
+          (value_here rows nodes after place v is here ∙ follows ∙ ap (value_of_formula values) formula);
       idle = λ e. absurd (true_false e);
       stuck = λ e _. absurd (true_false e);
     }
@@ -136,15 +138,16 @@ sweeps_more rows nodes order n before mid after moved settled s l = record {
   kept = λ h. l.kept (s.kept h);
   idle = λ e. l.idle (or_false_right moved settled e) ∙ s.idle (or_false_left moved settled e);
   stuck = λ e k lt i.
-    let still : moved ≡ false = or_false_left moved settled e in
-    elim (nat_cases k n lt) as (λ _. IsStuckAt (text_at rows) (values_over rows nodes before) (slice_index order k))
-    [ inl below ↦ s.stuck still k below i
-    | inr same ↦
-        let at : slice_index order k ≡ slice_index order n = ap (slice_index order) same in
-        let inside : is_in mid (slice_index order n) ≡ true = s.keys (slice_index order n) ∙ sym (ap (is_in before) at) ∙ i in
-        let there : IsStuckAt (text_at rows) (values_over rows nodes mid) (slice_index order n) = l.stuck (or_false_right moved settled e) inside in
-        let here : IsStuckAt (text_at rows) (values_over rows nodes before) (slice_index order n) = subst (λ z. IsStuckAt (text_at rows) (values_over rows nodes z) (slice_index order n)) (s.idle still) there in
-        subst (λ z. IsStuckAt (text_at rows) (values_over rows nodes before) z) (sym at) here ];
+      let still : moved ≡ false = or_false_left moved settled e in
+      elim (nat_cases k n lt) as (λ _. IsStuckAt (text_at rows) (values_over rows nodes before) (slice_index order k)) [
+        | inl below ↦ s.stuck still k below i
+        | inr same ↦
+            let at : slice_index order k ≡ slice_index order n = ap (slice_index order) same in
+            let inside : is_in mid (slice_index order n) ≡ true = s.keys (slice_index order n) ∙ sym (ap (is_in before) at) ∙ i in
+            let there : IsStuckAt (text_at rows) (values_over rows nodes mid) (slice_index order n) = l.stuck (or_false_right moved settled e) inside in
+            let here : IsStuckAt (text_at rows) (values_over rows nodes before) (slice_index order n) = subst (λ z. IsStuckAt (text_at rows) (values_over rows nodes z) (slice_index order n)) (s.idle still) there in
+            subst (λ z. IsStuckAt (text_at rows) (values_over rows nodes before) z) (sym at) here
+      ];
 }
 
 -- after a sweep in which nothing moved
@@ -153,7 +156,7 @@ rests rows nodes order first before after moved keys kept s still = record {
   keys = λ q. s.keys q ∙ keys q;
   kept = λ h. s.kept (kept h);
   stuck = λ k lt i.
-    subst (λ z. IsStuckAt (text_at rows) (values_over rows nodes z) (slice_index order k)) (sym (s.idle still)) (s.stuck still k lt (sym (s.keys (slice_index order k)) ∙ i));
+      subst (λ z. IsStuckAt (text_at rows) (values_over rows nodes z) (slice_index order k)) (sym (s.idle still)) (s.stuck still k lt (sym (s.keys (slice_index order k)) ∙ i));
 }
 
 -- another key, as a map compares

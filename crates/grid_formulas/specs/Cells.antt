@@ -1,11 +1,14 @@
 -- The values of all cells. (Own.)
-use Rattle.std.specs.Prelude.{ℕ, zero, suc, ◌+◌, ◌≡◌, Bool, true, false, List, [], Option, Some, None, length, ◌&&◌, if◌then◌else◌}
+use Rattle.std.specs.Prelude.{ℕ, zero, suc, ◌+◌, ◌≡◌, Bool, true, false, List, [], Option, Some, None, length, nat_lt, nat_le, ◌<◌, ⊤, ◌&&◌, if◌then◌else◌}
 use Rattle.std.specs.List.{list_any}
+use Rattle.grid_sheet.specs.Rows.{Rows, is_column, most_rows}
+use Rattle.grid_formulas.specs.declared.fault.SheetFault.{SheetFault}
+use Rattle.grid_formulas.specs.declared.fault.SheetFault.TheVariants as fault
 use Rattle.grid_formulas.specs.declared.formula.Step.{Step}
 use Rattle.grid_formulas.specs.declared.value.Value.{Value}
 use Rattle.grid_formulas.specs.declared.value.Value.TheVariants as value
 use Rattle.grid_formulas.specs.Numbers.{plain_value}
-use Rattle.grid_formulas.specs.Places.{reads_of}
+use Rattle.grid_formulas.specs.Places.{place_of, reads_of, text_at}
 use Rattle.grid_formulas.specs.Reading.{formula_of, is_formula}
 use Rattle.grid_formulas.specs.Values.{value_of_formula}
 
@@ -49,3 +52,13 @@ value_within text (suc steps) place =
 unfoldable pub value_of : (ℕ → List ℕ) → ℕ → Value
 value_of text place =
     if has_walk text (formula_count text) place then value.Cycle else value_within text (formula_count text) place
+
+-- the value of the cell at a row and a column, which is empty where no grid has a cell
+abbrev pub cell_value : Rows → ℕ → ℕ → Value
+cell_value rows row column =
+    if (nat_lt 0 row && nat_le row most_rows) && is_column column then value_of (text_at rows) (place_of row column) else value.Empty
+
+-- why a grid gets no sheet
+abbrev pub IsSheetFault : Rows → SheetFault → Type 0
+IsSheetFault rows fault.TooManyLinks = 1000000 < link_count (text_at rows)
+IsSheetFault rows fault.Memory = ⊤

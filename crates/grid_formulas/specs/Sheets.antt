@@ -1,13 +1,15 @@
 -- What a sheet keeps of its cells, and facts of single cells from which the values of all follow.
-use Rattle.std.specs.Prelude.{ℕ, ◌≡◌, Bool, true, false, List, Option, Some, None, option_map, unwrap_or, IsSome, is_some, length, slice_index, nat_eq, ◌+◌, ◌*◌, ◌<◌, if◌then◌else◌}
+use Rattle.std.specs.Prelude.{ℕ, ◌≡◌, Bool, true, false, List, Option, Some, None, option_map, unwrap_or, IsSome, is_some, length, slice_index, ◌+◌, ◌<◌, ◌≤◌, ⊤, if◌then◌else◌}
 use Rattle.std.specs.List.{list_any}
 use Rattle.std.specs.Option.{option_or}
 use Rattle.grid_formulas.specs.declared.cells.Node.{Node}
+use Rattle.grid_formulas.specs.declared.fault.SheetFault.{SheetFault}
+use Rattle.grid_formulas.specs.declared.fault.SheetFault.TheVariants as fault
 use Rattle.grid_formulas.specs.declared.formula.Step.{Step}
 use Rattle.grid_formulas.specs.declared.value.Value.{Value}
 use Rattle.grid_formulas.specs.declared.value.Value.TheVariants as value
-use Rattle.grid_formulas.specs.Cells.{formula_count, has_walk, reads}
-use Rattle.grid_sheet.specs.Rows.{Rows}
+use Rattle.grid_formulas.specs.Cells.{formula_count, has_walk, link_count, reads, sum_below}
+use Rattle.grid_sheet.specs.Rows.{IsGrid, Rows}
 use Rattle.grid_formulas.specs.Places.{text_at}
 use Rattle.grid_formulas.specs.Numbers.{plain_value}
 use Rattle.grid_formulas.specs.Reading.{formula_of, is_formula}
@@ -69,14 +71,21 @@ pub record KnowsFormulas (text : ℕ → List ℕ) (nodes : ℕ → Option Node)
   pub there : (place : ℕ) → is_formula (text place) ≡ true → IsSome (nodes place)
   pub known : (place : ℕ) → is_formula (text place) ≡ true → formula_in (nodes place) ≡ formula_of (text place)
 
--- the number of the link from a cell to one that reads it
-abbrev pub link_of : ℕ → ℕ → ℕ
-link_of place reader = place * 102400000 + reader
+-- the most cells that the formulas together may name
+abbrev pub most_links : ℕ
+most_links = 1000000
 
--- each cell that a formula names has a link to it
-abbrev pub KnowsReaders : (ℕ → List ℕ) → (ℕ → Bool) → Type 0
-KnowsReaders text links =
-    (reader : ℕ) → is_formula (text reader) ≡ true → (place : ℕ) → place < 102400000 → list_any (nat_eq place) (reads (text reader)) ≡ true → links (link_of place reader) ≡ true
+-- the formula cells before a place are among the nodes, and together they name so many cells
+pub record Gathers (text : ℕ → List ℕ) (nodes : ℕ → Option Node) (bound count : ℕ) : Type 0 where
+  pub there : (place : ℕ) → place < bound → is_formula (text place) ≡ true → IsSome (nodes place)
+  pub known : (place : ℕ) → place < bound → is_formula (text place) ≡ true → formula_in (nodes place) ≡ formula_of (text place)
+  pub counts : count ≡ sum_below (λ place. length (reads (text place))) bound
+  pub few : count ≤ most_links
+
+-- what gathering a cell, or many, may be refused for
+abbrev pub IsGatherFault : (ℕ → List ℕ) → ℕ → SheetFault → Type 0
+IsGatherFault text bound fault.TooManyLinks = most_links < sum_below (λ place. length (reads (text place))) bound
+IsGatherFault text bound fault.Memory = ⊤
 
 -- the cell is one of those looked at anew
 abbrev pub is_in : (ℕ → Option Value) → ℕ → Bool
@@ -110,3 +119,11 @@ pub record Rests (rows : Rows) (nodes : ℕ → Option Node) (order : List ℕ) 
   pub keys : (q : ℕ) → is_in after q ≡ is_in before q
   pub kept : AreSettled (text_at rows) (values_over rows nodes before) → AreSettled (text_at rows) (values_over rows nodes after)
   pub stuck : (k : ℕ) → k < length order → is_in after (slice_index order k) ≡ true → IsStuckAt (text_at rows) (values_over rows nodes after) (slice_index order k)
+
+-- a sheet is of a grid with few enough links, knows its formulas, and all its values are settled or stuck
+pub record IsSheet (rows : Rows) (nodes : ℕ → Option Node) (after : ℕ → Option Value) : Type 0 where
+  pub grid : IsGrid rows
+  pub few : link_count (text_at rows) ≤ most_links
+  pub known : KnowsFormulas (text_at rows) nodes
+  pub settled : AreSettled (text_at rows) (values_over rows nodes after)
+  pub stuck : AreStuck (text_at rows) (values_over rows nodes after)

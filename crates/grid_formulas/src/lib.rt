@@ -5,6 +5,7 @@ mod cells;
 mod evaluate;
 mod fault;
 mod formula;
+mod gather;
 mod number;
 mod reader;
 mod reference;

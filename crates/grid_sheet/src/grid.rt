@@ -47,6 +47,17 @@ impl Grid {
         Ok(Grid { alloc, rows })
     }
 
+    /// An equal grid, in memory of its own.
+    pub fn try_copy(&self) -> Result<Grid, Memory>
+        ensures { IfOk result (λ grid. grid ≡ self.now) }
+    {
+        let rows = edits::copy_rows(self.alloc, &self.rows)?;
+        Ok(Grid {
+            alloc: self.alloc,
+            rows,
+        })
+    }
+
     /// The text of the grid. Each row ends in `\n`, and a row of one empty cell is written `""`.
     pub fn write(&self) -> Result<Bytes, Memory>
         ensures { IfOk result (λ text. text ≡ write_of self.now) }
