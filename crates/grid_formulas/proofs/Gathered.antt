@@ -7,12 +7,14 @@ use Rattle.std.proofs.lemmas.List.{take_more}
 use Rattle.std.proofs.lemmas.List.FromFn.{length-map-range_with_len}
 use Rattle.std.specs.Option.{IsSome, is_some}
 use Rattle.grid_sheet.specs.Rows.{IsGrid, Rows, row_at}
-use Rattle.grid_formulas.specs.Cells.{link_count, most_places, reads, reads_if, sum_below}
+use Rattle.grid_formulas.specs.Cells.{IsSheetFault, link_count, most_places, reads, reads_if, sum_below}
 use Rattle.grid_formulas.specs.Places.{cells_named, nth_of, places_of, reads_of, text_at}
 use Rattle.grid_formulas.specs.Reading.{formula_of, is_formula, sum_at, unary_at, whole}
-use Rattle.grid_formulas.specs.Sheets.{Gathers, KnowsFormulas, formula_in}
+use Rattle.grid_formulas.specs.Sheets.{Gathers, IsGatherFault, KnowsFormulas, formula_in}
 use Rattle.grid_formulas.proofs.Looks.{no_cell}
 use Rattle.grid_formulas.proofs.Walks.{true_false}
+use Rattle.grid_formulas.specs.declared.fault.SheetFault.{SheetFault}
+use Rattle.grid_formulas.specs.declared.fault.SheetFault.TheVariants as fault
 use Rattle.grid_formulas.specs.declared.cells.Node.{Node}
 use Rattle.grid_formulas.specs.declared.formula.Step.{Step}
 
@@ -32,10 +34,15 @@ sum_below_more f n = ap (sum_below f) (add-one n)
 
 pub sum_below_le : (f : ℕ → ℕ) (k n : ℕ) → sum_below f n ≤ sum_below f (k + n)
 unfolding sum_below
-sum_below_le f zero n = subst (λ m. sum_below f n ≤ sum_below f m) (omega arith) (omega arith)
+sum_below_le f zero n =
+    let same : 0 + n ≡ n = omega arith in
+    let here : sum_below f n ≤ sum_below f n = omega arith in
+    subst (λ m. sum_below f n ≤ sum_below f m) (sym same) here
 sum_below_le f (suc k) n =
     let before = sum_below_le f k n in
-    subst (λ m. sum_below f n ≤ sum_below f m) (omega arith) (let here : sum_below f n ≤ sum_below f (k + n) + f (k + n) = omega arith in here)
+    let next : suc k + n ≡ suc (k + n) = omega arith in
+    let here : sum_below f n ≤ sum_below f (k + n) + f (k + n) = omega arith in
+    subst (λ m. sum_below f n ≤ sum_below f m) (sym next) here
 
 pub no_reads : (text : List ℕ) → is_formula text ≡ false → length (reads text) ≡ 0
 unfolding reads formula_of
@@ -76,11 +83,16 @@ past_rows rows p above =
 
 sum_below_zero : (f : ℕ → ℕ) (k n : ℕ) → ((q : ℕ) → n ≤ q → f q ≡ 0) → sum_below f (k + n) ≡ sum_below f n
 unfolding sum_below
-sum_below_zero f zero n none = ap (sum_below f) (omega arith)
+sum_below_zero f zero n none =
+    let same : 0 + n ≡ n = omega arith in
+    ap (sum_below f) same
 sum_below_zero f (suc k) n none =
     let before = sum_below_zero f k n none in
-    let here = none (k + n) (omega arith) in
-    ap (sum_below f) (omega arith) ∙ (let step : sum_below f (k + n) + f (k + n) ≡ sum_below f n = omega arith in step)
+    let above : n ≤ k + n = omega arith in
+    let here = none (k + n) above in
+    let next : suc k + n ≡ suc (k + n) = omega arith in
+    let step : sum_below f (k + n) + f (k + n) ≡ sum_below f n = omega arith in
+    ap (sum_below f) next ∙ step
 
 pub all_links : (rows : Rows) → IsGrid rows → sum_below (λ q. length (reads (text_at rows q))) (length rows * 1024) ≡ link_count (text_at rows)
 unfolding most_places
@@ -88,7 +100,8 @@ all_links rows g =
     let f : ℕ → ℕ = λ q. length (reads (text_at rows q)) in
     let few : length rows ≤ 100000 = g.few in
     let none : (q : ℕ) → length rows * 1024 ≤ q → f q ≡ 0 = λ q le. no_reads (text_at rows q) (ap is_formula (past_rows rows q le)) in
-    sym (sum_below_zero f (102400000 - length rows * 1024) (length rows * 1024) none) ∙ ap (sum_below f) (omega arith)
+    let whole_grid : (102400000 - length rows * 1024) + length rows * 1024 ≡ 102400000 = omega arith in
+    sym (sum_below_zero f (102400000 - length rows * 1024) (length rows * 1024) none) ∙ ap (sum_below f) whole_grid
 
 pub knows_all : (rows : Rows) (nodes : ℕ → Option Node) (count : ℕ) → Gathers (text_at rows) nodes (length rows * 1024) count → KnowsFormulas (text_at rows) nodes
 knows_all rows nodes count g =
@@ -99,3 +112,27 @@ knows_all rows nodes count g =
       there = λ p is. g.there p (before p is) is;
       known = λ p is. g.known p (before p is) is;
     }
+
+-- ---- refusals
+
+pub too_many : (text : ℕ → List ℕ) (nodes : ℕ → Option Node) (place count named : ℕ) → Gathers text nodes place count → named ≡ min (length (reads (text place))) (2 ^ 64 - 1) → 1000000 - count < named → 1000000 < sum_below (λ q. length (reads (text q))) (place + 1)
+too_many text nodes place count named g names many = omega (arith, g.counts, g.few, sum_below_more (λ q. length (reads (text q))) place)
+
+pub sheet_fault : (rows : Rows) (bound : ℕ) (f : SheetFault) → IsGrid rows → bound ≤ length rows * 1024 → IsGatherFault (text_at rows) bound f → IsSheetFault rows f
+sheet_fault rows bound fault.TooManyLinks g le h =
+    let f : ℕ → ℕ = λ q. length (reads (text_at rows q)) in
+    let split : (length rows * 1024 - bound) + bound ≡ length rows * 1024 = omega arith in
+    let more : sum_below f bound ≤ sum_below f (length rows * 1024) = subst (λ m. sum_below f bound ≤ sum_below f m) split (sum_below_le f (length rows * 1024 - bound) bound) in
+    let all = all_links rows g in
+    omega arith
+sheet_fault rows bound fault.Memory g le h = tt
+
+-- nothing is gathered yet
+pub gathers_none : (text : ℕ → List ℕ) (nodes : ℕ → Option Node) → Gathers text nodes 0 0
+unfolding sum_below
+gathers_none text nodes = record {
+  there = λ q lt is. absurd (omega arith);
+  known = λ q lt is. absurd (omega arith);
+  counts = refl;
+  few = omega arith;
+}

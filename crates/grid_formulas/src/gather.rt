@@ -76,7 +76,10 @@ pub fn gather(alloc: Global, grid: &Grid) -> Result<BTreeMap<usize, Node>, Sheet
     let mut nodes = BTreeMap::new(alloc);
     let mut count = 0;
     'places: for place in 0..grid.rows() * MOST_CELLS {
-        count = gather_cell(alloc, grid, &mut nodes, count, place)?;
+        match gather_cell(alloc, grid, &mut nodes, count, place) {
+            Ok(more) => count = more,
+            Err(fault) => return Err(fault),
+        }
     }
     Ok(nodes)
 }
