@@ -1,4 +1,5 @@
 pub mod Cells
+pub mod Changes
 pub mod Numbers
 pub mod Places
 pub mod Reading

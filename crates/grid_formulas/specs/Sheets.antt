@@ -127,3 +127,7 @@ pub record IsSheet (rows : Rows) (nodes : ℕ → Option Node) (after : ℕ → 
   pub known : KnowsFormulas (text_at rows) nodes
   pub settled : AreSettled (text_at rows) (values_over rows nodes after)
   pub stuck : AreStuck (text_at rows) (values_over rows nodes after)
+
+-- each of these places has Cycle at first
+abbrev pub StartsOver : List ℕ → (ℕ → Option Value) → Type 0
+StartsOver places after = (k : ℕ) → k < length places → after (slice_index places k) ≡ Some value.Cycle

@@ -7,11 +7,15 @@ mod fault;
 mod formula;
 mod gather;
 mod number;
+mod order;
 mod reader;
 mod reference;
 mod settle;
+mod sheet;
 mod value;
+mod values;
 
 pub use fault::SheetFault;
 pub use formula::{Span, Step};
+pub use sheet::{Changed, Sheet};
 pub use value::Value;

@@ -13,10 +13,11 @@ ghost use Rattle.grid_formulas.specs.Sheets.{KnowsFormulas, LooksAt, Rests, Swee
 use crate::cells::{Node, text_at};
 use crate::evaluate::{value_at, value_of_formula};
 use crate::reader::is_formula;
-use crate::{SheetFault, Span, Step, Value};
+use crate::{Span, Step, Value};
 use grid_sheet::Grid;
 use std::alloc::{AllocError, Global};
 use std::collections::BTreeMap;
+use wopi_text::Memory;
 
 fn is_cycle(value: Value) -> bool
     ensures { result ≡ is_cycle value }
@@ -90,7 +91,7 @@ fn look_at(
     nodes: &BTreeMap<usize, Node>,
     after: &mut BTreeMap<usize, Value>,
     place: usize,
-) -> Result<bool, SheetFault>
+) -> Result<bool, Memory>
     requires grid { IsGrid grid.now }
     requires known { KnowsFormulas (text_at grid.now) (get nat_cmp nodes.now) }
     ensures { IfOk result (λ settled. LooksAt grid.now (get nat_cmp nodes.now) (get nat_cmp after.old) (get nat_cmp after.new) settled place) }
@@ -119,13 +120,13 @@ fn either(a: bool, b: bool) -> bool
 }
 
 // Looks at each cell of the list once. Says whether one was settled.
-fn sweep(
+pub fn sweep(
     alloc: Global,
     grid: &Grid,
     nodes: &BTreeMap<usize, Node>,
     order: &[usize],
     after: &mut BTreeMap<usize, Value>,
-) -> Result<bool, SheetFault>
+) -> Result<bool, Memory>
     requires grid { IsGrid grid.now }
     requires known { KnowsFormulas (text_at grid.now) (get nat_cmp nodes.now) }
     ensures { IfOk result (λ moved. Sweeps grid.now (get nat_cmp nodes.now) order.now (length order.now) (get nat_cmp after.old) (get nat_cmp after.new) moved) }
@@ -146,7 +147,7 @@ pub fn settle(
     nodes: &BTreeMap<usize, Node>,
     order: &[usize],
     after: &mut BTreeMap<usize, Value>,
-) -> Result<(), SheetFault>
+) -> Result<(), Memory>
     requires grid { IsGrid grid.now }
     requires known { KnowsFormulas (text_at grid.now) (get nat_cmp nodes.now) }
     ensures { OnOk result (Rests grid.now (get nat_cmp nodes.now) order.now (get nat_cmp after.old) (get nat_cmp after.new)) }
@@ -157,5 +158,5 @@ pub fn settle(
             return Ok(());
         }
     }
-    Err(SheetFault::Memory)
+    Err(Memory)
 }
