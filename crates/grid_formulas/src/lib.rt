@@ -19,3 +19,6 @@ pub use fault::SheetFault;
 pub use formula::{Span, Step};
 pub use sheet::{Changed, Sheet};
 pub use value::Value;
+
+#[cfg(test)]
+mod tests;

@@ -1,13 +1,12 @@
 //! A sheet: a grid and the values of its cells.
-ghost use Rattle.std.specs.Prelude.{◌≡◌, ◌*◌, ◌+◌, IfOk, IfErr, OnOk, OnErr, Ok, length, not, map};
-ghost use Rattle.std.specs.List.{filter, range_with_len};
+ghost use Rattle.std.specs.Prelude.{◌≡◌, ◌*◌, ◌+◌, IfOk, IfErr, OnOk, OnErr, Ok, List, ℕ, length};
 ghost use Rattle.std.specs.Ordering.{nat_cmp};
 ghost use Rattle.std.specs.BTreeMap.{get};
 ghost use Rattle.grid_sheet.specs.Edits.{after_set};
 ghost use Rattle.grid_sheet.specs.Rows.{IsGrid};
 ghost use Rattle.grid_formulas.specs.Cells.{IsSheetFault, cell_value, value_of};
 ghost use Rattle.grid_formulas.specs.Changes.{changed_cells, same_value};
-ghost use Rattle.grid_formulas.specs.Places.{place_of, text_at};
+ghost use Rattle.grid_formulas.specs.Places.{text_at};
 ghost use Rattle.grid_formulas.specs.Sheets.{IsSheet};
 
 use crate::cells::Node;
@@ -141,7 +140,7 @@ impl Sheet {
     //
     // This works out all values anew, in time that grows with the whole sheet.
     pub fn set(&mut self, grid: &Grid, row: usize, column: usize) -> Result<Changed, SheetFault>
-        requires { after_set self.old row column (text_at grid.now (place_of row column)) ≡ Ok grid.now }
+        requires { (text : List ℕ) × (after_set self.old row column text ≡ Ok grid.now) }
         ensures grid { OnOk result (self.new ≡ grid.now) }
         ensures changed { IfOk result (λ cells. cells ≡ changed_cells self.old grid.now) }
         ensures refused { IfErr result (IsSheetFault grid.now) }
