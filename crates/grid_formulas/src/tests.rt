@@ -15,12 +15,7 @@ fn sheet_of(alloc: Global, text: &str) -> Result<Sheet, Fail> {
     Ok(Sheet::new(alloc, &grid)?)
 }
 
-fn expect_value(
-    rt: &impl Abort,
-    alloc: Global,
-    cell: &str,
-    expected: Value,
-) -> Result<(), Fail> {
+fn expect_value(rt: &impl Abort, alloc: Global, cell: &str, expected: Value) -> Result<(), Fail> {
     let mut grid = Grid::read(alloc, b"x")?;
     set(alloc, &mut grid, 1, 2, cell)?;
     let sheet = Sheet::new(alloc, &grid)?;
@@ -39,7 +34,10 @@ fn sums_and_products_follow_a_set(rt: HostRuntime) -> Result<(), Fail> {
     assert_eq!(rt; sheet.value(2, 3), Value::Text);
     grid.set(1, 1, Bytes::from_slice(alloc, b"5")?)?;
     let changed = sheet.set(&grid, 1, 1)?;
-    assert_eq!(rt; changed.as_slice(), [(1, 1), (1, 3), (2, 1), (2, 2)].as_slice());
+    assert_eq!(rt;
+        changed.as_slice(),
+        [(1, 1), (1, 3), (2, 1), (2, 2)].as_slice()
+    );
     assert_eq!(rt; sheet.value(1, 3), Value::Number(7));
     assert_eq!(rt; sheet.value(2, 1), Value::Number(14));
     assert_eq!(rt; sheet.value(2, 2), Value::Number(28));
@@ -70,8 +68,18 @@ fn formulas_have_their_values(rt: HostRuntime) -> Result<(), Fail> {
     let alloc = rt.alloc();
     let greatest = "=170141183460469231731687303715884105727";
     expect_value(&rt, alloc, greatest, Value::Number(i128::MAX))?;
-    expect_value(&rt, alloc, "=170141183460469231731687303715884105727+1", Value::NumberFault)?;
-    expect_value(&rt, alloc, "=170141183460469231731687303715884105728", Value::NameFault)?;
+    expect_value(
+        &rt,
+        alloc,
+        "=170141183460469231731687303715884105727+1",
+        Value::NumberFault,
+    )?;
+    expect_value(
+        &rt,
+        alloc,
+        "=170141183460469231731687303715884105728",
+        Value::NameFault,
+    )?;
     expect_value(&rt, alloc, "=2+3*4-5", Value::Number(9))?;
     expect_value(&rt, alloc, "=(2+3)*--4", Value::Number(20))?;
     expect_value(&rt, alloc, "=10-4-3", Value::Number(3))?;
@@ -80,8 +88,20 @@ fn formulas_have_their_values(rt: HostRuntime) -> Result<(), Fail> {
     expect_value(&rt, alloc, "=SUM(A1:A1)", Value::Number(0))?;
     expect_value(&rt, alloc, "=AMJ100000", Value::Number(0))?;
     for cell in [
-        "=", "=AMK1", "=A0", "=A01", "=A100001", "=a1", "= 1", "=01", "=SUM(B2:A1)", "=SUM(A1)",
-        "=SUM(A1:J10001)", "=1++2", "=(1", "=1)",
+        "=",
+        "=AMK1",
+        "=A0",
+        "=A01",
+        "=A100001",
+        "=a1",
+        "= 1",
+        "=01",
+        "=SUM(B2:A1)",
+        "=SUM(A1)",
+        "=SUM(A1:J10001)",
+        "=1++2",
+        "=(1",
+        "=1)",
     ] {
         expect_value(&rt, alloc, cell, Value::NameFault)?;
     }
@@ -94,8 +114,20 @@ fn cells_that_are_no_formulas(rt: HostRuntime) -> Result<(), Fail> {
     expect_value(&rt, alloc, "", Value::Empty)?;
     expect_value(&rt, alloc, "0", Value::Number(0))?;
     expect_value(&rt, alloc, "-7", Value::Number(-7))?;
-    expect_value(&rt, alloc, "-170141183460469231731687303715884105728", Value::Number(i128::MIN))?;
-    for cell in ["-0", "007", "+5", "-", " 1", "-170141183460469231731687303715884105729"] {
+    expect_value(
+        &rt,
+        alloc,
+        "-170141183460469231731687303715884105728",
+        Value::Number(i128::MIN),
+    )?;
+    for cell in [
+        "-0",
+        "007",
+        "+5",
+        "-",
+        " 1",
+        "-170141183460469231731687303715884105729",
+    ] {
         expect_value(&rt, alloc, cell, Value::Text)?;
     }
     Ok(())

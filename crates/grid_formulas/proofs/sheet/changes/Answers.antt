@@ -12,13 +12,14 @@ places-preserved c =
     let place = c.places.place in
     let test = is_changed c.args.old.now c.args.new.now in
     let same : same_value (value_of (text_at c.args.old.now) place) (value_of (text_at c.args.new.now) place) ≡ c.is_same.result =
-        ap (λ v. same_value v (value_of (text_at c.args.new.now) place)) (sym c.at.ensures) ∙ ap (same_value c.at.result) (sym c.at-in-places.ensures) ∙ sym c.is_same.ensures in
-    elim c.if-not-is_same.branch
-    [ then-not-is_same+in_ok-push w ↦
-        ap (λ v. v.items) w.cells-is ∙ w.in_ok-push.ensures.items ∙ ap (λ l. l ++ cell_of place ∷ []) c.places.invariant
-        ∙ sym (kept_yes test place (ap not (same ∙ w.if-not-is_same.true)))
-    | else-not-is_same w ↦
-        ap (λ v. v.items) w.cells-is ∙ c.places.invariant ∙ sym (kept_no test place (ap not (same ∙ w.if-not-is_same.false))) ]
+    ap (λ v. same_value v (value_of (text_at c.args.new.now) place)) (sym c.at.ensures) ∙ ap (same_value c.at.result) (sym c.at-in-places.ensures) ∙ sym c.is_same.ensures in
+    elim c.if-not-is_same.branch [
+      | then-not-is_same+in_ok-push w ↦
+          ap (λ v. v.items) w.cells-is ∙ w.in_ok-push.ensures.items ∙ ap (λ l. l ++ cell_of place ∷ []) c.places.invariant
+          ∙ sym (kept_yes test place (ap not (same ∙ w.if-not-is_same.true)))
+      | else-not-is_same w ↦
+          ap (λ v. v.items) w.cells-is ∙ c.places.invariant ∙ sym (kept_no test place (ap not (same ∙ w.if-not-is_same.false)))
+    ]
 
 pub returns : goal.returns
 returns c =
