@@ -1,12 +1,12 @@
 -- Gathering the formula cells of a grid.
-use Rattle.std.proofs.Common.{◌≡◌, ◌≢◌, ℕ, zero, suc, ◌+◌, ◌-◌, ◌*◌, ◌/◌, ◌%◌, ◌<◌, ◌≤◌, ◌^◌, min, Bool, true, false, List, [], ◌∷◌, ◌++◌, Option, Some, None, length, take, drop, get_or, slice_index_or, unwrap_or, cond, ◌&&◌, nat_le, nat_lt, refl, sym, ◌∙◌, ap, subst, arith, inl, inr, ◌⊎◌, length-append, add-one}
+use Rattle.std.proofs.Common.{◌≡◌, ◌≢◌, ℕ, zero, suc, ◌+◌, ◌-◌, ◌*◌, ◌/◌, ◌%◌, ◌<◌, ◌≤◌, ◌^◌, min, Bool, true, false, List, [], ◌∷◌, ◌++◌, Option, Some, None, length, take, drop, get_or, slice_index_or, unwrap_or, cond, ◌&&◌, nat_le, nat_lt, refl, sym, ◌∙◌, ap, subst, arith, inl, inr, ◌⊎◌, length-append, add-one, zero-add}
 use Rattle.std.proofs.lemmas.Bool.{cases_eq, cases_lt}
 use Rattle.std.proofs.lemmas.Bool.Decides.{nat_tests}
 use Rattle.std.proofs.lemmas.Grind.{common_steps, flat_map-append}
 use Rattle.std.proofs.lemmas.List.{take_more}
 use Rattle.std.proofs.lemmas.List.FromFn.{length-map-range_with_len}
 use Rattle.std.specs.Option.{IsSome, is_some}
-use Rattle.grid_sheet.specs.Rows.{IsGrid, Rows, row_at}
+use Rattle.grid_sheet.specs.Rows.{IsGrid, Rows, cell_at, row_at}
 use Rattle.grid_formulas.specs.Cells.{IsSheetFault, link_count, most_places, reads, reads_if, sum_below}
 use Rattle.grid_formulas.specs.Places.{cells_named, nth_of, places_of, reads_of, text_at}
 use Rattle.grid_formulas.specs.Reading.{formula_of, is_formula, sum_at, unary_at, whole}
@@ -136,3 +136,46 @@ gathers_none text nodes = record {
   counts = refl;
   few = omega arith;
 }
+
+-- ---- cells that are not there
+
+not_there : (z a y b : Bool) (text : List ℕ) → z ≡ true → a ≡ true → y ≡ true → is_some (cond ((z && a) && (y && b)) (Some text) None) ≡ false → b ≡ false
+not_there z a y true text i e f none =
+    absurd (true_false (sym (ap (λ x. is_some (cond ((x && a) && (y && true)) (Some text) None)) i ∙ ap (λ x. is_some (cond ((true && x) && (y && true)) (Some text) None)) e ∙ ap (λ x. is_some (cond ((true && true) && (x && true)) (Some text) None)) f) ∙ none))
+not_there z a y false text i e f none = refl
+
+no_last : (a b c : Bool) → c ≡ false → (a && (b && c)) ≡ false
+no_last true true c e = e
+no_last true false c e = refl
+no_last false b c e = refl
+
+-- no cell of the row stands behind one that is not there
+pub past_cell : (rows : Rows) (row column q : ℕ) → row < length rows → column < 1024 → is_some (cell_at rows (row + 1) (column + 1)) ≡ false → row * 1024 + column ≤ q → q < (row + 1) * 1024 → text_at rows q ≡ []
+past_cell rows row column q inside narrow none from below =
+    let row_is : q / 1024 ≡ row = omega arith in
+    let column_from : column ≤ q % 1024 = omega arith in
+    let has : nat_le (row + 1) (length rows) ≡ true = grind (arith, nat_tests) in
+    let first : nat_lt 0 (row + 1) ≡ true = grind (arith, nat_tests) in
+    let first_column : nat_lt 0 (column + 1) ≡ true = grind (arith, nat_tests) in
+    let cells = row_at rows (row + 1) in
+    let short : nat_le (column + 1) (length cells) ≡ false = not_there (nat_lt 0 (row + 1)) (nat_le (row + 1) (length rows)) (nat_lt 0 (column + 1)) (nat_le (column + 1) (length cells)) (slice_index_or cells (column + 1 - 1) []) first has first_column none in
+    let shorter : nat_le (q % 1024 + 1) (length cells) ≡ false = grind (arith, nat_tests) in
+    ap (λ r. unwrap_or (cond ((nat_lt 0 (r + 1) && nat_le (r + 1) (length rows)) && (nat_lt 0 (q % 1024 + 1) && nat_le (q % 1024 + 1) (length (row_at rows (r + 1))))) (Some (slice_index_or (row_at rows (r + 1)) (q % 1024 + 1 - 1) [])) None) []) row_is
+    ∙ ap (λ b. unwrap_or (cond b (Some (slice_index_or cells (q % 1024 + 1 - 1) [])) None) []) (no_last _ _ _ shorter)
+
+-- a stretch without cells
+pub gathers_skip : (text : ℕ → List ℕ) (nodes : ℕ → Option Node) (k place count : ℕ) → Gathers text nodes place count → ((q : ℕ) → place ≤ q → q < k + place → text q ≡ []) → Gathers text nodes (k + place) count
+gathers_skip text nodes zero place count g none = subst (λ z. Gathers text nodes z count) (sym (zero-add place)) g
+gathers_skip text nodes (suc k) place count g none =
+    let next : (k + place) + 1 ≡ suc k + place = omega arith in
+    let before = gathers_skip text nodes k place count g (λ q from below. let wider : q < suc k + place = omega arith in none q from wider) in
+    let from : place ≤ k + place = omega arith in
+    let below : k + place < suc k + place = omega arith in
+    subst (λ z. Gathers text nodes z count) next (gathers_plain text nodes (k + place) count before (ap is_formula (none (k + place) from below)))
+
+pub gathers_row : (rows : Rows) (nodes : ℕ → Option Node) (row column count : ℕ) → row < length rows → column < 1024 → is_some (cell_at rows (row + 1) (column + 1)) ≡ false → Gathers (text_at rows) nodes (row * 1024 + column) count → Gathers (text_at rows) nodes ((row + 1) * 1024) count
+gathers_row rows nodes row column count inside narrow none g =
+    let end : (1024 - column) + (row * 1024 + column) ≡ (row + 1) * 1024 = omega arith in
+    subst (λ z. Gathers (text_at rows) nodes z count) end
+    (gathers_skip (text_at rows) nodes (1024 - column) (row * 1024 + column) count g
+    (λ q from below. let under : q < (row + 1) * 1024 = omega arith in past_cell rows row column q inside narrow none from under))

@@ -1,5 +1,6 @@
 //! The cells of a grid by their places, and the formula cells.
-ghost use Rattle.std.specs.Prelude.{◌≡◌};
+ghost use Rattle.std.specs.Prelude.{◌≡◌, is_some};
+ghost use Rattle.grid_sheet.specs.Rows.{cell_at};
 ghost use Rattle.grid_formulas.specs.Places.{text_at};
 
 use crate::{Step, Value};
@@ -21,5 +22,15 @@ pub fn text_at(grid: &Grid, place: usize) -> &[u8]
     match grid.cell(place / MOST_CELLS + 1, place % MOST_CELLS + 1) {
         None => &[],
         Some(text) => text,
+    }
+}
+
+/// Whether the grid has a cell at this row and column, numbered from 1.
+pub fn has_cell(grid: &Grid, row: usize, column: usize) -> bool
+    ensures { result ≡ is_some (cell_at grid.now row column) }
+{
+    match grid.cell(row, column) {
+        None => false,
+        Some(_) => true,
     }
 }

@@ -7,7 +7,7 @@ ghost use Rattle.grid_formulas.specs.Cells.{IsSheetFault, link_count, reads_if};
 ghost use Rattle.grid_formulas.specs.Places.{reads_of, text_at};
 ghost use Rattle.grid_formulas.specs.Sheets.{Gathers, IsGatherFault, KnowsFormulas};
 
-use crate::cells::{Node, text_at};
+use crate::cells::{Node, has_cell, text_at};
 use crate::reader::{formula, is_formula};
 use crate::{SheetFault, Step, Value};
 use grid_sheet::{Grid, MOST_CELLS};
@@ -66,6 +66,32 @@ fn gather_cell(
     Ok(count + named)
 }
 
+// Reads the cells of a row, numbered from 0, as far as there are any.
+fn gather_row(
+    alloc: Global,
+    grid: &Grid,
+    nodes: &mut BTreeMap<usize, Node>,
+    mut count: usize,
+    row: usize,
+) -> Result<usize, SheetFault>
+    requires gathers { Gathers (text_at grid.now) (get nat_cmp nodes.old) (row * 1024) count }
+    requires there { row < length grid.now }
+    requires grid { IsGrid grid.now }
+    ensures ok { IfOk result (λ more. Gathers (text_at grid.now) (get nat_cmp nodes.new) ((row + 1) * 1024) more) }
+    ensures refused { IfErr result (IsSheetFault grid.now) }
+{
+    'columns: for column in 0..MOST_CELLS {
+        if !has_cell(grid, row + 1, column + 1) {
+            return Ok(count);
+        }
+        match gather_cell(alloc, grid, nodes, count, row * MOST_CELLS + column) {
+            Ok(more) => count = more,
+            Err(fault) => return Err(fault),
+        }
+    }
+    Ok(count)
+}
+
 /// The formula cells of a grid.
 pub fn gather(alloc: Global, grid: &Grid) -> Result<BTreeMap<usize, Node>, SheetFault>
     requires { IsGrid grid.now }
@@ -75,8 +101,8 @@ pub fn gather(alloc: Global, grid: &Grid) -> Result<BTreeMap<usize, Node>, Sheet
 {
     let mut nodes = BTreeMap::new(alloc);
     let mut count = 0;
-    'places: for place in 0..grid.rows() * MOST_CELLS {
-        match gather_cell(alloc, grid, &mut nodes, count, place) {
+    'rows: for row in 0..grid.rows() {
+        match gather_row(alloc, grid, &mut nodes, count, row) {
             Ok(more) => count = more,
             Err(fault) => return Err(fault),
         }
