@@ -4,5 +4,6 @@ pub mod Gathered
 pub mod Looks
 pub mod ReaderLemmas
 pub mod Sheeted
+pub mod Shown
 pub mod Valued
 pub mod Walks

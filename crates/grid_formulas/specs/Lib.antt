@@ -4,4 +4,5 @@ pub mod Numbers
 pub mod Places
 pub mod Reading
 pub mod Sheets
+pub mod Texts
 pub mod Values

@@ -12,6 +12,7 @@ mod reader;
 mod reference;
 mod settle;
 mod sheet;
+mod text;
 mod value;
 mod values;
 

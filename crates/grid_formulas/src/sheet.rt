@@ -4,6 +4,8 @@ ghost use Rattle.std.specs.Ordering.{nat_cmp};
 ghost use Rattle.std.specs.BTreeMap.{get};
 ghost use Rattle.grid_sheet.specs.Edits.{after_set};
 ghost use Rattle.grid_sheet.specs.Rows.{IsGrid};
+ghost use Rattle.grid_sheet.specs.Text.{write_of};
+ghost use Rattle.grid_formulas.specs.Texts.{shown_rows};
 ghost use Rattle.grid_formulas.specs.Cells.{IsSheetFault, cell_value, value_of};
 ghost use Rattle.grid_formulas.specs.Changes.{changed_cells, same_value};
 ghost use Rattle.grid_formulas.specs.Places.{text_at};
@@ -13,12 +15,12 @@ use crate::cells::Node;
 use crate::evaluate::value_at;
 use crate::gather::gather;
 use crate::values::values_of;
-use crate::{SheetFault, Value};
+use crate::{SheetFault, Value, text};
 use grid_sheet::{Grid, MOST_CELLS, MOST_ROWS};
 use std::alloc::Global;
 use std::collections::BTreeMap;
 use std::marker::Model;
-use wopi_text::Memory;
+use wopi_text::{Bytes, Memory};
 
 /// The cells whose value a change made another, by row and column.
 #[derive(Drop)]
@@ -153,7 +155,20 @@ impl Sheet {
         Ok(Changed { cells })
     }
 
-    fn rows(&self) -> usize
+    /// The text of the grid, with each formula cell's value in its place.
+    pub fn values_text(&self) -> Result<Bytes, Memory>
+        ensures { IfOk result (λ text. text ≡ write_of (shown_rows self.now)) }
+    {
+        Ok(Bytes::from_vec(text::values_text(self.alloc, self)?))
+    }
+
+    pub(crate) fn grid(&self) -> &Grid
+        ensures { result.now ≡ self.now }
+    {
+        &self.grid
+    }
+
+    pub(crate) fn rows(&self) -> usize
         ensures count { result ≡ length self.now }
         ensures form { IsGrid self.now }
     {
@@ -161,7 +176,7 @@ impl Sheet {
     }
 
     // The value of the cell at a place.
-    fn at(&self, place: usize) -> Value
+    pub(crate) fn at(&self, place: usize) -> Value
         ensures { result ≡ value_of (text_at self.now) place }
     {
         value_in(&self.grid, &self.nodes, &self.values, place)
