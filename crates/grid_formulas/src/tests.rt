@@ -44,6 +44,21 @@ fn sums_and_products_follow_a_set(rt: HostRuntime) -> Result<(), Fail> {
     Ok(())
 }
 
+fn expect_text(rt: &impl Abort, sheet: &Sheet, expected: &str) -> Result<(), Fail> {
+    let written = sheet.values_text()?;
+    assert_eq!(rt; written.as_slice(), expected.as_bytes());
+    Ok(())
+}
+
+#[test]
+fn the_text_of_a_sheet_has_its_values(rt: HostRuntime) -> Result<(), Fail> {
+    let alloc = rt.alloc();
+    let numbers = sheet_of(alloc, "1,2,=A1+B1\n=SUM(A1:C1),=A2*2,x\n")?;
+    expect_text(&rt, &numbers, "1,2,3\n6,12,x\n")?;
+    let faults = sheet_of(alloc, "=B1,=A1,=A1,=1+\n")?;
+    expect_text(&rt, &faults, "#CYCLE,#CYCLE,#CYCLE,#NAME\n")
+}
+
 #[test]
 fn a_cycle_and_its_neighbour_get_values_once_it_is_cut(rt: HostRuntime) -> Result<(), Fail> {
     let alloc = rt.alloc();
