@@ -1,12 +1,12 @@
 //! A sheet: a grid and the values of its cells.
-ghost use Rattle.std.specs.Prelude.{◌≡◌, ◌*◌, ◌+◌, IfOk, IfErr, OnOk, OnErr, Ok, List, ℕ, length};
+ghost use Rattle.std.specs.Prelude.{◌≡◌, ◌≤◌, ◌*◌, ◌+◌, IfOk, IfErr, OnOk, OnErr, Ok, List, ℕ, length};
 ghost use Rattle.std.specs.Ordering.{nat_cmp};
 ghost use Rattle.std.specs.BTreeMap.{get};
 ghost use Rattle.grid_sheet.specs.Edits.{after_set};
 ghost use Rattle.grid_sheet.specs.Rows.{IsGrid};
 ghost use Rattle.grid_sheet.specs.Text.{write_of};
 ghost use Rattle.grid_formulas.specs.Texts.{shown_rows};
-ghost use Rattle.grid_formulas.specs.Cells.{IsSheetFault, cell_value, value_of};
+ghost use Rattle.grid_formulas.specs.Cells.{IsSheetFault, cell_value, link_count, value_of};
 ghost use Rattle.grid_formulas.specs.Changes.{changed_cells, same_value};
 ghost use Rattle.grid_formulas.specs.Places.{text_at};
 ghost use Rattle.grid_formulas.specs.Sheets.{IsSheet};
@@ -113,6 +113,7 @@ impl Sheet {
     /// The sheet of a grid, of which it keeps a copy.
     pub fn new(alloc: Global, grid: &Grid) -> Result<Sheet, SheetFault>
         ensures grid { IfOk result (λ sheet. sheet ≡ grid.now) }
+        ensures few { IfOk result (λ _. link_count (text_at grid.now) ≤ 1000000) }
         ensures refused { IfErr result (IsSheetFault grid.now) }
     {
         let _rows = grid.rows();
@@ -144,6 +145,7 @@ impl Sheet {
     pub fn set(&mut self, grid: &Grid, row: usize, column: usize) -> Result<Changed, SheetFault>
         requires { (text : List ℕ) × (after_set self.old row column text ≡ Ok grid.now) }
         ensures grid { OnOk result (self.new ≡ grid.now) }
+        ensures few { IfOk result (λ _. link_count (text_at grid.now) ≤ 1000000) }
         ensures changed { IfOk result (λ cells. cells ≡ changed_cells self.old grid.now) }
         ensures refused { IfErr result (IsSheetFault grid.now) }
         ensures kept { OnErr result (self.new ≡ self.old) }
