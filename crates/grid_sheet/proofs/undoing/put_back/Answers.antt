@@ -16,5 +16,5 @@ rows-preserved c =
     let later = all_put_back c.args.column (drop (c.rows.place + 1) hads) (drop (c.rows.place + 1) texts) (drop (c.rows.place + 1) (rows_of rows)) in
     ap (λ l. rows_of l ++ later) c.in_ok-push.ensures.items
     ∙ back_more c.args.column hads texts rows c.rows.edited.items (all_put_back c.args.column hads texts (rows_of rows)) c.rows.place
-    c.index.result.now c.cell_at-text.result.now c.index-in-rows.result.now c.in_ok-cells_put_back.field-0 first second there
-    c.index.ensures c.cell_at-text.ensures c.index-in-rows.ensures c.in_ok-cells_put_back.ensures c.rows.invariant
+    c.index-in-rows.result.now c.cell_at-text.result.now c.index.result.now c.in_ok-cells_put_back.field-0 first second there
+    c.index-in-rows.ensures c.cell_at-text.ensures c.index.ensures c.in_ok-cells_put_back.ensures c.rows.invariant
