@@ -1,1 +1,3 @@
 mod ScriptLemmas
+mod WordLemmas
+mod TurnLemmas

@@ -1,7 +1,11 @@
 -- The lines of a text, and what they say.
-use Rattle.std.proofs.Common.{◌≡◌, ◌≢◌, ℕ, ◌+◌, ◌-◌, ◌*◌, ◌<◌, ◌≤◌, ◌==◌, ◌⊎◌, Bool, true, false, cond, List, [], ◌∷◌, ◌++◌, Result, Ok, Err, length, refl, sym, ap, ◌∙◌, subst, arith, append_assoc, append-nil, inl, inr}
+use Rattle.std.proofs.Common.{◌≡◌, ◌≢◌, ℕ, ◌+◌, ◌-◌, ◌*◌, ◌<◌, ◌≤◌, ◌==◌, ◌⊎◌, Bool, true, false, cond, List, [], ◌∷◌, ◌++◌, Result, Ok, Err, length, get_or, take, drop, refl, sym, ap, ◌∙◌, subst, arith, append_assoc, append-nil, inl, inr}
+use Rattle.std.specs.Prelude.{IfErr, OnOk, Option, None, Some}
+use Rattle.std.specs.Io.KnownBytes.{Consumes, IsAtEnd}
+use Rattle.outside.specs.Stream.{Are}
+use Rattle.grid_editor.specs.Inputs.{HasTaken, IsInputRead, fault_of, input_result}
 use Rattle.std.specs.List.{AllByRecursion}
-use Rattle.std.proofs.lemmas.List.{length-append}
+use Rattle.std.proofs.lemmas.List.{length-append, take-append-drop, take_more}
 use Rattle.std.proofs.lemmas.Bool.{ne_eqb}
 use Rattle.grid_editor.specs.declared.command.Command.{Command}
 use Rattle.grid_editor.specs.declared.script.Reader.{Reader}
@@ -160,7 +164,7 @@ bad_line whole old done after number lines good count bad = record {
 }
 
 pub feed_bad : (text : List ℕ) (old new : Reader) (fault : ScriptFault) → IsSoFar text old → IsLineFault old fault → IsTaken (text ++ 10 ∷ []) new (Err fault)
-feed_bad text old new (BadCommand number) so bad more =
+feed_bad text old new (BadCommand number) so bad = λ more.
     bad_line ((text ++ 10 ∷ []) ++ more) old so.done (lines_of more) number
     (ap lines_of (append_assoc text (10 ∷ []) more) ∙ so.splits (10 ∷ more) ∙ ap (λ l. so.done ++ l) (lines_of-feed (bytes old) more so.line_is)) so.good so.count bad
 feed_bad text old new Memory so bad = tt
@@ -202,3 +206,92 @@ begun reader none zero_lines empty =
       short = omega (arith, n);
       room = λ some. absurd (omega (arith, n, some));
     }
+
+-- ---- results
+
+fed : (text : List ℕ) (old new : Reader) (r : Result (Unit {0}) ScriptFault) → IsSoFar text old → OnOk r (Ends old new) → IfErr r (IsLineFault old) → IsTaken (text ++ 10 ∷ []) new r
+fed text old new (Ok u) so ends fine = feed_taken text old new so ends
+fed text old new (Err fault) so fine bad = feed_bad text old new fault so bad
+
+pub feed_result : (text : List ℕ) (old new : Reader) (b : ℕ) (r : Result (Unit {0}) ScriptFault) → b ≡ 10 → IsSoFar text old → OnOk r (Ends old new) → IfErr r (IsLineFault old)
+    → IsTaken (text ++ b ∷ []) new r
+feed_result text old new b r is so ok refused = subst (λ x. IsTaken (text ++ x ∷ []) new r) (sym is) (fed text old new r so ok refused)
+
+-- a line that has come to its end leaves room for less
+pub ends_room : (old new : Reader) (r : Result (Unit {0}) ScriptFault) → OnOk r (Ends old new) → OnOk r (room_of new + 1 ≤ room_of old)
+ends_room old new (Err fault) h = tt
+ends_room old new (Ok u) h =
+    let w = h.within in
+    let e = h.count in
+    let none : length (bytes new) ≡ 0 = ap length h.empty in
+    omega (arith, w, e, none)
+
+-- ---- an input
+
+take_on : (left mid left' : Option (List ℕ)) (front piece : List ℕ) → Consumes left mid front → Consumes mid left' piece → Consumes left left' (front ++ piece)
+take_on None mid left' front piece a b = tt
+take_on (Some left) None left' front piece a b = absurd a
+take_on (Some left) (Some mid) None front piece a b = absurd b
+take_on (Some left) (Some mid) (Some left') front piece a b = a ∙ ap (λ l. front ++ l) b ∙ sym (append_assoc front piece left')
+
+consumes_none : (left : Option (List ℕ)) → Consumes left left []
+consumes_none None = tt
+consumes_none (Some left) = refl
+
+pub nothing_taken : (left : Option (List ℕ)) (reader : Reader) → IsSoFar [] reader → HasTaken left left reader
+nothing_taken left reader so = record { front = []; consumed = consumes_none left; so_far = so }
+
+pub taken_on : (left mid left' : Option (List ℕ)) (old new : Reader) (piece : List ℕ) → HasTaken left mid old → Consumes mid left' piece
+    → ((text : List ℕ) → IsSoFar text old → IsTaken (text ++ piece) new (Ok tt)) → HasTaken left left' new
+taken_on left mid left' old new piece so consumed took =
+    record { front = so.front ++ piece; consumed = take_on left mid left' so.front piece so.consumed consumed; so_far = took so.front so.so_far }
+
+whole_of : (left left' : Option (List ℕ)) (front : List ℕ) → Consumes left left' front → (rest : List ℕ) × Are left (front ++ rest)
+whole_of None left' front consumed = ([], tt)
+whole_of (Some left) None front consumed = absurd consumed
+whole_of (Some left) (Some rest) front consumed = (rest, consumed)
+
+pub bad_input : (left mid left' : Option (List ℕ)) (old new : Reader) (piece : List ℕ) (fault : ScriptFault) → HasTaken left mid old → Consumes mid left' piece
+    → ((text : List ℕ) → IsSoFar text old → IsTaken (text ++ piece) new (Err fault)) → IsInputRead left (Err (fault_of fault))
+bad_input left mid left' old new piece Memory so consumed took = tt
+bad_input left mid left' old new piece (BadCommand number) so consumed took =
+    let whole = whole_of left left' (so.front ++ piece) (take_on left mid left' so.front piece so.consumed consumed) in
+    record { text = (so.front ++ piece) ++ whole.0; text_is = whole.1; bad = took so.front so.so_far whole.0 }
+
+at_its_end : (left left' : Option (List ℕ)) (front : List ℕ) → Consumes left left' front → IsAtEnd left' → Are left front
+at_its_end None left' front a end = tt
+at_its_end (Some left) None front a end = absurd a
+at_its_end (Some left) (Some rest) front a end = a ∙ ap (λ l. front ++ l) end ∙ append-nil front
+
+pub whole_input : (left left' : Option (List ℕ)) (old : Reader) (read : Result (List Command) ScriptFault) → HasTaken left left' old
+    → IsAtEnd left' → ((text : List ℕ) → IsSoFar text old → IsRead text read) → IsInputRead left (input_result read)
+whole_input left left' old (Ok commands) so end reads =
+    record { text = so.front; text_is = at_its_end left left' so.front so.consumed end; good = reads so.front so.so_far }
+whole_input left left' old (Err (BadCommand number)) so end reads =
+    record { text = so.front; text_is = at_its_end left left' so.front so.consumed end; bad = reads so.front so.so_far }
+whole_input left left' old (Err Memory) so end reads = tt
+
+-- ---- faults
+
+pub byte_refused : (text : List ℕ) (old new : Reader) (b : ℕ) (f : ScriptFault) → f ≡ BadCommand (old.lines + 1) → IsSoFar text old → b ≢ 10
+    → (most_lines ≤ old.lines) ⊎ (most_bytes ≤ length (bytes old)) → IsTaken (text ++ b ∷ []) new (Err f)
+byte_refused text old new b f is so other past =
+    subst (λ x. IsTaken (text ++ b ∷ []) new (Err x)) (sym is) (byte_bad text old b (old.lines + 1) so other past refl)
+
+-- what was bad stays so, however the piece goes on
+pub bad_stays : (text piece : List ℕ) (i b : ℕ) (new last : Reader) (fault : ScriptFault) → i < length piece → b ≡ get_or piece i 0
+    → IsTaken ((text ++ take i piece) ++ b ∷ []) new (Err fault) → IsTaken (text ++ piece) last (Err fault)
+bad_stays text piece i b new last Memory within is bad = tt
+bad_stays text piece i b new last (BadCommand number) within is bad = λ more.
+    let front = take (i + 1) piece in
+    let rest = drop (i + 1) piece in
+    let so : (text ++ take i piece) ++ b ∷ [] ≡ text ++ front =
+    append_assoc text (take i piece) (b ∷ []) ∙ ap (λ l. text ++ l) (ap (λ x. take i piece ++ x ∷ []) is ∙ sym (take_more piece i 0 within)) in
+    let whole : ((text ++ take i piece) ++ b ∷ []) ++ (rest ++ more) ≡ (text ++ piece) ++ more =
+    ap (λ l. l ++ (rest ++ more)) so ∙ append_assoc text front (rest ++ more) ∙ ap (λ l. text ++ l) (sym (append_assoc front rest more))
+    ∙ ap (λ l. text ++ (l ++ more)) (take-append-drop (i + 1) piece) ∙ sym (append_assoc text piece more) in
+    subst (λ l. IsFirstBad l number) whole (bad (rest ++ more))
+
+pub taken_read : (text : List ℕ) (new : Reader) (fault : ScriptFault) → IsTaken text new (Err fault) → IsRead text (Err fault)
+taken_read text new Memory bad = tt
+taken_read text new (BadCommand number) bad = subst (λ l. IsFirstBad l number) (append-nil text) (bad [])

@@ -6,3 +6,4 @@ pub mod Sheets
 pub mod Lines
 pub mod Turns
 pub mod Runs
+pub mod Inputs

@@ -36,6 +36,11 @@ room_of reader = (most_lines - reader.lines) * 20001 + (most_bytes - length read
 abbrev pub Adds : List ℕ → List Command → List Command → Type 0
 Adds line old new = (IsIdle line × (new ≡ old)) ⊎ ((command : Command) × Says line command × (new ≡ old ++ command ∷ []))
 
+-- why the line with this number is refused: it says no command, and does something
+abbrev pub IsUnread : ℕ → List ℕ → ScriptFault → Type 0
+IsUnread number line (BadCommand at) = (at ≡ number) × ¬ IsIdle line × ((command : Command) → ¬ Says line command)
+IsUnread number line Memory = ⊤
+
 -- the line came to its end within the limits, and was read
 pub record Ends (old new : Reader) : Type 0 where
   pub within : old.lines < most_lines

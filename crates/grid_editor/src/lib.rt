@@ -3,6 +3,7 @@
 
 mod command;
 mod editor;
+mod input;
 mod lines;
 mod script;
 mod sheet;
@@ -11,6 +12,10 @@ mod words;
 
 pub use command::Command;
 pub use editor::Editor;
+pub use input::{InputFault, read_script};
 pub use script::{MOST_BYTES, MOST_LINES, Script, ScriptFault};
 pub use sheet::MOST_UNDOS;
 pub use turns::{EditFault, Went};
+
+#[cfg(test)]
+mod tests;

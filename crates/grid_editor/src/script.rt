@@ -3,7 +3,7 @@ ghost use Rattle.std.specs.Prelude.{◌≡◌, ◌↔◌, IsTrue, ◌+◌, ◌�
 ghost use Rattle.grid_editor.specs.Commands.{IsIdle};
 ghost use Rattle.grid_editor.specs.Scripts.{IsRead, most_lines};
 ghost use Rattle.grid_editor.specs.declared.script.ScriptFault.TheVariants.{BadCommand};
-ghost use Rattle.grid_editor.specs.Reading.{Ends, IsLineFault, IsSoFar, IsTaken, room_of};
+ghost use Rattle.grid_editor.specs.Reading.{Adds, Ends, IsLineFault, IsSoFar, IsTaken, IsUnread, room_of};
 
 use crate::command::Command;
 use crate::words::command_in;
@@ -60,8 +60,8 @@ impl Script {
     {
         let mut reader = Reader::new(alloc);
         match reader.take_all(text) {
-            Ok(()) => reader.finish(),
-            Err(fault) => Err(fault),
+            Ok(()) => return reader.finish(),
+            Err(fault) => return Err(fault),
         }
     }
 
@@ -103,6 +103,29 @@ pub(crate) struct Reader {
     commands: Vec<Command>,
     lines: usize,
     line: Vec<u8>,
+}
+
+/// Adds the command of a whole line, where it says one. The line has this number.
+fn add_command(
+    alloc: Global,
+    commands: &mut Vec<Command>,
+    line: &[u8],
+    number: u64,
+) -> Result<(), ScriptFault>
+    ensures ok { OnOk result (Adds line.now commands.old.items commands.new.items) }
+    ensures refused { IfErr result (IsUnread number line.now) }
+{
+    if is_idle(line) {
+        return Ok(());
+    }
+    match command_in(alloc, line) {
+        Ok(Some(command)) => {
+            commands.push(command)?;
+            return Ok(());
+        }
+        Ok(None) => return Err(ScriptFault::BadCommand { line: number }),
+        Err(Memory) => return Err(ScriptFault::Memory),
+    }
 }
 
 /// Whether the line does nothing.
@@ -158,7 +181,10 @@ impl Reader {
         ensures smaller { OnOk result (room_of self.new + length piece.now ≤ room_of self.old) }
     {
         'bytes: for byte in piece {
-            self.take(*byte)?;
+            match self.take(*byte) {
+                Ok(()) => {}
+                Err(fault) => return Err(fault),
+            }
         }
         Ok(())
     }
@@ -173,7 +199,10 @@ impl Reader {
         if byte == b'\n' {
             return self.end_line();
         }
-        if self.lines >= MOST_LINES || self.line.len() >= MOST_BYTES {
+        if self.lines >= MOST_LINES {
+            return Err(self.bad_line());
+        }
+        if self.line.len() >= MOST_BYTES {
             return Err(self.bad_line());
         }
         self.line.push(byte)?;
@@ -190,11 +219,10 @@ impl Reader {
         if self.lines >= MOST_LINES {
             return Err(self.bad_line());
         }
-        if !is_idle(&self.line) {
-            let Some(command) = command_in(self.alloc, &self.line)? else {
-                return Err(self.bad_line());
-            };
-            self.commands.push(command)?;
+        let number = self.lines as u64 + 1;
+        match add_command(self.alloc, &mut self.commands, &self.line, number) {
+            Ok(()) => {}
+            Err(fault) => return Err(fault),
         }
         self.lines += 1;
         self.line.clear();
@@ -206,12 +234,19 @@ impl Reader {
         requires { self.lines ≤ most_lines }
         ensures { (text : List ℕ) → IsSoFar text self → IsRead text result }
     {
-        if !self.line.is_empty() {
-            self.end_line()?;
+        if self.line.is_empty() {
+            return Ok(Script {
+                commands: self.commands,
+            });
         }
-        Ok(Script {
-            commands: self.commands,
-        })
+        match self.end_line() {
+            Ok(()) => {
+                return Ok(Script {
+                    commands: self.commands,
+                });
+            }
+            Err(fault) => return Err(fault),
+        }
     }
 
     fn bad_line(&self) -> ScriptFault

@@ -1,6 +1,5 @@
 //! Lines of a script, read as commands.
-ghost use Rattle.std.specs.Prelude.{◌≡◌, ◌≢◌, ◌∷◌, ◌++◌, ◌<◌, ◌^◌, ℕ, List, IfOk, IfSome, IfNone, decimal};
-ghost use Rattle.wopi_text.specs.FileName.{IsFileName};
+ghost use Rattle.std.specs.Prelude.{◌≡◌, ◌≢◌, ◌∷◌, ◌++◌, ◌<◌, ◌^◌, ℕ, List, IfOk, IfSome, IfNone, decimal, position, ◌==◌};
 ghost use Rattle.grid_editor.specs.Commands.{Says};
 ghost use Rattle.grid_editor.specs.Kinds.{IsBare, IsNumbered, SaysSet, SaysName};
 
@@ -122,13 +121,20 @@ fn number_before_space(text: &[u8]) -> Option<(u64, &[u8])>
     ensures some { IfSome result (λ found. (found.0 < 2 ^ 64) × (text.now ≡ decimal found.0 ++ 32 ∷ found.1.now)) }
     ensures none { IfNone result ((number : ℕ) (rest : List ℕ) → number < 2 ^ 64 → text.now ≢ decimal number ++ 32 ∷ rest) }
 {
-    let Some(at) = text.iter().position(|byte| *byte == b' ') else {
+    let Some(at) = first_space(text) else {
         return None;
     };
     let Some(number) = decimal_read(&text[..at]) else {
         return None;
     };
     Some((number, &text[at + 1..]))
+}
+
+/// The place of the first space.
+fn first_space(text: &[u8]) -> Option<usize>
+    ensures { result ≡ position (λ byte. byte == 32) text.now }
+{
+    text.iter().position(|byte| *byte == b' ')
 }
 
 /// What stands behind a word that begins the line.
