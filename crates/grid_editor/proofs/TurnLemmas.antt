@@ -1,6 +1,8 @@
 -- What an editor does about a command, put together.
-use Rattle.std.proofs.Common.{◌≡◌, ◌≢◌, ℕ, ◌+◌, ◌≤◌, ◌^◌, min, Bool, true, false, List, [], ◌∷◌, ◌++◌, Option, None, Some, Result, Ok, Err, length, take, refl, sym, ap, ◌∙◌, subst, arith, append_assoc, append-nil, inl, inr}
+use Rattle.std.proofs.Common.{◌≡◌, ◌≢◌, ℕ, ◌+◌, ◌≤◌, ◌^◌, min, Bool, true, false, List, [], ◌∷◌, ◌++◌, Option, None, Some, Result, Ok, Err, length, get_or, take, drop, ◌<◌, refl, sym, ap, ◌∙◌, subst, arith, append_assoc, append-nil, inl, inr}
 use Rattle.std.specs.Io.KnownBytes.{Appends}
+use Rattle.std.proofs.lemmas.List.{drop_more}
+use Rattle.outside.specs.Stream.{GrewByPrefix}
 use Rattle.outside.specs.declared.dialer.Exchange.{Exchange}
 use Rattle.save_session.specs.declared.output.Outcome.{Outcome}
 use Rattle.save_session.specs.declared.output.Outcome.TheVariants as outcome
@@ -110,3 +112,69 @@ pub leads_end : (start now new : Editor) (all rest later : List Command) (asked 
     → Runs start all new result (written ++ first) (sent ++ more)
 leads_end start now new all rest later asked result written first sent more is leads does other =
     leads new result first more (subst (λ l. Runs now l new result first more) (sym is) (ends now new asked later result first more does other))
+
+-- ---- a command
+
+pub writes_ok : (a b : Option (List ℕ)) (t u : Option (List Exchange)) (f g : ℕ) (old new : Editor) (asked : Command) (turn : Turn) → Appends a b turn.line
+    → Made t u f g (Does old asked new (Ok turn)) → Writes a b t u f g (Commands old asked new (Ok turn.went))
+writes_ok a b t u f g old new asked turn grew made = record {
+  written = turn.line;
+  grew = grew;
+  made = made_so t u f g (Does old asked new (Ok turn)) (Commands old asked new (Ok turn.went) turn.line) made (λ exchanges does. (turn, does, refl, refl));
+}
+
+pub writes_cut : (a b : Option (List ℕ)) (t u : Option (List Exchange)) (f g : ℕ) (old new : Editor) (asked : Command) (turn : Turn) → GrewByPrefix a b turn.line
+    → Made t u f g (Does old asked new (Ok turn)) → Writes a b t u f g (Commands old asked new (Err fault.WriteFault))
+writes_cut a b t u f g old new asked turn (front, rest, is, grew) made = record {
+  written = front;
+  grew = grew;
+  made = made_so t u f g (Does old asked new (Ok turn)) (Commands old asked new (Err fault.WriteFault) front) made (λ exchanges does. (turn, rest, does, is));
+}
+
+pub writes_none : (a : Option (List ℕ)) (t u : Option (List Exchange)) (f g : ℕ) (old new : Editor) (asked : Command) (why : EditFault) → (why ≡ fault.WriteFault → ⊥)
+    → Made t u f g (Does old asked new (Err why)) → Writes a a t u f g (Commands old asked new (Err why))
+writes_none a t u f g old new asked (fault.BadReply at) other made = record {
+  written = [];
+  grew = appends_none a;
+  made = made_so t u f g (Does old asked new (Err (fault.BadReply at))) (Commands old asked new (Err (fault.BadReply at)) []) made (λ exchanges does. (does, refl));
+}
+writes_none a t u f g old new asked fault.WriteFault other made = absurd (other refl)
+writes_none a t u f g old new asked fault.Memory other made = record {
+  written = [];
+  grew = appends_none a;
+  made = made_so t u f g (Does old asked new (Err fault.Memory)) (Commands old asked new (Err fault.Memory) []) made (λ exchanges does. (does, refl));
+}
+
+-- ---- a run's steps
+
+pub run_starts : (a : Option (List ℕ)) (t : Option (List Exchange)) (f : ℕ) (start : Editor) (all : List Command) → Writes a a t t f f (Leads start all start all)
+run_starts a t f start all = record {
+  written = [];
+  grew = appends_none a;
+  made = made_none t f (Leads start all start all []) (leads_start start all);
+}
+
+pub run_on : (a b c : Option (List ℕ)) (t u v : Option (List Exchange)) (f g h : ℕ) (start now next : Editor) (all rest later : List Command) (asked : Command) → rest ≡ asked ∷ later
+    → Writes a b t u f g (Leads start all now rest) → Writes b c u v g h (Commands now asked next (Ok On)) → Writes a c t v f h (Leads start all next later)
+run_on a b c t u v f g h start now next all rest later asked is so does =
+    writes_then a b c t u v f g h (Leads start all now rest) (Commands now asked next (Ok On)) (Leads start all next later) so does
+    (λ first second sent more leads commands. leads_on start now next all rest later asked first second sent more is leads commands)
+
+pub run_over : (a b : Option (List ℕ)) (t u : Option (List Exchange)) (f g : ℕ) (start now : Editor) (all rest : List Command) → rest ≡ []
+    → Writes a b t u f g (Leads start all now rest) → Writes a b t u f g (Runs start all now (Ok On))
+run_over a b t u f g start now all rest none so = record {
+  written = so.written;
+  grew = so.grew;
+  made = made_so t u f g (Leads start all now rest so.written) (Runs start all now (Ok On) so.written) so.made (λ exchanges leads. leads_over start now all rest so.written exchanges none leads);
+}
+
+pub run_ends : (a b c : Option (List ℕ)) (t u v : Option (List Exchange)) (f g h : ℕ) (start now new : Editor) (all rest later : List Command) (asked : Command) (result : Result Went EditFault)
+    → rest ≡ asked ∷ later → result ≢ Ok On → Writes a b t u f g (Leads start all now rest) → Writes b c u v g h (Commands now asked new result) → Writes a c t v f h (Runs start all new result)
+run_ends a b c t u v f g h start now new all rest later asked result is other so does =
+    writes_then a b c t u v f g h (Leads start all now rest) (Commands now asked new result) (Runs start all new result) so does
+    (λ first second sent more leads commands. leads_end start now new all rest later asked result first second sent more is leads commands other)
+
+-- the next command
+pub next_is : (script items : List Command) (i : ℕ) (asked : Command) → items ≡ script → i < length items → asked ≡ get_or items i asked → drop i script ≡ asked ∷ drop (i + 1) script
+next_is script items i asked same within is =
+    ap (drop i) (sym same) ∙ drop_more items i asked within ∙ ap (λ c. c ∷ drop (i + 1) items) (sym is) ∙ ap (λ l. asked ∷ drop (i + 1) l) same

@@ -8,9 +8,9 @@ ghost use Rattle.grid_editor.specs.Turns.{Copies, Does, Drives, IsAlone, Refresh
 ghost use Rattle.grid_editor.specs.Runs.{Commands, Runs, Writes};
 
 use crate::command::Command;
-use crate::turns::{EditFault, Turn, Went, copy_told, done, not_open, taken, writes};
 use crate::script::Script;
 use crate::sheet::Sheet;
+use crate::turns::{EditFault, Turn, Went, copy_told, done, not_open, taken, writes};
 use outside::{Dialer, Failed, Sink, write_whole};
 use save_session::{Input, Nonce, Session};
 use std::alloc::Global;
@@ -122,11 +122,7 @@ fn turn<D: Dialer>(
 }
 
 /// Drives the session by an input.
-fn driven<D: Dialer>(
-    editor: &mut Editor,
-    dialer: &mut D,
-    input: Input,
-) -> Result<Turn, EditFault>
+fn driven<D: Dialer>(editor: &mut Editor, dialer: &mut D, input: Input) -> Result<Turn, EditFault>
     ensures desktop { editor.new.desktop ≡ editor.old.desktop }
     ensures nonce { nonce_of editor.new.session ≡ nonce_of editor.old.session }
     ensures drives { Made (D.exchanges dialer.old) (D.exchanges dialer.new) (D.faults dialer.old) (D.faults dialer.new) (Drives editor.old input editor.new result) }
@@ -185,7 +181,13 @@ fn copied<D: Dialer>(
     };
     match sheet.write() {
         Ok(text) => {
-            let came = save_as(editor.alloc, &editor.desktop, dialer, name.as_str(), text.as_slice());
+            let came = save_as(
+                editor.alloc,
+                &editor.desktop,
+                dialer,
+                name.as_str(),
+                text.as_slice(),
+            );
             return copy_told(editor.alloc, came);
         }
         Err(Memory) => return Err(EditFault::Memory),

@@ -29,11 +29,7 @@ pub(crate) fn outcome_line(alloc: Global, outcome: &Outcome) -> Result<Bytes, Me
 }
 
 /// The line of a sheet that was opened.
-pub(crate) fn opened_line(
-    alloc: Global,
-    version: Option<u64>,
-    rows: usize,
-) -> Result<Bytes, Memory>
+pub(crate) fn opened_line(alloc: Global, version: Option<u64>, rows: usize) -> Result<Bytes, Memory>
     ensures { IfOk result (λ line. line ≡ opened_line version rows) }
 {
     let mut line = b"opened ".to_vec(alloc)?;

@@ -165,10 +165,7 @@ fn went_of(outcome: Outcome) -> Went
 }
 
 /// What is written of how a copy came out.
-pub(crate) fn copy_told(
-    alloc: Global,
-    came: Result<AsOutcome, AsFault>,
-) -> Result<Turn, EditFault>
+pub(crate) fn copy_told(alloc: Global, came: Result<AsOutcome, AsFault>) -> Result<Turn, EditFault>
     ensures told { IsCopyTold came result }
     ensures no_write { IsErrOf result EditFault.WriteFault → ⊥ }
 {

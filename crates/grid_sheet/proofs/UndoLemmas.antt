@@ -244,10 +244,10 @@ back_more column hads texts rows edited total i had text row added a b c is_had 
     let texts_are : drop i texts ≡ text ∷ drop (i + 1) texts = drop_more texts i [] b ∙ ap (λ x. x ∷ drop (i + 1) texts) (sym is_text) in
     let cells : get_or (map fields_of rows) i (fields_of row) ≡ fields_of row = get_or-map fields_of rows i row (fields_of row) c ∙ ap fields_of (sym is_row) in
     let rows_are : drop i (map fields_of rows) ≡ fields_of row ∷ drop (i + 1) (map fields_of rows)
-        = drop_more (map fields_of rows) i (fields_of row) (omega (arith, n, c)) ∙ ap (λ x. x ∷ drop (i + 1) (map fields_of rows)) cells in
+    = drop_more (map fields_of rows) i (fields_of row) (omega (arith, n, c)) ∙ ap (λ x. x ∷ drop (i + 1) (map fields_of rows)) cells in
     let rest : all_put_back column (drop i hads) (drop i texts) (drop i (map fields_of rows)) ≡ put_back column had text (fields_of row) ∷ later
-        = ap (λ l. all_put_back column l (drop i texts) (drop i (map fields_of rows))) hads_are
-        ∙ ap (λ l. all_put_back column (had ∷ drop (i + 1) hads) l (drop i (map fields_of rows))) texts_are
-        ∙ ap (λ l. all_put_back column (had ∷ drop (i + 1) hads) (text ∷ drop (i + 1) texts) l) rows_are in
+    = ap (λ l. all_put_back column l (drop i texts) (drop i (map fields_of rows))) hads_are
+    ∙ ap (λ l. all_put_back column (had ∷ drop (i + 1) hads) l (drop i (map fields_of rows))) texts_are
+    ∙ ap (λ l. all_put_back column (had ∷ drop (i + 1) hads) (text ∷ drop (i + 1) texts) l) rows_are in
     ap (λ l. l ++ later) (map-append fields_of edited (added ∷ [])) ∙ append_assoc (map fields_of edited) (fields_of added ∷ []) later
     ∙ ap (λ x. map fields_of edited ++ (x ∷ later)) is_added ∙ ap (λ l. map fields_of edited ++ l) (sym rest) ∙ so_far

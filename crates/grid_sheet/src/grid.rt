@@ -141,7 +141,12 @@ impl Grid {
     }
 
     /// The same as [`Grid::set`], and gives what undoes it.
-    pub fn set_undoably(&mut self, row: usize, column: usize, text: &[u8]) -> Result<Undo, GridFault>
+    pub fn set_undoably(
+        &mut self,
+        row: usize,
+        column: usize,
+        text: &[u8],
+    ) -> Result<Undo, GridFault>
         ensures ok { IfOk result (λ undo. Undoes (after_set self.old row column text.now) self.old self.new undo) }
         ensures within { IsGrid self.old }
         ensures refused { IfErr result (IsRefusal (after_set self.old row column text.now)) }

@@ -5,9 +5,9 @@ ghost use Rattle.grid_sheet.specs.Rows.{IsGrid, rows_of};
 ghost use Rattle.grid_sheet.specs.Edits.{IsRefusal, after_delete_column, after_delete_row, after_insert_column, after_insert_row, after_set};
 ghost use Rattle.grid_sheet.specs.Undoing.{Fits, Undoes, all_put_back, had_of, put_back, text_in, undone};
 
+use crate::GridFault;
 use crate::cells::{cell_at, with_cell_put_in};
 use crate::edits::{self, has_cell, put_row, reaches, without_column};
-use crate::GridFault;
 use csv::ByteRecord;
 use std::alloc::{AllocError, Global};
 use wopi_text::Memory;
@@ -59,11 +59,7 @@ pub fn set(
 }
 
 /// Puts in a row of one empty cell, and gives what undoes it.
-pub fn insert_row(
-    alloc: Global,
-    rows: &mut Vec<ByteRecord>,
-    row: usize,
-) -> Result<Undo, GridFault>
+pub fn insert_row(alloc: Global, rows: &mut Vec<ByteRecord>, row: usize) -> Result<Undo, GridFault>
     requires { IsGrid (rows_of rows.old.items) }
     ensures grid { IsGrid (rows_of rows.new.items) }
     ensures ok { IfOk result (λ undo. Undoes (after_insert_row (rows_of rows.old.items) row) (rows_of rows.old.items) (rows_of rows.new.items) undo) }
@@ -172,11 +168,7 @@ fn text_in(cells: &ByteRecord, column: usize) -> &[u8]
 }
 
 // What all rows have in a column.
-fn column_of(
-    alloc: Global,
-    rows: &Vec<ByteRecord>,
-    column: usize,
-) -> Result<Column, AllocError>
+fn column_of(alloc: Global, rows: &Vec<ByteRecord>, column: usize) -> Result<Column, AllocError>
     ensures had { IfOk result (λ kept. kept.had.items ≡ map (had_of column) (rows_of rows.now.items)) }
     ensures texts { IfOk result (λ kept. fields_of kept.texts ≡ map (text_in column) (rows_of rows.now.items)) }
 {

@@ -14,7 +14,8 @@ const SAVED: &[u8] = b"HTTP/1.1 200 OK\r\nContent-Length: 0\r\nX-WOPI-ItemVersio
 const COPIED: &[u8] =
     b"HTTP/1.1 200 OK\r\nContent-Length: 33\r\n\r\n{\"Name\":\"b.csv\",\"Url\":\"http://h\"}  ";
 
-const LOCKED: &[u8] = b"HTTP/1.1 409 Conflict\r\nContent-Length: 0\r\nX-WOPI-Lock: other\r\nX-WOPI-LockFailureReason: locked\r\n\r\n";
+const LOCKED: &[u8] =
+    b"HTTP/1.1 409 Conflict\r\nContent-Length: 0\r\nX-WOPI-Lock: other\r\nX-WOPI-LockFailureReason: locked\r\n\r\n";
 
 const LOST: &[u8] =
     b"HTTP/1.1 409 Conflict\r\nContent-Length: 0\r\nX-WOPI-Lock: \r\nX-WOPI-LockFailureReason: not locked\r\n\r\n";
@@ -45,7 +46,8 @@ fn a_sheet_is_opened_edited_saved_and_closed(rt: HostRuntime) -> Result<(), Fail
 
 #[test]
 fn commands_want_an_open_sheet(rt: HostRuntime) -> Result<(), Fail> {
-    let text = b"show\nset 1 1 x\nundo\nsave\nsaveas b.csv\nrefresh\nclose\nopen\nopen\nclose\nshow\nopen\n";
+    let text =
+        b"show\nset 1 1 x\nundo\nsave\nsaveas b.csv\nrefresh\nclose\nopen\nopen\nclose\nshow\nopen\n";
     let replies = [INFO, ACCEPTED, CONTENTS, ACCEPTED];
     let left = run(rt.alloc(), text, &replies)?;
     assert!(rt; matches!(left.end, Ok(Went::On)));
@@ -59,7 +61,8 @@ fn commands_want_an_open_sheet(rt: HostRuntime) -> Result<(), Fail> {
 
 #[test]
 fn refused_edits_change_nothing(rt: HostRuntime) -> Result<(), Fail> {
-    let text = b"open\nset 2 1 x\nset 1 1025 x\ninsrow 3\ndelrow 0\ndelcol 3\nset 1 1024 x\ninscol 1\nundo\nundo\nshow\n";
+    let text =
+        b"open\nset 2 1 x\nset 1 1025 x\ninsrow 3\ndelrow 0\ndelcol 3\nset 1 1024 x\ninscol 1\nundo\nundo\nshow\n";
     let left = run(rt.alloc(), text, &[INFO, ACCEPTED, CONTENTS])?;
     expect(
         &rt,
@@ -72,7 +75,8 @@ fn refused_edits_change_nothing(rt: HostRuntime) -> Result<(), Fail> {
 #[test]
 fn a_sheet_over_the_limits_may_only_be_closed(rt: HostRuntime) -> Result<(), Fail> {
     let alloc = rt.alloc();
-    let mut wide = b"HTTP/1.1 200 OK\r\nContent-Length: 1025\r\nX-WOPI-ItemVersion: v1\r\n\r\n".to_vec(alloc)?;
+    let mut wide =
+        b"HTTP/1.1 200 OK\r\nContent-Length: 1025\r\nX-WOPI-ItemVersion: v1\r\n\r\n".to_vec(alloc)?;
     for _ in 0..1024 {
         wide.push(b',')?;
     }
@@ -100,11 +104,23 @@ fn outcomes_end_the_script(rt: HostRuntime) -> Result<(), Fail> {
     let large = b"HTTP/1.1 413 Content Too Large\r\nContent-Length: 0\r\n\r\n".as_slice();
     let large = run(alloc, text, &[INFO, ACCEPTED, CONTENTS, large])?;
     expect(&rt, &large, b"opened v1 1\ntoo large\n", 4)?;
-    let gone = run(alloc, text, &[b"HTTP/1.1 404 Not Found\r\nContent-Length: 0\r\n\r\n"])?;
+    let gone = run(
+        alloc,
+        text,
+        &[b"HTTP/1.1 404 Not Found\r\nContent-Length: 0\r\n\r\n"],
+    )?;
     expect(&rt, &gone, b"gone\n", 1)?;
-    let dead = run(alloc, text, &[b"HTTP/1.1 401 Unauthorized\r\nContent-Length: 0\r\n\r\n"])?;
+    let dead = run(
+        alloc,
+        text,
+        &[b"HTTP/1.1 401 Unauthorized\r\nContent-Length: 0\r\n\r\n"],
+    )?;
     expect(&rt, &dead, b"token dead\n", 1)?;
-    let fault = run(alloc, text, &[b"HTTP/1.1 503 Busy\r\nContent-Length: 0\r\n\r\n"])?;
+    let fault = run(
+        alloc,
+        text,
+        &[b"HTTP/1.1 503 Busy\r\nContent-Length: 0\r\n\r\n"],
+    )?;
     expect(&rt, &fault, b"host fault 503\n", 1)?;
     let silent = run(alloc, text, &[])?;
     assert!(rt; matches!(silent.end, Ok(Went::Ended(Outcome::NoAnswer))));
@@ -118,7 +134,11 @@ fn a_bad_reply_and_a_failed_write_end_it(rt: HostRuntime) -> Result<(), Fail> {
     assert!(rt; matches!(bad.end, Err(EditFault::BadReply { at: 0 })));
     expect(&rt, &bad, b"", 1)?;
     let copy = b"HTTP/1.1 200 OK\r\nContent-Length: 2\r\n\r\n{}".as_slice();
-    let bad = run(alloc, b"open\nsaveas b.csv\n", &[INFO, ACCEPTED, CONTENTS, copy])?;
+    let bad = run(
+        alloc,
+        b"open\nsaveas b.csv\n",
+        &[INFO, ACCEPTED, CONTENTS, copy],
+    )?;
     assert!(rt; matches!(bad.end, Err(EditFault::BadReply { at: 38 })));
     let script = Script::read(alloc, b"show\nshow\n")?;
     let mut host = dialer(alloc, &[])?;

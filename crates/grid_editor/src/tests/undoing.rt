@@ -23,7 +23,8 @@ undo\nundo\nshow\nundo\nshow\nundo\nshow\nundo\nshow\nundo\n";
     assert_eq!(rt;
         left.output.as_slice(),
         b"opened - 3\n2,3\n\"\"\n\"\"\n2,,3\n,\n,\n2,,3\n,\n,,x\n\"\"\n,\n,,x\n\
-2,,3\n,\n,,x\n2,,3\n,\n,\n2,3\n\"\"\n\"\"\n1,2,3\n4\n5\nnothing to undo\n".as_slice()
+2,,3\n,\n,,x\n2,,3\n,\n,\n2,3\n\"\"\n\"\"\n1,2,3\n4\n5\nnothing to undo\n"
+            .as_slice()
     );
     Ok(())
 }
