@@ -4,8 +4,8 @@ use std::alloc::Global;
 use std::process::Abort;
 use std::test::Fail;
 
-fn expect_bad(rt: &impl Abort, text: &[u8], line: u64) -> Result<(), Fail> {
-    let read = Script::read(rt.alloc(), text);
+fn expect_bad(rt: &impl Abort, alloc: Global, text: &[u8], line: u64) -> Result<(), Fail> {
+    let read = Script::read(alloc, text);
     assert!(rt; matches!(read, Err(ScriptFault::BadCommand { line: at }) if at == line));
     Ok(())
 }
@@ -84,9 +84,9 @@ fn the_first_bad_line_is_named(rt: HostRuntime) -> Result<(), Fail> {
     for line in BAD {
         let mut text = b"open\n\n".to_vec(rt.alloc())?;
         text.extend_from_slice(line)?;
-        expect_bad(&rt, &text, 3)?;
+        expect_bad(&rt, rt.alloc(), &text, 3)?;
         text.extend_from_slice(b"\nno\n")?;
-        expect_bad(&rt, &text, 3)?;
+        expect_bad(&rt, rt.alloc(), &text, 3)?;
     }
     Ok(())
 }
@@ -95,8 +95,8 @@ fn the_first_bad_line_is_named(rt: HostRuntime) -> Result<(), Fail> {
 fn a_text_may_be_no_utf_8(rt: HostRuntime) -> Result<(), Fail> {
     let script = Script::read(rt.alloc(), b"set 1 1 \xff\xfe")?;
     assert_eq!(rt; script.len(), 1);
-    expect_bad(&rt, b"saveas \xff", 1)?;
-    expect_bad(&rt, b"show\n\xff\n", 2)
+    expect_bad(&rt, rt.alloc(), b"saveas \xff", 1)?;
+    expect_bad(&rt, rt.alloc(), b"show\n\xff\n", 2)
 }
 
 fn many_lines(alloc: Global, count: usize) -> Result<Vec<u8>, Fail> {
@@ -112,7 +112,7 @@ fn a_script_ends_at_16_000_lines(rt: HostRuntime) -> Result<(), Fail> {
     let mut text = many_lines(rt.alloc(), MOST_LINES)?;
     assert_eq!(rt; Script::read(rt.alloc(), &text)?.len(), MOST_LINES);
     text.push(b'\n')?;
-    expect_bad(&rt, &text, 16_001)
+    expect_bad(&rt, rt.alloc(), &text, 16_001)
 }
 
 #[test]
@@ -121,8 +121,8 @@ fn a_line_ends_at_20_000_bytes(rt: HostRuntime) -> Result<(), Fail> {
     text.resize(MOST_BYTES, b'x')?;
     assert_eq!(rt; Script::read(rt.alloc(), &text)?.len(), 1);
     text.push(b'x')?;
-    expect_bad(&rt, &text, 1)?;
+    expect_bad(&rt, rt.alloc(), &text, 1)?;
     let mut comment = b"#".to_vec(rt.alloc())?;
     comment.resize(MOST_BYTES + 1, b'x')?;
-    expect_bad(&rt, &comment, 1)
+    expect_bad(&rt, rt.alloc(), &comment, 1)
 }
