@@ -82,7 +82,11 @@ pub fn moment_read(digits: &[u8]) -> Option<u64>
     ensures { (moment : ℕ) → (result ≡ Some moment) ↔ (IsMoment moment × (digits.now ≡ decimal moment)) }
 {
     let moment = number_read(digits)?;
-    if moment < MOMENTS_END { Some(moment) } else { None }
+    if moment < MOMENTS_END {
+        Some(moment)
+    } else {
+        None
+    }
 }
 
 /// Whether the code is that of what stands before it and its period.

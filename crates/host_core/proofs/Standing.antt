@@ -1,9 +1,10 @@
 -- A shard and its folder, as a step is taken or refused.
-use Rattle.std.proofs.Common.{◌≡◌, ◌≢◌, ℕ, ◌+◌, ◌≤◌, ◌==◌, max, Bool, true, false, ◌||◌, ◌&&◌, if◌then◌else◌, List, [], ◌∷◌, ◌++◌, length, Option, None, Some, refl, sym, ap, subst, ◌∙◌, arith}
+use Rattle.std.proofs.Common.{◌≡◌, ◌≢◌, ℕ, ◌+◌, ◌≤◌, ◌==◌, max, Bool, true, false, ◌&&◌, if◌then◌else◌, List, [], ◌∷◌, ◌++◌, length, Option, None, Some, refl, sym, ap, subst, ◌∙◌, arith}
 use Rattle.std.proofs.lemmas.Bool.Decides.{nat_tests}
 use Rattle.std.proofs.lemmas.List.Sums.{sum_by_push}
 use Rattle.std.proofs.lemmas.Slice.Eq.{bytes_eq-Decides}
 use Rattle.std.specs.Str.{bytes_eq}
+use Rattle.wopi_text.proofs.Disjunctions.{or_none}
 use Rattle.host_core.specs.Opening.{IsTaken}
 use Rattle.host_core.specs.Archive.{IsArchive, AreKept, AreWithin, IsKept, StaysKept, names_of}
 use Rattle.wopi_model.specs.Shard.{Opening}
@@ -23,10 +24,12 @@ use Rattle.wopi_model.proofs.Histories.{Legal-tick}
 use Rattle.host_core.specs.Files.{files_of, torn_in}
 use Rattle.host_core.specs.Store.{StoresAs, is_store_call, torn_after, brought}
 use Rattle.host_core.specs.Steps.{TakesStep, ShowsSame}
-use Rattle.host_core.specs.Value.{Book, Stands, IsLawful, state_of, is_torn, Keeps, Agrees, RoseBy, faults_in}
+use Rattle.host_core.specs.Value.{Book, Stands, IsLawful, state_of, is_torn, Reflects, Agrees, RoseBy, faults_in}
 use Rattle.host_core.specs.declared.ledger.Ledger.{Ledger}
 use Rattle.host_core.specs.Ledger.{Takes, Stays, made_by}
 use Rattle.host_core.proofs.History.{keeps-step, keeps-stays}
+use Rattle.host_core.specs.Times.{GoesByEntries}
+use Rattle.host_core.proofs.Timing.{goes-push, legal-untimed}
 use Rattle.file_versions.specs.declared.Version.{Version}
 use Rattle.file_versions.specs.Versions.{kept_in}
 use Rattle.host_core.proofs.Decisions.{contents-step}
@@ -63,10 +66,6 @@ agrees-stays only (Some start) (Some now) (Some now') files files' agrees same k
 both : (b : Bool) → b ≡ true → b ≡ false → ⊥
 both b h e = cc
 
-or_parts : (b c : Bool) → (b || c) ≡ false → b ≡ false
-or_parts true c e = cc
-or_parts false c e = refl
-
 -- after a step the folder agrees with the files after it
 pub agrees-step : (only : Option ℕ) (start now now' : Option Files) (files files' : List KeptFile) (call : Call) (opened time : ℕ) (ruling : Ruling) → Agrees only start now (files_of files) (torn_in files)
     → IsTaken only call.name → TakesStep files files' call opened time ruling → StoresAs now now' call ruling → Agrees only start now' (files_of files') (torn_in files')
@@ -88,7 +87,7 @@ agrees-step only (Some start) (Some now) (Some now') files files' call opened ti
         stores.holds e done ∙ sym (contents-step (settled (files_of files call.name) time) call opened time ruling takes.outcome done
         ∙ ap (λ (b : Bool). if b then brought call.act else (files_of files call.name).contents) e)
     here false e whole =
-        let done : ruling.status == 500 ≡ false = or_parts (ruling.status == 500) (ruling.status == 200 && is_stored call.act) e in
+        let done : ruling.status == 500 ≡ false = (or_none (ruling.status == 500) (ruling.status == 200 && is_stored call.act) e).0 in
         let before : torn_in files call.name ≡ false = sym (ap (λ (b : Bool). if b then ruling.status == 500 else torn_in files call.name) e) ∙ whole in
         stores.stays e call.name ∙ agrees.0 call.name own before
         ∙ sym (contents-step (settled (files_of files call.name) time) call opened time ruling takes.outcome done
@@ -167,12 +166,14 @@ stands-step book before after start now now' began count count' call pass floor 
     let made' = book.made ++ made_by before call pass floor moment ruling ∷ [] in
     record {
       keeps =
-          subst (λ (x : Made). Keeps book.opening book.opened book.capacity (book.made ++ x ∷ []) (max book.time moment) after.last (kept_in after.versions) after.files.items) same
-          (subst (λ (l : ℕ). Keeps book.opening book.opened book.capacity (book.made ++ one ∷ []) (max book.time moment) l (kept_in after.versions) after.files.items) (sym takes.last)
-          (subst (λ (b : ℕ). Keeps book.opening book.opened book.capacity (book.made ++ one ∷ []) (max book.time moment) (max before.last floor + 1) b after.files.items) (sym takes.kept)
+          subst (λ (x : Made). Reflects book.opening book.opened book.capacity (book.made ++ x ∷ []) (max book.time moment) after.last (kept_in after.versions) after.files.items) same
+          (subst (λ (l : ℕ). Reflects book.opening book.opened book.capacity (book.made ++ one ∷ []) (max book.time moment) l (kept_in after.versions) after.files.items) (sym takes.last)
+          (subst (λ (b : ℕ). Reflects book.opening book.opened book.capacity (book.made ++ one ∷ []) (max book.time moment) (max before.last floor + 1) b after.files.items) (sym takes.kept)
           (keeps-step book.opening book.opened book.capacity book.made book.time before.last (kept_in before.versions) before.files.items after.files.items stands.keeps call pass floor moment ruling m steps)));
       folder = agrees-step book.only start now now' before.files.items after.files.items call before.opened (max before.time moment) ruling stands.folder own takes.steps stores;
       faults = rose-step began count count' book.made (made_by before call pass floor moment ruling) stands.faults le fault;
+      timely = λ h.
+          subst (λ (x : Made). GoesByEntries book.opened (book.made ++ x ∷ []) (max book.time moment)) same (goes-push book.opened book.made one book.time (stands.timely h) refl);
       archive = archive-step book.opening book.made (made_by before call pass floor moment ruling) before.files.items after.files.items before.versions after.versions stands.archive takes.stays takes.archived takes.within;
       first = takes.first ∙ stands.first;
       few = let more = made_long book.made (made_by before call pass floor moment ruling) in let old = stands.few in let grown = takes.few in omega (arith, more, old, grown);
@@ -186,11 +187,12 @@ pub stands-stays : {F : Type 0} (book : Book F) (before after : Ledger) (start n
     → Stands (record book { folder = folder' }) after.last after.first_files after.files.items after.versions start now' began count'
 stands-stays book before after start now now' began count count' folder' stands stays keeps le = record {
   keeps =
-      subst (λ (l : ℕ). Keeps book.opening book.opened book.capacity book.made book.time l (kept_in after.versions) after.files.items) (sym stays.last)
-      (subst (λ (v : List Version). Keeps book.opening book.opened book.capacity book.made book.time before.last (kept_in v) after.files.items) (sym stays.versions)
+      subst (λ (l : ℕ). Reflects book.opening book.opened book.capacity book.made book.time l (kept_in after.versions) after.files.items) (sym stays.last)
+      (subst (λ (v : List Version). Reflects book.opening book.opened book.capacity book.made book.time before.last (kept_in v) after.files.items) (sym stays.versions)
       (keeps-stays book.opening book.opened book.capacity book.made book.time before.last (kept_in before.versions) before.files.items after.files.items stands.keeps stays.files));
   folder = agrees-stays book.only start now now' before.files.items after.files.items stands.folder stays.files keeps;
   faults = rose-stays began (faults_in book.made) count count' stands.faults le;
+  timely = stands.timely;
   archive = archive-stays book.opening book.made before.files.items after.files.items before.versions after.versions stands.archive stays.stays stays.within;
   first = stays.first ∙ stands.first;
   few = let old = stands.few in let same = stays.few in omega (arith, old, same);
@@ -212,6 +214,9 @@ lawful book last first files versions start now began count stands = record {
   folder = agrees-state book.only start now (files_of files) (state_of book.opening book.opened book.made book.time).files (torn_in files) (is_torn book.made)
       (λ name. sym (ap (λ (f : File). f.contents) (stands.keeps.shows name))) stands.keeps.torn stands.folder;
   faults = stands.faults;
+  timely = stands.timely;
+  alone = λ h. legal-untimed book.opening book.opened book.made book.time (stands.timely h).timely
+      (Legal-tick book.opening book.opened (items_of book.made) book.time stands.keeps.legal);
 }
 
 -- the book with a step is that of the parts after it

@@ -7,10 +7,8 @@ ghost use Rattle.host_core.specs.View.{IsViewOf};
 use crate::carry::contents_of;
 use crate::file::KeptFile;
 use file_versions::Versions;
+use lock_machine::is_over;
 use wopi_model::Lock;
-
-/// How long a lock stands, in milliseconds: 30 minutes.
-const LOCK_LIFE: u64 = 1_800_000;
 
 /// A file at the shard's time. `contents` is empty where the file doesn't exist, and `torn` says that
 /// the last store call on it failed.
@@ -30,13 +28,7 @@ fn standing_lock(lock: &Option<Lock>, now: u64) -> Option<&Lock>
 {
     match lock {
         None => None,
-        Some(held) => {
-            if held.since + LOCK_LIFE <= now {
-                None
-            } else {
-                Some(held)
-            }
-        }
+        Some(held) => { if is_over(held, now) { None } else { Some(held) } }
     }
 }
 

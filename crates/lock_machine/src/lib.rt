@@ -12,7 +12,7 @@
 
 ghost use Rattle.std.specs.Prelude.{◌≡◌, false, None, Some, IfSome, max};
 ghost use Rattle.wopi_model.specs.Moment.{IsMoment};
-ghost use Rattle.wopi_model.specs.Settle.{standing, expired};
+ghost use Rattle.wopi_model.specs.Settle.{standing, expired, is_over};
 ghost use Rattle.wopi_model.specs.LockTable.{judged};
 ghost use Rattle.wopi_model.specs.LockTable as table;
 
@@ -21,6 +21,14 @@ use wopi_text::Reason;
 
 /// How long a lock stands, in milliseconds: 30 minutes.
 const LOCK_LIFE: u64 = 1_800_000;
+
+/// The lock has ended at `now`, in milliseconds.
+pub fn is_over(lock: &Lock, now: u64) -> bool
+    requires { IsMoment lock.now.since }
+    ensures { result ≡ is_over lock.now now }
+{
+    lock.since + LOCK_LIFE <= now
+}
 
 /// The lock that still stands at `now`, in milliseconds, or the id that it leaves.
 pub fn settle(lock: Option<Lock>, now: u64) -> (Option<Lock>, Option<Spent>)
@@ -32,7 +40,7 @@ pub fn settle(lock: Option<Lock>, now: u64) -> (Option<Lock>, Option<Spent>)
     let Some(held) = lock else {
         return (None, None);
     };
-    if held.since + LOCK_LIFE <= now {
+    if is_over(&held, now) {
         let ended = Spent {
             id: held.id,
             until: held.until,

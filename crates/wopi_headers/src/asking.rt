@@ -1,8 +1,9 @@
 //! Requests read as operations.
-ghost use Rattle.std.specs.Prelude.{ℕ, List, ◌≡◌, ◌↔◌, IsTrue, IfOk, MatchOption};
+ghost use Rattle.std.specs.Prelude.{ℕ, List, ◌≡◌, ◌↔◌, false, IsTrue, IfOk, MatchOption};
 ghost use Rattle.wopi_headers.specs.declared.ask.Op.{Op};
 ghost use Rattle.wopi_headers.specs.declared.row.Row.TheVariants.{Lock, GetFile, PutFile, RefreshLock, Unlock, PutRelativeFile};
 ghost use Rattle.wopi_headers.specs.Readings.{lock_name, IsLock};
+ghost use Rattle.wopi_headers.specs.Rows.{has_two_targets};
 ghost use Rattle.wopi_headers.specs.Operations.{Says, HasOneOverride, IsAnswerTo};
 
 use crate::ask::{Ask, AskFault, Op};
@@ -85,6 +86,7 @@ fn read_unlock(fields: &[Field]) -> Option<Op>
 
 /// PutRelativeFile, with its target.
 fn read_copy(alloc: Global, fields: &[Field]) -> Result<Option<Op>, Memory>
+    requires { has_two_targets fields.now ≡ false }
     ensures { IfOk result (λ found. MatchOption found ((op : Op) → ¬ (Says PutRelativeFile fields.now op)) (Says PutRelativeFile fields.now)) }
 {
     match target_named(alloc, fields)? {
@@ -95,6 +97,7 @@ fn read_copy(alloc: Global, fields: &[Field]) -> Result<Option<Op>, Memory>
 
 /// The operation that the fields of a row say. Only a copy's takes memory.
 fn read_op(alloc: Global, row: Row, fields: &[Field]) -> Result<Option<Op>, Memory>
+    requires { row ≡ PutRelativeFile → has_two_targets fields.now ≡ false }
     ensures { IfOk result (λ found. MatchOption found ((op : Op) → ¬ (Says row fields.now op)) (Says row fields.now)) }
 {
     match row {
@@ -111,9 +114,9 @@ fn read_op(alloc: Global, row: Row, fields: &[Field]) -> Result<Option<Op>, Memo
 }
 
 /// What a request asks for. A request that asks for nothing is refused: with 404 where its path names
-/// no file, else with 501 where method, path and override are no row of the table, or a copy is asked for
-/// under two names, else with 400
-/// where a header that the row reads is missing, stands twice or is out of form.
+/// no file, else with 501 where method, path and override are no row of the table or a copy is asked
+/// for under two names, else with 400 where a header that the row reads is missing, stands twice or
+/// is out of form.
 pub fn ask_of(alloc: Global, request: &Request) -> Result<Ask, AskFault>
     ensures { IsAnswerTo request.now result }
 {

@@ -1,7 +1,8 @@
 //! The name that a new file is asked to have.
-ghost use Rattle.std.specs.Prelude.{◌≡◌, IfOk, MatchOption};
+ghost use Rattle.std.specs.Prelude.{◌≡◌, false, IfOk, MatchOption};
 ghost use Rattle.wopi_http.specs.Fields.{count_named};
 ghost use Rattle.wopi_headers.specs.Readings.{suggested_name, relative_name, IsTarget};
+ghost use Rattle.wopi_headers.specs.Rows.{has_two_targets};
 
 use crate::ask::Target;
 use crate::reading::{overwrite_named, text_named};
@@ -34,16 +35,15 @@ fn relative(alloc: Global, fields: &[Field]) -> Result<Option<Target>, Memory>
     }
 }
 
-/// The name in one of the two fields, or nothing where both are there, or where the one is missing,
-/// stands twice or is out of form.
+/// The name in the one of the two fields that is there, or nothing where none is there, or where the
+/// one stands twice or is out of form.
 pub fn target_named(alloc: Global, fields: &[Field]) -> Result<Option<Target>, Memory>
+    requires { has_two_targets fields.now ≡ false }
     ensures { IfOk result (λ found. MatchOption found ((target : Target) → ¬ (IsTarget fields.now target)) (IsTarget fields.now)) }
 {
     if count_named(fields, b"X-WOPI-RelativeTarget") == 0 {
-        return suggested(alloc, fields);
+        suggested(alloc, fields)
+    } else {
+        relative(alloc, fields)
     }
-    if count_named(fields, b"X-WOPI-SuggestedTarget") == 0 {
-        return relative(alloc, fields);
-    }
-    Ok(None)
 }

@@ -4,6 +4,8 @@ use std::test::Fail;
 use wopi_http::{Field, Fields, Method, Request};
 use wopi_text::{Bytes, LockField, LockId, Memory, Reason};
 
+mod client;
+
 const FILE: &str = "/wopi/files/612e637376";
 
 fn request(

@@ -60,7 +60,10 @@ fn digits_may_begin_with_zeros_and_end_at_a_limit(rt: HostRuntime) {
     assert_eq!(rt; digits_read(b"18446744073709551615"), Some(u64::MAX));
     assert_eq!(rt; digits_up_to(b"016777216", 16_777_216), Some(16_777_216));
     assert_eq!(rt; digits_up_to(b"16777217", 16_777_216), None);
-    assert_eq!(rt; digits_up_to(b"99999999999999999999999999999999", u64::MAX), None);
+    assert_eq!(rt;
+        digits_up_to(b"99999999999999999999999999999999", u64::MAX),
+        None
+    );
 }
 
 #[test]

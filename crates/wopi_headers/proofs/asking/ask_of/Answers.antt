@@ -9,6 +9,7 @@ use Rattle.wopi_headers.specs.Paths.{IsFilePath}
 use Rattle.wopi_headers.specs.Rows.{row_asked}
 use Rattle.wopi_headers.specs.Operations.{Says, HasOneOverride, IsRefusal}
 use Rattle.wopi_headers.specs.Operations.IsRefusal.{no_row, no_reading}
+use Rattle.wopi_headers.proofs.OneTarget.{one_target}
 use Rattle.wopi_headers.proofs.asking.ask_of.Goals as goal
 
 -- what was found of a request, in the slices that were looked at
@@ -46,3 +47,6 @@ returns-in-None c =
     let unread = MatchOption-at_none ((op : Op) → ¬ (Says row fields op)) (Says row fields) c.in-None.is c.in_ok-op.ensures in
     is_no_reading c.args.request.now _ _ _ _ _ _ c.as_slice-target.ensures c.as_slice-fields.ensures c.path_of.ensures c.in-Some.ensures
     c.row_asked.ensures _ c.in-Some-row_asked.is (λ op once says. unread op says)
+
+pub read_op-requires : goal.read_op-requires
+read_op-requires c = λ is. one_target _ _ c.as_slice-fields.result.now c.in-Some-row_asked.row (sym c.row_asked.ensures ∙ c.in-Some-row_asked.is) is

@@ -1,5 +1,5 @@
 use Rattle.std.proofs.Common.{ℕ, subst, sym}
-use Rattle.host_core.specs.Value.{Keeps}
+use Rattle.host_core.specs.Value.{Reflects}
 use Rattle.host_core.specs.ShardView.{book_of}
 use Rattle.file_versions.specs.Versions.{kept_in}
 use Rattle.host_core.proofs.Standing.{lawful}
@@ -11,10 +11,11 @@ invariant_of-self g c =
     let inside = c.self.inside in
     let book = book_of inside in
     record {
-      keeps = subst (λ (t : ℕ). Keeps book.opening book.opened book.capacity book.made t inside.ledger.last (kept_in inside.ledger.versions) inside.ledger.files.items) (sym c.max-self-inside.ensures)
+      keeps = subst (λ (t : ℕ). Reflects book.opening book.opened book.capacity book.made t inside.ledger.last (kept_in inside.ledger.versions) inside.ledger.files.items) (sym c.max-self-inside.ensures)
           (keeps-tick book.opening book.opened book.capacity book.made book.time inside.ledger.last (kept_in inside.ledger.versions) inside.ledger.files.items c.self.invariant.keeps c.args.moment c.requires);
       folder = c.self.invariant.folder;
       faults = c.self.invariant.faults;
+      timely = λ h. absurd (cc (h, c.of.ensures));
       archive = c.self.invariant.archive;
       first = c.self.invariant.first;
       few = c.self.invariant.few;
