@@ -178,6 +178,28 @@ pub fn cell(rows: &Vec<ByteRecord>, row: usize, column: usize) -> Option<&[u8]>
     Some(cell_at(cells, column - 1))
 }
 
+/// How many cells the row has; none where it is not there.
+pub fn cells(rows: &Vec<ByteRecord>, row: usize) -> usize
+    requires { 0 < row }
+    ensures { result ≡ length (row_at (rows_of rows.now.items) row) }
+{
+    match rows.get(row - 1) {
+        None => 0,
+        Some(cells) => cells.len(),
+    }
+}
+
+/// All rows, in memory of their own.
+pub fn copy_rows(alloc: Global, rows: &Vec<ByteRecord>) -> Result<Vec<ByteRecord>, AllocError>
+    ensures { IfOk result (λ copy. rows_of copy.items ≡ rows_of rows.now.items) }
+{
+    let mut copy = Vec::with_capacity(alloc, rows.len())?;
+    'rows: for cells in rows {
+        copy.push(cells.clone()?)?;
+    }
+    Ok(copy)
+}
+
 fn has_row(rows: &Vec<ByteRecord>, row: usize) -> bool
     ensures { result ≡ has_row (rows_of rows.now.items) row }
 {

@@ -1,5 +1,5 @@
 //! The grid.
-ghost use Rattle.std.specs.Prelude.{◌≡◌, IfOk, IfErr, OnOk, OnErr, Ok, length, option_map};
+ghost use Rattle.std.specs.Prelude.{◌≡◌, ◌<◌, IfOk, IfErr, OnOk, OnErr, Ok, length, option_map};
 
 use crate::{GridFault, edits, text};
 use csv::ByteRecord;
@@ -31,7 +31,7 @@ impl Model for Grid {
 }
 
 impl Grid {
-    ghost use Rattle.grid_sheet.specs.Rows.{IsGrid, cell_at};
+    ghost use Rattle.grid_sheet.specs.Rows.{IsGrid, cell_at, row_at};
     ghost use Rattle.grid_sheet.specs.Edits.{IsRefusal, after_delete_cell, after_delete_column, after_delete_row, after_insert_cell, after_insert_column, after_insert_row, after_set};
     ghost use Rattle.grid_sheet.specs.Reading.{IsUnreadable};
     ghost use Rattle.grid_sheet.specs.Text.{read_of, write_of};
@@ -47,6 +47,17 @@ impl Grid {
         Ok(Grid { alloc, rows })
     }
 
+    /// An equal grid, in memory of its own.
+    pub fn try_copy(&self) -> Result<Grid, Memory>
+        ensures { IfOk result (λ grid. grid ≡ self.now) }
+    {
+        let rows = edits::copy_rows(self.alloc, &self.rows)?;
+        Ok(Grid {
+            alloc: self.alloc,
+            rows,
+        })
+    }
+
     /// The text of the grid. Each row ends in `\n`, and a row of one empty cell is written `""`.
     pub fn write(&self) -> Result<Bytes, Memory>
         ensures { IfOk result (λ text. text ≡ write_of self.now) }
@@ -59,6 +70,14 @@ impl Grid {
         ensures { option_map (λ s. s.now) result ≡ cell_at self.now row column }
     {
         edits::cell(&self.rows, row, column)
+    }
+
+    /// How many cells the row has, which is none where it is not there.
+    pub fn cells(&self, row: usize) -> usize
+        requires { 0 < row }
+        ensures { result ≡ length (row_at self.now row) }
+    {
+        edits::cells(&self.rows, row)
     }
 
     /// How many rows there are.
