@@ -1,3 +1,4 @@
 mod CellLemmas
 mod RowLemmas
 mod ReadLemmas
+mod UndoLemmas

@@ -7,14 +7,14 @@ use Rattle.std.proofs.lemmas.Bool.Decides.{leb_tells, nat_tests}
 use Rattle.grid_sheet.specs.Rows.{Cells, Rows, IsRow, IsGrid, most_rows, most_cells, has_row}
 use Rattle.grid_sheet.specs.Edits.{after_insert_row, empty_row, is_full, or_empty_row, with_column, without_column}
 
-length-insert : {X : Type 0} (xs : List X) (i : ℕ) (x : X) → i ≤ length xs → length (insert xs i x) ≡ length xs + 1
+pub length-insert : {X : Type 0} (xs : List X) (i : ℕ) (x : X) → i ≤ length xs → length (insert xs i x) ≡ length xs + 1
 length-insert xs i x h =
     let a = length-append (take i xs) (x ∷ drop i xs) in
     let t = length-take i xs in
     let d = length-drop i xs in
     omega (arith, a, t, d)
 
-length-remove : {X : Type 0} (xs : List X) (i : ℕ) → i < length xs → length (remove xs i) + 1 ≡ length xs
+pub length-remove : {X : Type 0} (xs : List X) (i : ℕ) → i < length xs → length (remove xs i) + 1 ≡ length xs
 length-remove xs i h =
     let a = length-append (take i xs) (drop (suc i) xs) in
     let t = length-take i xs in

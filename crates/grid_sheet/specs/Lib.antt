@@ -2,3 +2,4 @@ pub mod Edits
 pub mod Reading
 pub mod Rows
 pub mod Text
+pub mod Undoing

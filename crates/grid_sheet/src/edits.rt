@@ -12,17 +12,19 @@ use crate::cells::{
 use crate::{GridFault, MOST_CELLS, MOST_ROWS};
 use csv::ByteRecord;
 use std::alloc::{AllocError, Global};
+use std::mem;
 
-/// Puts a text into a cell.
+/// Puts a text into a cell, and gives the row as it was.
 pub fn set(
     alloc: Global,
     rows: &mut Vec<ByteRecord>,
     row: usize,
     column: usize,
     text: &[u8],
-) -> Result<(), GridFault>
+) -> Result<ByteRecord, GridFault>
     requires { IsGrid (rows_of rows.old.items) }
     ensures grid { IsGrid (rows_of rows.new.items) }
+    ensures former { IfOk result (λ former. fields_of former ≡ row_at (rows_of rows.old.items) row) }
     ensures ok { OnOk result (after_set (rows_of rows.old.items) row column text.now ≡ Ok (rows_of rows.new.items)) }
     ensures refused { IfErr result (IsRefusal (after_set (rows_of rows.old.items) row column text.now)) }
     ensures kept { OnErr result (rows.new.items ≡ rows.old.items) }
@@ -31,8 +33,7 @@ pub fn set(
         return Err(GridFault::OutOfGrid);
     }
     let edited = with_cell(alloc, row_at(rows, row), column, text)?;
-    put_row(rows, row, edited);
-    Ok(())
+    Ok(put_row(rows, row, edited))
 }
 
 /// Puts a row of one empty cell before this one, or behind the last.
@@ -54,9 +55,10 @@ pub fn insert_row(alloc: Global, rows: &mut Vec<ByteRecord>, row: usize) -> Resu
     Ok(())
 }
 
-/// Takes a row out.
-pub fn delete_row(rows: &mut Vec<ByteRecord>, row: usize) -> Result<(), GridFault>
+/// Takes a row out, and gives it.
+pub fn delete_row(rows: &mut Vec<ByteRecord>, row: usize) -> Result<ByteRecord, GridFault>
     requires { IsGrid (rows_of rows.old.items) }
+    ensures former { IfOk result (λ former. fields_of former ≡ row_at (rows_of rows.old.items) row) }
     ensures grid { IsGrid (rows_of rows.new.items) }
     ensures ok { OnOk result (after_delete_row (rows_of rows.old.items) row ≡ Ok (rows_of rows.new.items)) }
     ensures refused { IfErr result (IsRefusal (after_delete_row (rows_of rows.old.items) row)) }
@@ -65,8 +67,8 @@ pub fn delete_row(rows: &mut Vec<ByteRecord>, row: usize) -> Result<(), GridFaul
     if !has_row(rows, row) {
         return Err(GridFault::OutOfGrid);
     }
-    let _deleted = rows.remove(row - 1);
-    Ok(())
+    let deleted = rows.remove(row - 1);
+    Ok(deleted)
 }
 
 /// Puts an empty cell before this column into each row that reaches it.
@@ -135,7 +137,7 @@ pub fn insert_cell(
         return Err(GridFault::TooMany);
     }
     let edited = with_cell_put_in(alloc, cells, column - 1, text)?;
-    put_row(rows, row, edited);
+    let _former = put_row(rows, row, edited);
     Ok(())
 }
 
@@ -160,7 +162,7 @@ pub fn delete_cell(
         return Err(GridFault::OutOfGrid);
     }
     let edited = without_cell(alloc, cells, column - 1)?;
-    put_row(rows, row, edited);
+    let _former = put_row(rows, row, edited);
     Ok(())
 }
 
@@ -178,7 +180,29 @@ pub fn cell(rows: &Vec<ByteRecord>, row: usize, column: usize) -> Option<&[u8]>
     Some(cell_at(cells, column - 1))
 }
 
-fn has_row(rows: &Vec<ByteRecord>, row: usize) -> bool
+/// How many cells the row has; none where it is not there.
+pub fn cells(rows: &Vec<ByteRecord>, row: usize) -> usize
+    requires { 0 < row }
+    ensures { result ≡ length (row_at (rows_of rows.now.items) row) }
+{
+    match rows.get(row - 1) {
+        None => 0,
+        Some(cells) => cells.len(),
+    }
+}
+
+/// All rows, in memory of their own.
+pub fn copy_rows(alloc: Global, rows: &Vec<ByteRecord>) -> Result<Vec<ByteRecord>, AllocError>
+    ensures { IfOk result (λ copy. rows_of copy.items ≡ rows_of rows.now.items) }
+{
+    let mut copy = Vec::with_capacity(alloc, rows.len())?;
+    'rows: for cells in rows {
+        copy.push(cells.clone()?)?;
+    }
+    Ok(copy)
+}
+
+pub fn has_row(rows: &Vec<ByteRecord>, row: usize) -> bool
     ensures { result ≡ has_row (rows_of rows.now.items) row }
 {
     0 < row && row <= rows.len()
@@ -190,7 +214,7 @@ fn is_column(column: usize) -> bool
     0 < column && column <= MOST_CELLS
 }
 
-fn has_cell(cells: &ByteRecord, column: usize) -> bool
+pub fn has_cell(cells: &ByteRecord, column: usize) -> bool
     ensures { result ≡ has_cell (fields_of cells.now) column }
 {
     0 < column && column <= cells.len()
@@ -203,15 +227,17 @@ fn row_at(rows: &Vec<ByteRecord>, row: usize) -> &ByteRecord
     &rows[row - 1]
 }
 
-fn put_row(rows: &mut Vec<ByteRecord>, row: usize, cells: ByteRecord)
+/// Puts other cells into a row, and gives the row as it was.
+pub fn put_row(rows: &mut Vec<ByteRecord>, row: usize, cells: ByteRecord) -> ByteRecord
     requires { IsTrue (has_row (rows_of rows.old.items) row) }
-    ensures { rows_of rows.new.items ≡ with_row (rows_of rows.old.items) row (fields_of cells) }
+    ensures rows { rows_of rows.new.items ≡ with_row (rows_of rows.old.items) row (fields_of cells) }
+    ensures former { fields_of result ≡ row_at (rows_of rows.old.items) row }
 {
-    rows[row - 1] = cells;
+    mem::replace(&mut rows[row - 1], cells)
 }
 
-// Whether the row ends just before the column, or behind it.
-fn reaches(cells: &ByteRecord, column: usize) -> bool
+/// Whether the row ends just before the column, or behind it.
+pub fn reaches(cells: &ByteRecord, column: usize) -> bool
     requires { 0 < column }
     ensures { result ≡ reaches column (fields_of cells.now) }
 {
@@ -225,7 +251,8 @@ fn any_full(rows: &Vec<ByteRecord>, column: usize) -> bool
     rows.iter().any(|cells| reaches(cells, column) && cells.len() >= MOST_CELLS)
 }
 
-fn any_has_cell(rows: &Vec<ByteRecord>, column: usize) -> bool
+/// Whether a row has a cell in the column.
+pub fn any_has_cell(rows: &Vec<ByteRecord>, column: usize) -> bool
     ensures { result ≡ list_any (λ cells. has_cell (fields_of cells) column) rows.now.items }
 {
     rows.iter().any(|cells| has_cell(cells, column))
@@ -261,8 +288,8 @@ fn cells_with_column(
     cells.clone()
 }
 
-// All rows anew, each that has the column without its cell there.
-fn without_column(
+/// All rows anew, each that has the column without its cell there.
+pub fn without_column(
     alloc: Global,
     rows: &Vec<ByteRecord>,
     column: usize,

@@ -1,7 +1,7 @@
 //! The grid.
-ghost use Rattle.std.specs.Prelude.{◌≡◌, IfOk, IfErr, OnOk, OnErr, Ok, length, option_map};
+ghost use Rattle.std.specs.Prelude.{◌≡◌, ◌<◌, IfOk, IfErr, OnOk, OnErr, Ok, length, option_map};
 
-use crate::{GridFault, edits, text};
+use crate::{GridFault, Undo, edits, text, undoing};
 use csv::ByteRecord;
 use std::alloc::Global;
 use std::marker::Model;
@@ -31,10 +31,11 @@ impl Model for Grid {
 }
 
 impl Grid {
-    ghost use Rattle.grid_sheet.specs.Rows.{IsGrid, cell_at};
+    ghost use Rattle.grid_sheet.specs.Rows.{IsGrid, cell_at, row_at};
     ghost use Rattle.grid_sheet.specs.Edits.{IsRefusal, after_delete_cell, after_delete_column, after_delete_row, after_insert_cell, after_insert_column, after_insert_row, after_set};
     ghost use Rattle.grid_sheet.specs.Reading.{IsUnreadable};
     ghost use Rattle.grid_sheet.specs.Text.{read_of, write_of};
+    ghost use Rattle.grid_sheet.specs.Undoing.{Fits, Undoes, undone};
 
     /// The grid of this text, each record of which is a row. A byte order mark at its start is
     /// passed over.
@@ -45,6 +46,17 @@ impl Grid {
     {
         let rows = text::read(alloc, contents)?;
         Ok(Grid { alloc, rows })
+    }
+
+    /// An equal grid, in memory of its own.
+    pub fn try_copy(&self) -> Result<Grid, Memory>
+        ensures { IfOk result (λ grid. grid ≡ self.now) }
+    {
+        let rows = edits::copy_rows(self.alloc, &self.rows)?;
+        Ok(Grid {
+            alloc: self.alloc,
+            rows,
+        })
     }
 
     /// The text of the grid. Each row ends in `\n`, and a row of one empty cell is written `""`.
@@ -61,6 +73,14 @@ impl Grid {
         edits::cell(&self.rows, row, column)
     }
 
+    /// How many cells the row has, which is none where it is not there.
+    pub fn cells(&self, row: usize) -> usize
+        requires { 0 < row }
+        ensures { result ≡ length (row_at self.now row) }
+    {
+        edits::cells(&self.rows, row)
+    }
+
     /// How many rows there are.
     pub fn rows(&self) -> usize
         ensures count { result ≡ length self.now }
@@ -75,7 +95,10 @@ impl Grid {
         ensures refused { IfErr result (IsRefusal (after_set self.old row column text)) }
         ensures kept { OnErr result (self.new ≡ self.old) }
     {
-        edits::set(self.alloc, &mut self.rows, row, column, text.as_slice())
+        match edits::set(self.alloc, &mut self.rows, row, column, text.as_slice()) {
+            Ok(_) => Ok(()),
+            Err(fault) => Err(fault),
+        }
     }
 
     /// Puts a row of one empty cell before this row, or behind the last.
@@ -93,7 +116,10 @@ impl Grid {
         ensures refused { IfErr result (IsRefusal (after_delete_row self.old row)) }
         ensures kept { OnErr result (self.new ≡ self.old) }
     {
-        edits::delete_row(&mut self.rows, row)
+        match edits::delete_row(&mut self.rows, row) {
+            Ok(_) => Ok(()),
+            Err(fault) => Err(fault),
+        }
     }
 
     /// Puts an empty cell before this column into each row that reaches it.
@@ -131,5 +157,71 @@ impl Grid {
         ensures kept { OnErr result (self.new ≡ self.old) }
     {
         edits::delete_cell(self.alloc, &mut self.rows, row, column)
+    }
+
+    /// The same as [`Grid::set`], and gives what undoes it.
+    pub fn set_undoably(
+        &mut self,
+        row: usize,
+        column: usize,
+        text: &[u8],
+    ) -> Result<Undo, GridFault>
+        ensures ok { IfOk result (λ undo. Undoes (after_set self.old row column text.now) self.old self.new undo) }
+        ensures within { IsGrid self.old }
+        ensures refused { IfErr result (IsRefusal (after_set self.old row column text.now)) }
+        ensures kept { OnErr result (self.new ≡ self.old) }
+    {
+        undoing::set(self.alloc, &mut self.rows, row, column, text)
+    }
+
+    /// The same as [`Grid::insert_row`], and gives what undoes it.
+    pub fn insert_row_undoably(&mut self, row: usize) -> Result<Undo, GridFault>
+        ensures ok { IfOk result (λ undo. Undoes (after_insert_row self.old row) self.old self.new undo) }
+        ensures within { IsGrid self.old }
+        ensures refused { IfErr result (IsRefusal (after_insert_row self.old row)) }
+        ensures kept { OnErr result (self.new ≡ self.old) }
+    {
+        undoing::insert_row(self.alloc, &mut self.rows, row)
+    }
+
+    /// The same as [`Grid::delete_row`], and gives what undoes it.
+    pub fn delete_row_undoably(&mut self, row: usize) -> Result<Undo, GridFault>
+        ensures ok { IfOk result (λ undo. Undoes (after_delete_row self.old row) self.old self.new undo) }
+        ensures within { IsGrid self.old }
+        ensures refused { IfErr result (IsRefusal (after_delete_row self.old row)) }
+        ensures kept { OnErr result (self.new ≡ self.old) }
+    {
+        undoing::delete_row(&mut self.rows, row)
+    }
+
+    /// The same as [`Grid::insert_column`], and gives what undoes it.
+    pub fn insert_column_undoably(&mut self, column: usize) -> Result<Undo, GridFault>
+        ensures ok { IfOk result (λ undo. Undoes (after_insert_column self.old column) self.old self.new undo) }
+        ensures within { IsGrid self.old }
+        ensures refused { IfErr result (IsRefusal (after_insert_column self.old column)) }
+        ensures kept { OnErr result (self.new ≡ self.old) }
+    {
+        undoing::insert_column(self.alloc, &mut self.rows, column)
+    }
+
+    /// The same as [`Grid::delete_column`], and gives what undoes it.
+    pub fn delete_column_undoably(&mut self, column: usize) -> Result<Undo, GridFault>
+        ensures ok { IfOk result (λ undo. Undoes (after_delete_column self.old column) self.old self.new undo) }
+        ensures within { IsGrid self.old }
+        ensures refused { IfErr result (IsRefusal (after_delete_column self.old column)) }
+        ensures kept { OnErr result (self.new ≡ self.old) }
+    {
+        undoing::delete_column(self.alloc, &mut self.rows, column)
+    }
+
+    /// Undoes the edit that this came of, where no later one stands. It touches the row or column
+    /// of the edit alone.
+    pub fn undo(&mut self, undo: Undo) -> Result<(), Memory>
+        requires fits { Fits self.old undo }
+        requires form { IsGrid (undone self.old undo) }
+        ensures ok { OnOk result (self.new ≡ undone self.old undo) }
+        ensures kept { OnErr result (self.new ≡ self.old) }
+    {
+        undoing::take_back(self.alloc, &mut self.rows, undo)
     }
 }

@@ -18,9 +18,11 @@ mod edits;
 mod fault;
 mod grid;
 mod text;
+mod undoing;
 
 pub use fault::GridFault;
 pub use grid::{Grid, MOST_CELLS, MOST_ROWS};
+pub use undoing::{Column, Had, Undo};
 
 #[cfg(test)]
 mod tests;

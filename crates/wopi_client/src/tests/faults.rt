@@ -7,6 +7,14 @@ use save_session::{Input, Outcome};
 use std::alloc::Global;
 use std::test::Fail;
 
+/// The contents of a save that was handed back.
+fn handed_back(told: &Result<Outcome, DriveFault>) -> &[u8] {
+    match told {
+        Err(DriveFault::Ignored(Input::Save(contents))) => contents.as_slice(),
+        _ => &[],
+    }
+}
+
 #[test]
 fn a_lost_request_is_sent_three_times(rt: HostRuntime) -> Result<(), Fail> {
     let alloc = rt.alloc();
@@ -20,12 +28,8 @@ fn a_lost_request_is_sent_three_times(rt: HostRuntime) -> Result<(), Fail> {
         assert_eq!(rt; request(&host, place), ASK_INFO);
     }
     let wish = save(alloc, b"1,9\n")?;
-    match drive(alloc, &desktop, &mut session, &mut host, wish) {
-        Err(DriveFault::Ignored(Input::Save(contents))) => {
-            assert_eq!(rt; contents.as_slice(), b"1,9\n".as_slice());
-        }
-        _ => assert!(rt; false),
-    }
+    let saved = drive(alloc, &desktop, &mut session, &mut host, wish);
+    assert_eq!(rt; handed_back(&saved), b"1,9\n".as_slice());
     Ok(())
 }
 

@@ -1,0 +1,4 @@
+mod ScriptLemmas
+mod WordLemmas
+mod SheetLemmas
+mod TurnLemmas

@@ -1,0 +1,17 @@
+use Rattle.std.proofs.Common.{◌≡◌, ◌≤◌, vec_len}
+use Rattle.grid_editor.specs.Inputs.{HasTaken}
+use Rattle.grid_editor.specs.Reading.{room_of}
+use Rattle.grid_editor.specs.Scripts.{most_lines}
+use Rattle.grid_editor.proofs.input.read_script.Given as goal
+
+abbrev pub invariant-pieces : goal.invariant-pieces
+invariant-pieces g l = record {
+  taken : HasTaken (g.S.Source.left l.fn.source) (g.S.Source.left l.source) l.reader;
+  few : l.reader.lines ≤ most_lines;
+  room : vec_len l.piece ≡ 65536;
+  beside : g.S.Source.beside_reads l.source ≡ g.S.Source.beside_reads l.fn.source;
+  never_falls : g.S.Source.read_faults l.fn.source ≤ g.S.Source.read_faults l.source;
+}
+
+abbrev pub decreases-pieces : goal.decreases-pieces
+decreases-pieces g l = room_of l.reader

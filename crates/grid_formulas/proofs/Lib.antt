@@ -1,0 +1,9 @@
+pub mod Changes
+pub mod Folds
+pub mod Gathered
+pub mod Looks
+pub mod ReaderLemmas
+pub mod Sheeted
+pub mod Shown
+pub mod Valued
+pub mod Walks

@@ -1,0 +1,42 @@
+//! Formula cells: the values of a grid whose cells may be formulas.
+//!
+//! A cell whose bytes begin with `=` is a formula: whole numbers, cells such as `B7`, ranges in
+//! `SUM(A1:C9)`, `+`, `-`, `*` and parentheses. How one is read stands in `specs/Reading.antt`. It
+//! is kept in postfix order, and its value, over the values of the cells that it reads, is that of
+//! a stack machine (`specs/Values.antt`).
+//!
+//! A cell that waits for itself, or for one that does, has the value [`Value::Cycle`]: a walk from
+//! it, from cells to cells that they read, goes on for as many steps as there are formulas
+//! (`specs/Cells.antt`). Every other formula's value follows from those of the cells that it reads.
+//!
+//! A [`Sheet`] works values out without recursion. All formula cells have Cycle at first, and a
+//! cell that reads no Cycle gets its formula's value, until none is left that does. Cells are
+//! looked at in an order in which each stands behind those that it reads, as far as there is one,
+//! so that one sweep settles all and a second finds nothing more. Nothing is promised of the order:
+//! a worse one would take more sweeps and give the same values.
+//!
+//! A sheet keeps a copy of its grid. To set a cell works all values out anew.
+#![tactic(auto)]
+
+mod cells;
+mod evaluate;
+mod fault;
+mod formula;
+mod gather;
+mod number;
+mod order;
+mod reader;
+mod reference;
+mod settle;
+mod sheet;
+mod text;
+mod value;
+mod values;
+
+pub use fault::SheetFault;
+pub use formula::{Span, Step};
+pub use sheet::{Changed, Sheet};
+pub use value::Value;
+
+#[cfg(test)]
+mod tests;
