@@ -2,7 +2,6 @@
 use super::{ACCEPTED, CONTENTS, INFO, Left, dialer, editor, run};
 use crate::{EditFault, Script, Went};
 use outside::MemSink;
-use save_session::Outcome;
 use std::process::Abort;
 use std::test::Fail;
 
@@ -19,6 +18,14 @@ const LOCKED: &[u8] =
 
 const LOST: &[u8] =
     b"HTTP/1.1 409 Conflict\r\nContent-Length: 0\r\nX-WOPI-Lock: \r\nX-WOPI-LockFailureReason: not locked\r\n\r\n";
+
+const TOO_LARGE: &[u8] = b"HTTP/1.1 413 Content Too Large\r\nContent-Length: 0\r\n\r\n";
+
+const GONE: &[u8] = b"HTTP/1.1 404 Not Found\r\nContent-Length: 0\r\n\r\n";
+
+const DEAD: &[u8] = b"HTTP/1.1 401 Unauthorized\r\nContent-Length: 0\r\n\r\n";
+
+const BUSY: &[u8] = b"HTTP/1.1 503 Busy\r\nContent-Length: 0\r\n\r\n";
 
 fn expect(rt: &impl Abort, left: &Left, written: &[u8], requests: usize) -> Result<(), Fail> {
     assert_eq!(rt; left.output.as_slice(), written);
@@ -92,39 +99,34 @@ fn a_sheet_over_the_limits_may_only_be_closed(rt: HostRuntime) -> Result<(), Fai
     )
 }
 
+/// The replies of a host, what a script that opens and saves writes then, and how many requests it
+/// makes.
+const ENDS: [(&[&[u8]], &[u8], usize); 7] = [
+    (&[INFO, LOCKED], b"conflict other locked\n", 2),
+    (
+        &[INFO, ACCEPTED, CONTENTS, LOST],
+        b"opened v1 1\nlock lost - not locked\n",
+        4,
+    ),
+    (
+        &[INFO, ACCEPTED, CONTENTS, TOO_LARGE],
+        b"opened v1 1\ntoo large\n",
+        4,
+    ),
+    (&[GONE], b"gone\n", 1),
+    (&[DEAD], b"token dead\n", 1),
+    (&[BUSY], b"host fault 503\n", 1),
+    (&[], b"no answer\n", 3),
+];
+
 #[test]
 fn outcomes_end_the_script(rt: HostRuntime) -> Result<(), Fail> {
-    let alloc = rt.alloc();
-    let text = b"open\nsave\nshow\n";
-    let conflict = run(alloc, text, &[INFO, LOCKED])?;
-    assert!(rt; matches!(conflict.end, Ok(Went::Ended(Outcome::Conflict { .. }))));
-    expect(&rt, &conflict, b"conflict other locked\n", 2)?;
-    let lost = run(alloc, text, &[INFO, ACCEPTED, CONTENTS, LOST])?;
-    expect(&rt, &lost, b"opened v1 1\nlock lost - not locked\n", 4)?;
-    let large = b"HTTP/1.1 413 Content Too Large\r\nContent-Length: 0\r\n\r\n".as_slice();
-    let large = run(alloc, text, &[INFO, ACCEPTED, CONTENTS, large])?;
-    expect(&rt, &large, b"opened v1 1\ntoo large\n", 4)?;
-    let gone = run(
-        alloc,
-        text,
-        &[b"HTTP/1.1 404 Not Found\r\nContent-Length: 0\r\n\r\n"],
-    )?;
-    expect(&rt, &gone, b"gone\n", 1)?;
-    let dead = run(
-        alloc,
-        text,
-        &[b"HTTP/1.1 401 Unauthorized\r\nContent-Length: 0\r\n\r\n"],
-    )?;
-    expect(&rt, &dead, b"token dead\n", 1)?;
-    let fault = run(
-        alloc,
-        text,
-        &[b"HTTP/1.1 503 Busy\r\nContent-Length: 0\r\n\r\n"],
-    )?;
-    expect(&rt, &fault, b"host fault 503\n", 1)?;
-    let silent = run(alloc, text, &[])?;
-    assert!(rt; matches!(silent.end, Ok(Went::Ended(Outcome::NoAnswer))));
-    expect(&rt, &silent, b"no answer\n", 3)
+    for (replies, written, requests) in ENDS {
+        let left = run(rt.alloc(), b"open\nsave\nshow\n", replies)?;
+        assert!(rt; matches!(left.end, Ok(Went::Ended(_))));
+        expect(&rt, &left, written, requests)?;
+    }
+    Ok(())
 }
 
 #[test]

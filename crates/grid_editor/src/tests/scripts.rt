@@ -10,40 +10,51 @@ fn expect_bad(rt: &impl Abort, alloc: Global, text: &[u8], line: u64) -> Result<
     Ok(())
 }
 
+/// The row, the column and the text of a `set`.
+fn set_of(command: Option<&Command>) -> (u64, u64, &[u8]) {
+    match command {
+        Some(Command::Set { row, column, text }) => (*row, *column, text.as_slice()),
+        _ => (0, 0, &[]),
+    }
+}
+
+/// The name of a `saveas`.
+fn name_of(command: Option<&Command>) -> &str {
+    match command {
+        Some(Command::SaveAs { name }) => name.as_str(),
+        _ => "",
+    }
+}
+
+#[test]
+fn a_set_has_the_rest_of_its_line(rt: HostRuntime) -> Result<(), Fail> {
+    let script = Script::read(rt.alloc(), b"set 1 2 a b \nset 3 4 \n")?;
+    let (row, column, text) = set_of(script.get(0));
+    assert!(rt; row == 1 && column == 2);
+    assert_eq!(rt; text, b"a b ".as_slice());
+    let (row, column, text) = set_of(script.get(1));
+    assert!(rt; row == 3 && column == 4 && text.is_empty());
+    Ok(())
+}
+
 #[test]
 fn each_command_is_read(rt: HostRuntime) -> Result<(), Fail> {
-    let text = b"open\nset 1 2 a b \nset 3 4 \ninsrow 1\ndelrow 2\ninscol 3\ndelcol 4\nshow\nundo\n\
-save\nsaveas b c.csv\nrefresh\nclose\n";
+    let text = b"open\ninsrow 1\ndelrow 2\ninscol 3\ndelcol 4\nshow\nundo\nsave\nsaveas b c.csv\n\
+refresh\nclose\n";
     let script = Script::read(rt.alloc(), text)?;
-    assert_eq!(rt; script.len(), 13);
+    assert_eq!(rt; script.len(), 11);
     assert!(rt; matches!(script.get(0), Some(Command::Open)));
-    match script.get(1) {
-        Some(Command::Set { row, column, text }) => {
-            assert!(rt; *row == 1 && *column == 2);
-            assert_eq!(rt; text.as_slice(), b"a b ".as_slice());
-        }
-        _ => assert!(rt; false),
-    }
-    match script.get(2) {
-        Some(Command::Set { row, column, text }) => {
-            assert!(rt; *row == 3 && *column == 4 && text.as_slice().is_empty());
-        }
-        _ => assert!(rt; false),
-    }
-    assert!(rt; matches!(script.get(3), Some(Command::InsRow { row: 1 })));
-    assert!(rt; matches!(script.get(4), Some(Command::DelRow { row: 2 })));
-    assert!(rt; matches!(script.get(5), Some(Command::InsCol { column: 3 })));
-    assert!(rt; matches!(script.get(6), Some(Command::DelCol { column: 4 })));
-    assert!(rt; matches!(script.get(7), Some(Command::Show)));
-    assert!(rt; matches!(script.get(8), Some(Command::Undo)));
-    assert!(rt; matches!(script.get(9), Some(Command::Save)));
-    match script.get(10) {
-        Some(Command::SaveAs { name }) => assert_eq!(rt; name.as_str(), "b c.csv"),
-        _ => assert!(rt; false),
-    }
-    assert!(rt; matches!(script.get(11), Some(Command::Refresh)));
-    assert!(rt; matches!(script.get(12), Some(Command::Close)));
-    assert!(rt; script.get(13).is_none());
+    assert!(rt; matches!(script.get(1), Some(Command::InsRow { row: 1 })));
+    assert!(rt; matches!(script.get(2), Some(Command::DelRow { row: 2 })));
+    assert!(rt; matches!(script.get(3), Some(Command::InsCol { column: 3 })));
+    assert!(rt; matches!(script.get(4), Some(Command::DelCol { column: 4 })));
+    assert!(rt; matches!(script.get(5), Some(Command::Show)));
+    assert!(rt; matches!(script.get(6), Some(Command::Undo)));
+    assert!(rt; matches!(script.get(7), Some(Command::Save)));
+    assert_eq!(rt; name_of(script.get(8)), "b c.csv");
+    assert!(rt; matches!(script.get(9), Some(Command::Refresh)));
+    assert!(rt; matches!(script.get(10), Some(Command::Close)));
+    assert!(rt; script.get(11).is_none());
     Ok(())
 }
 

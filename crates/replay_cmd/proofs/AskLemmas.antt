@@ -1,0 +1,54 @@
+-- A request answered by the calls that it makes.
+use Rattle.std.proofs.Common.{◌≡◌, ℕ, List, [], ◌∷◌, ◌++◌, map, Ok, refl, sym, ap, ◌∙◌, subst}
+use Rattle.std.proofs.lemmas.List.{map-append, append_cancel_left}
+use Rattle.wopi_model.specs.Shard.{Entry, Legal, entries}
+use Rattle.wopi_headers.specs.declared.answer.Answer.{Answer}
+use Rattle.wopi_headers.specs.declared.ask.Ask.{Ask}
+use Rattle.host_core.specs.Entries.{Made, items_of, history_of}
+use Rattle.host_core.specs.Value.{Book}
+use Rattle.host_core.specs.Single.{sight_of, SeesItsOwn}
+use Rattle.host_server.specs.declared.desk.Desk.{Desk}
+use Rattle.host_server.specs.Deeds.{Deed, made, Does}
+use Rattle.host_server.specs.Answering.{Ruled, Answered}
+use Rattle.host_server.specs.Answering.Answered.{refused, asked}
+use Rattle.wopi_http.specs.declared.message.Request.{Request}
+use Rattle.wopi_headers.specs.Operations.{AsksFor, IsRefusal}
+use Rattle.host_server.specs.Calls.{Tells}
+use Rattle.replay_cmd.specs.Hosts.{Grown, HasGrown}
+use Rattle.replay_cmd.specs.Exchanges.{Exchanges}
+
+-- the entries of what was made
+pub entries_made : (made : List Made) → entries (items_of made) ≡ map (λ one. one.step) made
+entries_made [] = refl
+entries_made (one ∷ made) = ap (λ (l : List Entry). one.step ∷ l) (entries_made made)
+
+pub exchanged : {F : Type 0} (desk : Desk) (ask : Ask) (body : List ℕ) (moment : ℕ) (old start new : Book F) (a : Answer) → start ≡ old
+    → Tells (Ruled desk ask body moment) SeesItsOwn (sight_of old) (sight_of new) (Ok a) → HasGrown start new
+    → Legal new.opening new.opened (history_of new.made new.time) → Exchanges desk ask body moment old new a
+exchanged {F} desk ask body moment old start new a same tells grown legal =
+    let deeds : List Deed = tells.0 in
+    let does : Does SeesItsOwn (sight_of old) (sight_of new) deeds = tells.1 in
+    let since : HasGrown old new = subst (λ (b : Book F). HasGrown b new) same grown in
+    let more : List Made = since.0 in
+    let g : Grown old new more = since.1 in
+    let step : Made → Entry = λ one. one.step in
+    let own : entries (items_of new.made) ≡ entries (items_of old.made) ++ made deeds = does.own in
+    let joined : map step old.made ++ map step more ≡ map step old.made ++ made deeds =
+    sym (map-append step old.made more) ∙ sym (entries_made (old.made ++ more)) ∙ ap (λ (b : Book F). entries (items_of b.made)) (sym g.same) ∙ own
+    ∙ ap (λ (l : List Entry). l ++ made deeds) (entries_made old.made) in
+    record {
+      deeds = deeds;
+      more = more;
+      grown = g;
+      steps = append_cancel_left (map step old.made) (map step more) (made deeds) joined;
+      ruled = tells.2;
+      legal = legal;
+    }
+
+-- a request that asks for just that is answered by that
+pub asked_ruled : (desk : Desk) (q : Request) (ask : Ask) (body : List ℕ) (moment : ℕ) (deeds : List Deed) (a : Answer)
+    → ((r : Request) (one other : Ask) → AsksFor r one → AsksFor r other → one ≡ other) → ((r : Request) (one : Ask) (s : ℕ) → AsksFor r one → IsRefusal r s → ⊥)
+    → AsksFor q ask → q.body ≡ body → Answered desk q moment deeds a → Ruled desk ask body moment deeds a
+asked_ruled desk q ask body moment deeds a one nothing asks same (refused s r e f) = absurd (nothing q ask s asks r)
+asked_ruled desk q ask body moment deeds a one nothing asks same (asked other o r) =
+    subst (λ (b : List ℕ). Ruled desk ask b moment deeds a) same (subst (λ (k : Ask). Ruled desk k q.body moment deeds a) (one q other ask o asks) r)

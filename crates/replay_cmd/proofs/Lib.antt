@@ -1,0 +1,16 @@
+pub mod Hosting
+pub mod Machines
+pub mod Watching
+pub mod AskLemmas
+pub mod Turning
+pub mod Calling
+pub mod OneReply
+pub mod Delivered
+pub mod Taken
+pub mod Copying
+pub mod Validity
+pub mod Lines
+pub mod FirstWorld
+pub mod WorkedRows
+pub mod Generated
+mod CarriedLemmas

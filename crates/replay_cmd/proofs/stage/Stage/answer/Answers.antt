@@ -1,0 +1,81 @@
+use Rattle.std.proofs.Common.{subst, sym}
+use Rattle.std.proofs.lemmas.Option.{slice_get_within}
+use Rattle.save_session.specs.declared.input.Input.{Input}
+use Rattle.replay_cmd.specs.Members.{StepsIn}
+use Rattle.replay_cmd.proofs.Turning.{is_none, looked_up, not_found}
+use Rattle.replay_cmd.proofs.Taken.{absent, late_foreign, late_request, late_member, late_waiting, took_answer}
+use Rattle.replay_cmd.proofs.stage.Stage.answer.Goals as goal
+
+pub returns-in_default-clause-follows : goal.returns-in_default-clause-follows
+returns-in_default-clause-follows g c =
+    let stage = c.args.self.now in
+    λ straight setting world shows.
+    absent setting stage.desk.key stage.host.shard stage.history.items stage.requests.items stage.replies.items stage.members.items world shows c.args.place
+    (not_found c.deref.result.now stage.replies.items c.args.place c.deref.ensures.value c.in_default.ensures)
+
+pub returns-in_default-request-clause-follows : goal.returns-in_default-request-clause-follows
+returns-in_default-request-clause-follows g c =
+    let stage = c.args.self.now in
+    let reply = c.in-Some.reply.now in
+    λ straight setting world shows.
+    late_foreign setting stage.desk.key stage.host.shard stage.history.items stage.requests.items stage.replies.items stage.members.items world shows c.args.place
+    reply (looked_up c.deref.result.now stage.replies.items c.args.place reply c.deref.ensures.value c.in-Some.ensures) (is_none reply.request c.in_default-request.not-Some)
+
+pub returns-in_default-request_at-clause-follows : goal.returns-in_default-request_at-clause-follows
+returns-in_default-request_at-clause-follows g c =
+    let stage = c.args.self.now in
+    let reply = c.in-Some.reply.now in
+    let asked = c.in-Some-request.asked in
+    λ straight setting world shows.
+    late_request setting stage.desk.key stage.host.shard stage.history.items stage.requests.items stage.replies.items stage.members.items world shows c.args.place
+    reply (looked_up c.deref.result.now stage.replies.items c.args.place reply c.deref.ensures.value c.in-Some.ensures) asked c.in-Some-request.is
+    (not_found c.deref-2.result.now stage.requests.items asked c.deref-2.ensures.value c.in_default-request_at.ensures)
+
+pub returns-in_default-member_at-clause-follows : goal.returns-in_default-member_at-clause-follows
+returns-in_default-member_at-clause-follows g c =
+    let stage = c.args.self.now in
+    let reply = c.in-Some.reply.now in
+    let asked = c.in-Some-request.asked in
+    let request = c.in-Some-request_at.request.now in
+    λ straight setting world shows.
+    late_member setting stage.desk.key stage.host.shard stage.history.items stage.requests.items stage.replies.items stage.members.items world shows c.args.place
+    reply (looked_up c.deref.result.now stage.replies.items c.args.place reply c.deref.ensures.value c.in-Some.ensures) asked c.in-Some-request.is
+    request (looked_up c.deref-2.result.now stage.requests.items asked request c.deref-2.ensures.value c.in-Some-request_at.ensures)
+    (not_found c.deref-3.result.now stage.members.items request.sender c.deref-3.ensures.value c.in_default-member_at.ensures)
+
+pub returns-then-not-waits_for-clause-follows : goal.returns-then-not-waits_for-clause-follows
+returns-then-not-waits_for-clause-follows g c =
+    let stage = c.args.self.now in
+    let reply = c.in-Some.reply.now in
+    let asked = c.in-Some-request.asked in
+    let request = c.in-Some-request_at.request.now in
+    let member = c.in-Some-member_at.member.now in
+    λ straight setting world shows.
+    late_waiting setting stage.desk.key stage.host.shard stage.history.items stage.requests.items stage.replies.items stage.members.items world shows c.args.place
+    reply (looked_up c.deref.result.now stage.replies.items c.args.place reply c.deref.ensures.value c.in-Some.ensures) asked c.in-Some-request.is
+    request (looked_up c.deref-2.result.now stage.requests.items asked request c.deref-2.ensures.value c.in-Some-request_at.ensures)
+    member (looked_up c.deref-3.result.now stage.members.items request.sender member c.deref-3.ensures.value c.in-Some-member_at.ensures) (sym c.if-not-waits_for.ensures)
+
+pub step_at-requires : goal.step_at-requires
+step_at-requires g c =
+    let stage = c.args.self.now in
+    let request = c.in-Some-request_at.request.now in
+    let member = c.in-Some-member_at.member.now in
+    slice_get_within stage.members.items request.sender member
+    (looked_up c.deref-3.result.now stage.members.items request.sender member c.deref-3.ensures.value c.in-Some-member_at.ensures)
+
+pub returns-clause-follows : goal.returns-clause-follows
+returns-clause-follows g c =
+    let stage = c.args.self.now in
+    let reply = c.in-Some.reply.now in
+    let asked = c.in-Some-request.asked in
+    let request = c.in-Some-request_at.request.now in
+    let member = c.in-Some-member_at.member.now in
+    let after = c.step_at.new in
+    λ straight setting world shows.
+    took_answer setting stage.desk.key stage.host.shard stage.history.items stage.requests.items stage.replies.items stage.members.items world shows c.args.place
+    reply (looked_up c.deref.result.now stage.replies.items c.args.place reply c.deref.ensures.value c.in-Some.ensures) asked c.in-Some-request.is
+    request (looked_up c.deref-2.result.now stage.requests.items asked request c.deref-2.ensures.value c.in-Some-request_at.ensures)
+    member (looked_up c.deref-3.result.now stage.members.items request.sender member c.deref-3.ensures.value c.in-Some-member_at.ensures)
+    after.requests.items after.members.items c.in_ok-carry_answer.field-0 c.in_ok-did.did (sym c.if-not-waits_for.ensures) (c.in_ok-carry_answer.ensures.back straight)
+    (subst (λ (given : Input). StepsIn stage.members.items after.members.items stage.requests.items after.requests.items request.sender given c.in_ok-did.did) c.input_of-given.ensures c.in_ok-did.ensures)

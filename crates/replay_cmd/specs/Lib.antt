@@ -1,0 +1,14 @@
+pub mod Schedules
+pub mod Runs
+pub mod Hosts
+pub mod Stages
+pub mod Starts
+pub mod Steps
+pub mod Trace
+pub mod Generator
+pub mod Answers
+pub mod Histories
+pub mod Members
+pub mod Exchanges
+pub mod Sessions
+pub mod Wires

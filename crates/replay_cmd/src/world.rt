@@ -1,0 +1,35 @@
+//! The world that a schedule leads to.
+ghost use Rattle.std.specs.Prelude.{◌≡◌, true, IfOk};
+ghost use Rattle.wopi_world.specs.Safe.{IsSafe};
+ghost use Rattle.replay_cmd.specs.Runs.{setting_of, world_of};
+ghost use Rattle.replay_cmd.specs.Stages.{IsStageOf};
+
+use crate::schedule::Schedule;
+use crate::stage::Stage;
+use crate::starting::start;
+use crate::wire::Wire;
+use std::alloc::Global;
+use wopi_text::Memory;
+use wopi_world::laws::safe_always;
+
+/// The world after the last event of a schedule.
+#[derive(Drop)]
+pub struct World {
+    pub stage: Stage,
+}
+
+impl World {
+    /// Runs a schedule: its sessions, its host, and the wire between them. The request of each
+    /// delivery and of each ask of somebody else goes over the wire once, and so does the reply that
+    /// a session takes. Want of memory stands also for a store fault, for a full shard and for a
+    /// message that wouldn't be read back as it was written; a schedule meets none of these.
+    pub fn run<W: Wire>(alloc: Global, schedule: &Schedule, wire: &mut W) -> Result<World, Memory>
+        ensures runs { W.is_straight wire.old ≡ true → IfOk result (λ world. IsStageOf (setting_of schedule.now) world.stage (world_of schedule.now)) }
+        ensures safe { IfOk result (λ _. IsSafe (setting_of schedule.now) (world_of schedule.now)) }
+    {
+        safe_always();
+        let mut stage = start(alloc, schedule)?;
+        stage.lines(wire, schedule.events())?;
+        Ok(World { stage })
+    }
+}
