@@ -27,7 +27,7 @@ use Rattle.host_table.proofs.Stamps.{prefix_get, get_inside}
 use Rattle.host_table.proofs.Owned.{has_own}
 use Rattle.host_table.proofs.Order.{Has, all_at, all_of, has_filter, filter_has, filter_none, has_map, map_has, filter_map_is, AreOrdered, ordered_filter, one_order, rises_ordered}
 use Rattle.host_table.proofs.Sorting.{AreRising, ArePlaced, sorted_found, sorted_ordered, entry_has, has_entry}
-use Rattle.host_table.proofs.Owners.{in_from, in_sorted, same_number, seat_at, owner_of, seen_begins}
+use Rattle.host_table.proofs.Owners.{in_from, in_sorted, same_number, seat_at, owner_of, seen_begins, has_times}
 
 module _ {A : Type 0} where
   -- a place inside a list
@@ -385,6 +385,16 @@ module _ {F : Type 0} (files : F → Option Files) (faults : F → ℕ) (opened 
   pub all_own : AllByRecursion (λ pass. filter (λ (entry : Entry). entry.pass == pass.number) (steps_of merge) ≡ map (λ one. one.entry) (own_of pass)) passes
   all_own = all_of (λ (p : PassView F). filter (λ (entry : Entry). entry.pass == p.number) (steps_of merge) ≡ map (λ one. one.entry) (own_of p)) passes own_is
 
+  number_below : (n : ℕ) → 1 ≤ times n (map number_of passes) → n < made
+  number_below n some = let is = whole.numbers n in grind (arith, nat_tests)
+
+  -- each entry is of a pass that was made
+  pub all_made : AllByRecursion (λ (one : Made). one.step.pass < made) merge
+  all_made = all_of (λ (one : Made). one.step.pass < made) merge (λ one h.
+      let w = whose one h in let same = w.3 in
+      let below = number_below w.0.number (has_times (map number_of passes) w.0.number (has_map number_of passes w.0 w.2)) in
+      omega (arith, same, below))
+
 pub ends_all : {F : Type 0} (files : F → Option Files) (faults : F → ℕ) (host : HostView F) (passes : List (PassView F)) (seats : List (Place F)) (books : List (Book F)) (parts : List (Left F)) (folders : List F) (sorted : List Spot)
     → AreBases host.opened host.capacity 0 host.bases → length books ≡ 16 → AllByRecursion (IsPassOf host) passes → IsWhole host.made passes → IsJoinOf passes seats → AreEnds seats books → AreTaken files faults books parts folders
     → IsPermutation (all_spots 0 parts) sorted → IsNonDecreasingBy order_of sorted
@@ -399,6 +409,7 @@ ends_all files faults host passes seats books parts folders sorted bases long of
         parts = all_parts files faults host.opened host.capacity host.made passes seats books parts folders sorted whole joined ends mine taken long moved up;
         ended = subst (λ (bs : List (Book _)). AreEnded files faults bs parts folders) same (ended_all files faults books parts folders taken);
         seen = all_seen files faults host.opened host.capacity host.made passes seats books parts folders sorted whole joined ends mine taken long moved up;
+        passes_are = all_made files faults host.opened host.capacity host.made passes seats books parts folders sorted whole joined ends mine taken long moved up;
         own = all_own files faults host.opened host.capacity host.made passes seats books parts folders sorted whole joined ends mine taken long moved up;
       },
     )

@@ -1,5 +1,5 @@
 -- How a host ends. (Own.)
-use Rattle.std.specs.Prelude.{◌≡◌, ⊤, ℕ, ◌+◌, ◌==◌, ◌^◌, List, [], ◌∷◌, ◌++◌, filter, map, Option, None, Some, slice_get}
+use Rattle.std.specs.Prelude.{◌≡◌, ◌<◌, ⊤, ℕ, ◌+◌, ◌==◌, ◌^◌, List, [], ◌∷◌, ◌++◌, filter, map, Option, None, Some, slice_get}
 use Rattle.std.specs.List.{AllByRecursion}
 use mathlib.Core.List.{IsPrefix}
 use Rattle.turn_lock.specs.Places.{total, AreAllBelow, longer}
@@ -102,11 +102,12 @@ module _ {F : Type 0} (files : F → Option Files) (faults : F → ℕ) where
   AreEnded (base ∷ bases) (part ∷ parts) (folder ∷ folders) = IsEnded base part folder × AreEnded bases parts folders
   AreEnded _ _ _ = ⊥
 
-  -- the journal of a host and of all its passes, and the folders
+  -- the journal of a host and of all its passes, which has no entry of another, and the folders
   pub record Ends (host : HostView F) (passes : List (PassView F)) (journal : JournalView F) (folders : List F) : Type 0 where
     pub opened_is : journal.opened ≡ host.opened
     pub legal : LegalHost (openings journal.parts) journal.opened (steps_of journal.merge)
     pub parts : AreParts journal.merge 0 journal.parts
     pub ended : AreEnded host.bases journal.parts folders
     pub seen : AllByRecursion (λ pass. AreSeen pass.seats journal.parts) passes
+    pub passes_are : AllByRecursion (λ one. one.step.pass < host.made) journal.merge
     pub own : AllByRecursion (λ pass. filter (λ entry. entry.pass == pass.number) (steps_of journal.merge) ≡ map (λ one. one.entry) (own_of pass)) passes

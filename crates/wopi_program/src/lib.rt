@@ -3,7 +3,8 @@
 //! [`run`] is the whole program but for the making of the real streams, folders and clocks. It is
 //! generic in all that it meets, so that its contract speaks of the bytes that were read and
 //! written. The command `once` answers the requests of its input, one after another, on its output;
-//! `token` writes the text of an access token.
+//! `serve` answers those of many connections by workers, and then writes its host's journal on the
+//! output; `token` writes the text of an access token.
 #![tactic(auto)]
 
 mod command;
