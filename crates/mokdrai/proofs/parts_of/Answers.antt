@@ -2,8 +2,8 @@ use Rattle.std.proofs.Common.{Some, ap, ◌∙◌}
 use Rattle.wopi_program.specs.declared.command.Command.TheVariants.{Once, Serve}
 use Rattle.mokdrai.proofs.parts_of.Goals as goal
 
-pub parts_of_serve-requires-after_bounds : goal.parts_of_serve-requires-after_bounds
-parts_of_serve-requires-after_bounds c = (c.read_words.ensures Serve).0 (c.in-Some-Serve.is ∙ ap Some c.in-Some-Serve.field-0-is)
+pub parts_of_serve-requires : goal.parts_of_serve-requires
+parts_of_serve-requires c = (c.read_words.ensures Serve).0 (c.in-Some-Serve.is ∙ ap Some c.in-Some-Serve.field-0-is)
 
 pub returns-in-Some-Once-clause-serve : goal.returns-in-Some-Once-clause-serve
 returns-in-Some-Once-clause-serve c = λ key base ask row. let is = (c.read_words.ensures Serve).1 (key, base, ask, row) in absurd (cc is)

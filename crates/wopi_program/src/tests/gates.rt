@@ -1,8 +1,8 @@
 //! A folder and a link that wait for each other, through two flags that threads share.
-ghost use Rattle.std.specs.Prelude.{[], refl};
+ghost use Rattle.std.specs.Prelude.{[], refl, None};
 
 use outside::{
-    Failed, Folder, FolderRead, Link, MemFolder, MemSink, MemSource, Names, OutFault, Sink, Source,
+    Failed, Folder, FolderRead, Link, MemSink, MemSource, Names, OutFault, Sink, Source,
 };
 use std::alloc::Global;
 use std::sync::Arc;
@@ -30,14 +30,14 @@ fn comes_up(flag: &Flag) -> bool {
     false
 }
 
-/// A folder in memory. With flags, a call of `replace` raises the first and waits for the second.
+/// A folder over another. With flags, a call of `replace` raises the first and waits for the second.
 #[derive(Drop)]
-pub struct GateFolder {
-    pub inner: MemFolder,
+pub struct GateFolder<F> {
+    pub inner: F,
     pub flags: Option<(Flag, Flag)>,
 }
 
-impl GateFolder {
+impl<F> GateFolder<F> {
     /// Whether a call of `replace` may go on.
     fn passes(&self) -> bool {
         match &self.flags {
@@ -50,10 +50,10 @@ impl GateFolder {
     }
 }
 
-impl Folder for GateFolder {
-    ghost files = { λ gate. MemFolder.Folder.files gate.inner };
+impl<F: Folder> Folder for GateFolder<F> {
+    ghost files = { λ gate. F.files gate.inner };
 
-    ghost faults = { λ gate. MemFolder.Folder.faults gate.inner };
+    ghost faults = { λ gate. F.faults gate.inner };
 
     fn list(&mut self) -> Result<Names, OutFault> {
         self.inner.list()

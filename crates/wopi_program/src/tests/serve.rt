@@ -296,7 +296,7 @@ fn a_journal_has_a_line_for_each_call(rt: HostRuntime) -> Result<(), Fail> {
 }
 
 /// Folders of which that of shard 11 has an empty `a.csv`, and that of shard 12 a `b.csv`; the former waits at the flags.
-fn gated(alloc: Global, first: &Flag, second: &Flag) -> Result<Vec<GateFolder>, Fail> {
+fn gated(alloc: Global, first: &Flag, second: &Flag) -> Result<Vec<GateFolder<MemFolder>>, Fail> {
     let mut folders = Vec::new(alloc);
     for shard in 0..16u32 {
         let mut inner = folder(alloc, b"");
@@ -330,7 +330,7 @@ fn flagged(
 
 /// A save of an empty file whose folder waits until the other worker writes, and a lock of another file that is
 /// read only once the save has reached its folder.
-fn entwined(alloc: Global) -> Result<Served<GateFolder, FlagLink>, Fail> {
+fn entwined(alloc: Global) -> Result<Served<GateFolder<MemFolder>, FlagLink>, Fail> {
     let first = Arc::new(alloc, AtomicU64::new(0))?;
     let second = Arc::new(alloc, AtomicU64::new(0))?;
     let folders = gated(alloc, &first, &second)?;
