@@ -27,6 +27,8 @@ use Rattle.host_core.specs.Value.{Book, Stands, IsLawful, state_of, is_torn, Kee
 use Rattle.host_core.specs.declared.ledger.Ledger.{Ledger}
 use Rattle.host_core.specs.Ledger.{Takes, Stays, made_by}
 use Rattle.host_core.proofs.History.{keeps-step, keeps-stays}
+use Rattle.host_core.specs.Times.{GoesByEntries}
+use Rattle.host_core.proofs.Timing.{goes-push, legal-untimed}
 use Rattle.file_versions.specs.declared.Version.{Version}
 use Rattle.file_versions.specs.Versions.{kept_in}
 use Rattle.host_core.proofs.Decisions.{contents-step}
@@ -173,6 +175,8 @@ stands-step book before after start now now' began count count' call pass floor 
           (keeps-step book.opening book.opened book.capacity book.made book.time before.last (kept_in before.versions) before.files.items after.files.items stands.keeps call pass floor moment ruling m steps)));
       folder = agrees-step book.only start now now' before.files.items after.files.items call before.opened (max before.time moment) ruling stands.folder own takes.steps stores;
       faults = rose-step began count count' book.made (made_by before call pass floor moment ruling) stands.faults le fault;
+      timely = λ h.
+          subst (λ (x : Made). GoesByEntries book.opened (book.made ++ x ∷ []) (max book.time moment)) same (goes-push book.opened book.made one book.time (stands.timely h) refl);
       archive = archive-step book.opening book.made (made_by before call pass floor moment ruling) before.files.items after.files.items before.versions after.versions stands.archive takes.stays takes.archived takes.within;
       first = takes.first ∙ stands.first;
       few = let more = made_long book.made (made_by before call pass floor moment ruling) in let old = stands.few in let grown = takes.few in omega (arith, more, old, grown);
@@ -191,6 +195,7 @@ stands-stays book before after start now now' began count count' folder' stands 
       (keeps-stays book.opening book.opened book.capacity book.made book.time before.last (kept_in before.versions) before.files.items after.files.items stands.keeps stays.files));
   folder = agrees-stays book.only start now now' before.files.items after.files.items stands.folder stays.files keeps;
   faults = rose-stays began (faults_in book.made) count count' stands.faults le;
+  timely = stands.timely;
   archive = archive-stays book.opening book.made before.files.items after.files.items before.versions after.versions stands.archive stays.stays stays.within;
   first = stays.first ∙ stands.first;
   few = let old = stands.few in let same = stays.few in omega (arith, old, same);
@@ -212,6 +217,9 @@ lawful book last first files versions start now began count stands = record {
   folder = agrees-state book.only start now (files_of files) (state_of book.opening book.opened book.made book.time).files (torn_in files) (is_torn book.made)
       (λ name. sym (ap (λ (f : File). f.contents) (stands.keeps.shows name))) stands.keeps.torn stands.folder;
   faults = stands.faults;
+  timely = stands.timely;
+  alone = λ h. legal-untimed book.opening book.opened book.made book.time (stands.timely h).timely
+      (Legal-tick book.opening book.opened (items_of book.made) book.time stands.keeps.legal);
 }
 
 -- the book with a step is that of the parts after it

@@ -18,7 +18,7 @@ book_of s = record {
   capacity = s.ledger.capacity;
   made = s.ledger.entries.items;
   time = s.ledger.time;
-  ticked = s.ticked;
+  ticked = s.ticked.value;
   start = s.start.value;
   folder = s.folder;
 }

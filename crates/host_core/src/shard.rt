@@ -1,5 +1,5 @@
 //! A shard of the host over a folder.
-ghost use Rattle.std.specs.Prelude.{◌≡◌, ◌≢◌, ◌≤◌, ◌<◌, ◌+◌, ◌^◌, ◌++◌, ◌∷◌, [], length, max, IfOk, IfErr, IfSome, OnOk, OnErr, true, false, option_map, slice_get, MatchOption, sum_by, List, ℕ};
+ghost use Rattle.std.specs.Prelude.{◌≡◌, ◌≢◌, ◌≤◌, ◌<◌, ◌+◌, ◌^◌, ◌++◌, ◌∷◌, [], length, max, IfOk, IfErr, IfSome, IsSome, OnOk, OnErr, true, false, ◌↔◌, option_map, slice_get, sum_by, List, ℕ};
 ghost use Rattle.outside.specs.Folder.{Keeps};
 ghost use Rattle.outside.specs.Faults.{Rose};
 ghost use Rattle.wopi_model.specs.Moment.{IsMoment};
@@ -33,7 +33,7 @@ use wopi_text::{Bytes, FileName, Memory};
 pub struct Shard<F: Folder> {
     ledger: Ledger,
     folder: F,
-    ticked: bool,
+    ticked: Snapshot<bool>,
     only: Snapshot<Option<u8>>,
     start: Snapshot<F>,
     opening: Snapshot<Vec<OpeningFile>>,
@@ -163,7 +163,7 @@ impl<F: Folder> Shard<F> {
         ensures lawful { IsLawful self.new (F.files self.new.start) (F.files self.new.folder) (F.faults self.new.start) (F.faults self.new.folder) }
     {
         self.ledger.time = self.ledger.time.max(moment);
-        self.ticked = true;
+        self.ticked = Snapshot::of(&true);
         self.ledger.time
     }
 
@@ -176,15 +176,16 @@ impl<F: Folder> Shard<F> {
 
     /// How many entries there are.
     pub fn len(&self) -> u64
-        ensures { result ≡ length self.now.made }
+        ensures count { result ≡ length self.now.made }
+        ensures lawful { IsLawful self.now (F.files self.now.start) (F.files self.now.folder) (F.faults self.now.start) (F.faults self.now.folder) }
     {
         self.ledger.entries.len() as u64
     }
 
     /// A file as it stands, where its name has a version.
     pub fn file(&self, name: &FileName) -> Option<FileView<'_>>
-        ensures { MatchOption result (((state_of self.now.opening self.now.opened self.now.made self.now.time).files name.now).version ≡ 0)
-            (λ view. IsViewOf view ((state_of self.now.opening self.now.opened self.now.made self.now.time).files name.now) (is_torn self.now.made name.now)) }
+        ensures met { IsSome result ↔ (0 < ((state_of self.now.opening self.now.opened self.now.made self.now.time).files name.now).version) }
+        ensures view { IfSome result (λ view. IsViewOf view ((state_of self.now.opening self.now.opened self.now.made self.now.time).files name.now) (is_torn self.now.made name.now)) }
     {
         match place_of(&self.ledger.files, name) {
             None => None,
@@ -239,6 +240,7 @@ impl<F: Folder> Shard<F> {
         ensures lawful { IsLawful result (F.files result.start) (F.files result.folder) (F.faults result.start) (F.faults result.folder) }
     {
         let opening = Snapshot::of(&stock.opening);
+        let ticked = Snapshot::of(&false);
         Shard {
             ledger: Ledger {
                 alloc,
@@ -252,7 +254,7 @@ impl<F: Folder> Shard<F> {
                 entries: Vec::new(alloc),
             },
             folder,
-            ticked: false,
+            ticked,
             only: Snapshot::of(&only),
             start,
             opening,

@@ -25,13 +25,13 @@ stays_open count q stays = grind (arith, stays)
 pub has_room : (count : ℕ) (q : Request) → is_last count q ≡ false → count < message_limit → count + 1 < message_limit
 has_room count q stays few = grind (arith, stays, few)
 
-module _ (desk : Desk) (always : Sight → Type 0) (left clock : Option (List ℕ)) (history : Sight) (held : Option (List ℕ)) where
-  module _ (count : ℕ) (left' clock' : Option (List ℕ)) (history' : Sight) (held' : Option (List ℕ))
-      (running : Running desk always count left left' clock clock' history history' held held') where
-    pub runs_on : (left'' clock'' : Option (List ℕ)) (history'' : Sight) (held'' : Option (List ℕ))
-        → StepsOn desk always count left' left'' clock' clock'' history' history'' held' held''
-        → Running desk always (count + 1) left left'' clock clock'' history history'' held held''
-    runs_on left'' clock'' history'' held'' step =
+module _ (desk : Desk) (always : Sight → Type 0) (left clock : Option (List ℕ)) (sight : Sight) (held : Option (List ℕ)) where
+  module _ (count : ℕ) (left' clock' : Option (List ℕ)) (sight' : Sight) (held' : Option (List ℕ))
+      (running : Running desk always count left left' clock clock' sight sight' held held') where
+    pub runs_on : (left'' clock'' : Option (List ℕ)) (sight'' : Sight) (held'' : Option (List ℕ))
+        → StepsOn desk always count left' left'' clock' clock'' sight' sight'' held' held''
+        → Running desk always (count + 1) left left'' clock clock'' sight sight'' held held''
+    runs_on left'' clock'' sight'' held'' step =
         let turns = running.turns in
         let t = step.turn in
         record {
@@ -40,24 +40,24 @@ module _ (desk : Desk) (always : Sight → Type 0) (left clock : Option (List �
           count_is = length-append turns (t ∷ []) ∙ ap (λ n. n + 1) running.count_is;
           reads = subst (Consumes left left'') (sym (flat_map-one (λ x. x.bytes) turns t)) (Consumes-trans left left' left'' _ _ running.reads step.reads);
           times = subst (GivesAll clock clock'') (sym (map-one (λ x. x.moment) turns t)) (GivesAll-trans clock clock' clock'' _ _ running.times step.times);
-          makes = subst (Does always history history'') (sym (flat_map-one (λ x. x.part) turns t))
-              (Does-join always history history' history'' (parts_of turns) t.part running.makes step.makes);
+          makes = subst (Does always sight sight'') (sym (flat_map-one (λ x. x.part) turns t))
+              (Does-join always sight sight' sight'' (parts_of turns) t.part running.makes step.makes);
           writes = subst (Appends held held'') (sym (flat_map-one (λ x. turn_text x false) turns t)) (Appends-trans held held' held'' _ _ running.writes step.writes);
         }
 
-    pub serves_over : (clock'' : Option (List ℕ)) (history'' : Sight) (held'' : Option (List ℕ)) → count < message_limit
-        → StepsOver desk always count left' clock' clock'' history' history'' held' held''
-        → Serves desk always Done left clock clock'' history history'' held held''
-    serves_over clock'' history'' held'' few step =
+    pub serves_over : (clock'' : Option (List ℕ)) (sight'' : Sight) (held'' : Option (List ℕ)) → count < message_limit
+        → StepsOver desk always count left' clock' clock'' sight' sight'' held' held''
+        → Serves desk always Done left clock clock'' sight sight'' held held''
+    serves_over clock'' sight'' held'' few step =
         let turns = running.turns in
         record {
           input = bytes_of turns ++ step.rest;
           moments = moments_of turns ++ end_moments step.end;
-          entries = parts_of turns ++ end_part step.end;
+          deeds = parts_of turns ++ end_part step.end;
           output = texts_of turns ++ end_text step.end;
           reads = are_from left left' (bytes_of turns) step.rest running.reads step.reads;
           times = GivesAll-trans clock clock' clock'' _ _ running.times step.times;
-          makes = Does-join always history history' history'' (parts_of turns) (end_part step.end) running.makes step.makes;
+          makes = Does-join always sight sight' sight'' (parts_of turns) (end_part step.end) running.makes step.makes;
           writes = Appends-trans held held' held'' _ _ running.writes step.writes;
           says = record {
             turns = turns;
@@ -69,17 +69,17 @@ module _ (desk : Desk) (always : Sight → Type 0) (left clock : Option (List �
               input_is = refl;
               ends = subst (λ n. IsEnd desk n step.rest step.end) (sym running.count_is) step.ends;
               moments_are = refl;
-              entries_are = refl;
+              deeds_are = refl;
             };
             output_is = refl;
           };
         }
 
-    cut_from : (clock'' : Option (List ℕ)) (history'' : Sight) (held'' : Option (List ℕ)) → count < message_limit
-        → (step : Breaks desk always count left' clock' clock'' history' history'' held' held'')
+    cut_from : (clock'' : Option (List ℕ)) (sight'' : Sight) (held'' : Option (List ℕ)) → count < message_limit
+        → (step : Breaks desk always count left' clock' clock'' sight' sight'' held' held'')
         → (cut : Cut desk (bytes_of running.turns ++ step.rest) (moments_of running.turns ++ next_moments step.next)
         (parts_of running.turns ++ next_part step.next) (texts_of running.turns ++ step.front)) × (cut.next ≡ step.next) × (cut.back ≡ step.back)
-    cut_from clock'' history'' held'' few step = (
+    cut_from clock'' sight'' held'' few step = (
       record {
         turns = running.turns;
         next = step.next;
@@ -89,7 +89,7 @@ module _ (desk : Desk) (always : Sight → Type 0) (left clock : Option (List �
         input_is = refl;
         is_next = subst (λ n. IsNext desk n step.rest step.next) (sym running.count_is) step.is_next;
         moments_are = refl;
-        entries_are = refl;
+        deeds_are = refl;
         front = step.front;
         back = step.back;
         parts = step.parts;
@@ -99,62 +99,62 @@ module _ (desk : Desk) (always : Sight → Type 0) (left clock : Option (List �
       refl,
     )
 
-    pub serves_broken : (clock'' : Option (List ℕ)) (history'' : Sight) (held'' : Option (List ℕ)) → count < message_limit
-        → Breaks desk always count left' clock' clock'' history' history'' held' held''
-        → Serves desk always WriteFault left clock clock'' history history'' held held''
-    serves_broken clock'' history'' held'' few step =
+    pub serves_broken : (clock'' : Option (List ℕ)) (sight'' : Sight) (held'' : Option (List ℕ)) → count < message_limit
+        → Breaks desk always count left' clock' clock'' sight' sight'' held' held''
+        → Serves desk always WriteFault left clock clock'' sight sight'' held held''
+    serves_broken clock'' sight'' held'' few step =
         let turns = running.turns in
         record {
           input = bytes_of turns ++ step.rest;
           moments = moments_of turns ++ next_moments step.next;
-          entries = parts_of turns ++ next_part step.next;
+          deeds = parts_of turns ++ next_part step.next;
           output = texts_of turns ++ step.front;
           reads = are_from left left' (bytes_of turns) step.rest running.reads step.reads;
           times = GivesAll-trans clock clock' clock'' _ _ running.times step.times;
-          makes = Does-join always history history' history'' (parts_of turns) (next_part step.next) running.makes step.makes;
+          makes = Does-join always sight sight' sight'' (parts_of turns) (next_part step.next) running.makes step.makes;
           writes = Appends-trans held held' held'' _ _ running.writes step.writes;
-          says = (cut_from clock'' history'' held'' few step).0;
+          says = (cut_from clock'' sight'' held'' few step).0;
         }
 
-    pub serves_unread : (clock'' : Option (List ℕ)) (history'' : Sight) (held'' : Option (List ℕ)) → count < message_limit
-        → (step : Breaks desk always count left' clock' clock'' history' history'' held' held'') → IsLine step.next → step.back ≡ []
-        → Serves desk always ReadFault left clock clock'' history history'' held held''
-    serves_unread clock'' history'' held'' few step is_line whole =
+    pub serves_unread : (clock'' : Option (List ℕ)) (sight'' : Sight) (held'' : Option (List ℕ)) → count < message_limit
+        → (step : Breaks desk always count left' clock' clock'' sight' sight'' held' held'') → IsLine step.next → step.back ≡ []
+        → Serves desk always ReadFault left clock clock'' sight sight'' held held''
+    serves_unread clock'' sight'' held'' few step is_line whole =
         let turns = running.turns in
-        let (cut, next, back) = cut_from clock'' history'' held'' few step in
+        let (cut, next, back) = cut_from clock'' sight'' held'' few step in
         record {
           input = bytes_of turns ++ step.rest;
           moments = moments_of turns ++ next_moments step.next;
-          entries = parts_of turns ++ next_part step.next;
+          deeds = parts_of turns ++ next_part step.next;
           output = texts_of turns ++ step.front;
           reads = are_from left left' (bytes_of turns) step.rest running.reads step.reads;
           times = GivesAll-trans clock clock' clock'' _ _ running.times step.times;
-          makes = Does-join always history history' history'' (parts_of turns) (next_part step.next) running.makes step.makes;
+          makes = Does-join always sight sight' sight'' (parts_of turns) (next_part step.next) running.makes step.makes;
           writes = Appends-trans held held' held'' _ _ running.writes step.writes;
           says = (cut, subst IsLine (sym next) is_line, back ∙ whole);
         }
 
-    pub serves_from : (end : ConnEnd) (left'' clock'' : Option (List ℕ)) (history'' : Sight) (held'' : Option (List ℕ)) → count < message_limit
-        → Steps desk always count left' left'' clock' clock'' history' history'' held' held'' (Over end)
-        → Serves desk always end left clock clock'' history history'' held held''
-    serves_from Done left'' clock'' history'' held'' few step = serves_over clock'' history'' held'' few step
-    serves_from ReadFault left'' clock'' history'' held'' few step = serves_unread clock'' history'' held'' few step.0 step.1 step.2
-    serves_from WriteFault left'' clock'' history'' held'' few step = serves_broken clock'' history'' held'' few step
-    serves_from Memory left'' clock'' history'' held'' few step = absurd step
+    pub serves_from : (end : ConnEnd) (left'' clock'' : Option (List ℕ)) (sight'' : Sight) (held'' : Option (List ℕ)) → count < message_limit
+        → Steps desk always count left' left'' clock' clock'' sight' sight'' held' held'' (Over end)
+        → Serves desk always end left clock clock'' sight sight'' held held''
+    serves_from Done left'' clock'' sight'' held'' few step = serves_over clock'' sight'' held'' few step
+    serves_from ReadFault left'' clock'' sight'' held'' few step = serves_unread clock'' sight'' held'' few step.0 step.1 step.2
+    serves_from WriteFault left'' clock'' sight'' held'' few step = serves_broken clock'' sight'' held'' few step
+    serves_from Memory left'' clock'' sight'' held'' few step = absurd step
 
 -- no memory to begin
-pub serves_nothing : (desk : Desk) (always : Sight → Type 0) (left clock : Option (List ℕ)) (history : Sight) (held : Option (List ℕ))
-    → Serves desk always Memory left clock clock history history held held
-serves_nothing desk always left clock history held =
+pub serves_nothing : (desk : Desk) (always : Sight → Type 0) (left clock : Option (List ℕ)) (sight : Sight) (held : Option (List ℕ))
+    → Serves desk always Memory left clock clock sight sight held held
+serves_nothing desk always left clock sight held =
     let (input, are) = some_input left in
     record {
       input = input;
       moments = [];
-      entries = [];
+      deeds = [];
       output = [];
       reads = are;
       times = GivesAll-nil clock;
-      makes = Does-nil always history;
+      makes = Does-nil always sight;
       writes = Appends-nil held;
       says = (refl, refl, refl);
     }

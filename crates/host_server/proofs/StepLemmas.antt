@@ -39,10 +39,10 @@ refused_of a hundred s at r = record {
   count = r.count;
 }
 
-module _ (desk : Desk) (always : Sight → Type 0) (count : ℕ) (q : Request) (clock clock' : Option (List ℕ)) (history history' : Sight) where
+module _ (desk : Desk) (always : Sight → Type 0) (count : ℕ) (q : Request) (clock clock' : Option (List ℕ)) (sight sight' : Sight) where
   turn_of : (left left' held mid held' : Option (List ℕ)) (close : Bool) (result : Result (Unit {0}) Failed) → Reads left left' held mid (Message q)
-      → Replies desk always q close clock clock' history history' mid held' result → (t : Turn) × IsTurn desk t × (t.request ≡ q)
-      × Consumes left left' t.bytes × GivesAll clock clock' (t.moment ∷ []) × Does always history history' t.part
+      → Replies desk always q close clock clock' sight sight' mid held' result → (t : Turn) × IsTurn desk t × (t.request ≡ q)
+      × Consumes left left' t.bytes × GivesAll clock clock' (t.moment ∷ []) × Does always sight sight' t.part
       × Appends held mid (hundred_text t.hundred) × Writes mid held' result (said_text t.said close)
   turn_of left left' held mid held' close result reads made = (
     record { bytes = reads.answer.0; request = q; hundred = reads.hundred; moment = made.moment; part = made.part; said = made.said },
@@ -56,8 +56,8 @@ module _ (desk : Desk) (always : Sight → Type 0) (count : ℕ) (q : Request) (
   )
 
   pub step_on : (left left' held mid held' : Option (List ℕ)) (done : Unit {0}) → Reads left left' held mid (Message q)
-      → Replies desk always q false clock clock' history history' mid held' (Ok done) → is_last count q ≡ false
-      → StepsOn desk always count left left' clock clock' history history' held held'
+      → Replies desk always q false clock clock' sight sight' mid held' (Ok done) → is_last count q ≡ false
+      → StepsOn desk always count left left' clock clock' sight sight' held held'
   step_on left left' held mid held' done reads made stays =
       let (t, is, same, used, times, makes, asked, said) = turn_of left left' held mid held' false (Ok done) reads made in
       record {
@@ -71,8 +71,8 @@ module _ (desk : Desk) (always : Sight → Type 0) (count : ℕ) (q : Request) (
       }
 
   pub step_closed : (left left' held mid held' : Option (List ℕ)) (done : Unit {0}) → Reads left left' held mid (Message q)
-      → Replies desk always q true clock clock' history history' mid held' (Ok done) → is_last count q ≡ true
-      → StepsOver desk always count left clock clock' history history' held held'
+      → Replies desk always q true clock clock' sight sight' mid held' (Ok done) → is_last count q ≡ true
+      → StepsOver desk always count left clock clock' sight sight' held held'
   step_closed left left' held mid held' done reads made closes =
       let (t, is, same, used, times, makes, asked, said) = turn_of left left' held mid held' true (Ok done) reads made in
       let (after, whole) = rest_of left left' t.bytes used in
@@ -87,8 +87,8 @@ module _ (desk : Desk) (always : Sight → Type 0) (count : ℕ) (q : Request) (
       }
 
   pub step_broken : (left left' held mid held' : Option (List ℕ)) (close : Bool) (fault : Failed) → Reads left left' held mid (Message q)
-      → Replies desk always q close clock clock' history history' mid held' (Err fault) → is_last count q ≡ close
-      → Breaks desk always count left clock clock' history history' held held'
+      → Replies desk always q close clock clock' sight sight' mid held' (Err fault) → is_last count q ≡ close
+      → Breaks desk always count left clock clock' sight sight' held held'
   step_broken left left' held mid held' false fault reads made stays =
       let (t, is, same, used, times, makes, asked, said) = turn_of left left' held mid held' false (Err fault) reads made in
       let (after, whole) = rest_of left left' t.bytes used in
@@ -122,29 +122,29 @@ module _ (desk : Desk) (always : Sight → Type 0) (count : ℕ) (q : Request) (
         writes = Appends-trans held mid held' _ _ asked written;
       }
 
-module _ (desk : Desk) (always : Sight → Type 0) (count : ℕ) (left left' clock : Option (List ℕ)) (history : Sight)
+module _ (desk : Desk) (always : Sight → Type 0) (count : ℕ) (left left' clock : Option (List ℕ)) (sight : Sight)
     (held mid held' : Option (List ℕ)) where
   pub step_refused : (s at : ℕ) (done : Unit {0}) → Reads left left' held mid (Refused s at) → Writes {T = Unit {0}} {E = Failed} mid held' (Ok done) (bare_reply s true)
-      → StepsOver desk always count left clock clock history history held held'
+      → StepsOver desk always count left clock clock sight sight held held'
   step_refused s at done reads said = record {
     end = refused s reads.hundred;
     rest = reads.answer.bytes ++ reads.answer.more;
     reads = reads.answer.looked.begins;
     ends = (at, refused_of left reads.hundred s at reads.answer);
     times = GivesAll-nil clock;
-    makes = Does-nil always history;
+    makes = Does-nil always sight;
     writes = Appends-trans held mid held' _ _ reads.asked said;
   }
 
   pub refusal_broken : (s at : ℕ) (fault : Failed) → Reads left left' held mid (Refused s at) → Writes {T = Unit {0}} {E = Failed} mid held' (Err fault) (bare_reply s true)
-      → Breaks desk always count left clock clock history history held held'
+      → Breaks desk always count left clock clock sight sight held held'
   refusal_broken s at fault reads (front, back, parts, written) = record {
     next = last (refused s reads.hundred);
     rest = reads.answer.bytes ++ reads.answer.more;
     reads = reads.answer.looked.begins;
     is_next = (at, refused_of left reads.hundred s at reads.answer);
     times = GivesAll-nil clock;
-    makes = Does-nil always history;
+    makes = Does-nil always sight;
     front = hundred_text reads.hundred ++ front;
     back = back;
     parts = ap (λ z. hundred_text reads.hundred ++ z) parts ∙ sym (append_assoc (hundred_text reads.hundred) front back);
@@ -152,7 +152,7 @@ module _ (desk : Desk) (always : Sight → Type 0) (count : ℕ) (left left' clo
   }
 
   pub step_wanted : (done : Unit {0}) → Reads left left' held mid Memory → Writes {T = Unit {0}} {E = Failed} mid held' (Ok done) (bare_reply 503 true)
-      → StepsOver desk always count left clock clock history history held held'
+      → StepsOver desk always count left clock clock sight sight held held'
   step_wanted done reads said =
       let (bytes, more, looked) = reads.answer in
       record {
@@ -161,12 +161,12 @@ module _ (desk : Desk) (always : Sight → Type 0) (count : ℕ) (left left' clo
         reads = looked.begins;
         ends = (bytes, more, looked_of left bytes more reads.hundred looked);
         times = GivesAll-nil clock;
-        makes = Does-nil always history;
+        makes = Does-nil always sight;
         writes = Appends-trans held mid held' _ _ reads.asked said;
       }
 
   pub want_broken : (fault : Failed) → Reads left left' held mid Memory → Writes {T = Unit {0}} {E = Failed} mid held' (Err fault) (bare_reply 503 true)
-      → Breaks desk always count left clock clock history history held held'
+      → Breaks desk always count left clock clock sight sight held held'
   want_broken fault reads (front, back, parts, written) =
       let (bytes, more, looked) = reads.answer in
       record {
@@ -175,17 +175,17 @@ module _ (desk : Desk) (always : Sight → Type 0) (count : ℕ) (left left' clo
         reads = looked.begins;
         is_next = (bytes, more, looked_of left bytes more reads.hundred looked);
         times = GivesAll-nil clock;
-        makes = Does-nil always history;
+        makes = Does-nil always sight;
         front = hundred_text reads.hundred ++ front;
         back = back;
         parts = ap (λ z. hundred_text reads.hundred ++ z) parts ∙ sym (append_assoc (hundred_text reads.hundred) front back);
         writes = Appends-trans held mid held' _ _ reads.asked written;
       }
 
-module _ (desk : Desk) (always : Sight → Type 0) (count : ℕ) (left left' clock : Option (List ℕ)) (history : Sight)
+module _ (desk : Desk) (always : Sight → Type 0) (count : ℕ) (left left' clock : Option (List ℕ)) (sight : Sight)
     (held held' : Option (List ℕ)) where
   pub reading_broken : Reads left left' held held' ReadFault
-      → (breaks : Breaks desk always count left clock clock history history held held') × IsLine breaks.next × (breaks.back ≡ [])
+      → (breaks : Breaks desk always count left clock clock sight sight held held') × IsLine breaks.next × (breaks.back ≡ [])
   reading_broken reads =
       let (bytes, more, looked) = reads.answer in (
         record {
@@ -194,7 +194,7 @@ module _ (desk : Desk) (always : Sight → Type 0) (count : ℕ) (left left' clo
           reads = looked.begins;
           is_next = (bytes, more, looked_of left bytes more reads.hundred looked);
           times = GivesAll-nil clock;
-          makes = Does-nil always history;
+          makes = Does-nil always sight;
           front = hundred_text reads.hundred;
           back = [];
           parts = sym (append-nil (hundred_text reads.hundred));
@@ -204,7 +204,7 @@ module _ (desk : Desk) (always : Sight → Type 0) (count : ℕ) (left left' clo
         refl,
       )
 
-  pub asking_broken : Reads left left' held held' WriteFault → Breaks desk always count left clock clock history history held held'
+  pub asking_broken : Reads left left' held held' WriteFault → Breaks desk always count left clock clock sight sight held held'
   asking_broken reads =
       let (bytes, more, looked) = reads.answer in
       let (asks, (front, back, parts, written)) = reads.asked in
@@ -214,7 +214,7 @@ module _ (desk : Desk) (always : Sight → Type 0) (count : ℕ) (left left' clo
         reads = looked.begins;
         is_next = (bytes, more, looked_of left bytes more true (subst (Looked left bytes more) asks looked));
         times = GivesAll-nil clock;
-        makes = Does-nil always history;
+        makes = Does-nil always sight;
         front = front;
         back = back;
         parts = parts;

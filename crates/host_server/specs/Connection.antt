@@ -59,7 +59,7 @@ end_text (refused s hundred) = hundred_text hundred ++ bare_reply s true
 end_text (wanted hundred) = hundred_text hundred ++ bare_reply 503 true
 
 -- The input is these messages, none of which closes, and then a rest that ends so.
-pub record Asked (desk : Desk) (input moments : List ℕ) (entries : List Deed)
+pub record Asked (desk : Desk) (input moments : List ℕ) (deeds : List Deed)
     (turns : List Turn) (end : End) : Type 0 where
   pub rest : List ℕ
   pub go_on : GoOn desk turns
@@ -67,14 +67,14 @@ pub record Asked (desk : Desk) (input moments : List ℕ) (entries : List Deed)
   pub input_is : input ≡ bytes_of turns ++ rest
   pub ends : IsEnd desk (length turns) rest end
   pub moments_are : moments ≡ moments_of turns ++ end_moments end
-  pub entries_are : entries ≡ parts_of turns ++ end_part end
+  pub deeds_are : deeds ≡ parts_of turns ++ end_part end
 
 -- With what is written.
-pub record Conn (desk : Desk) (input moments : List ℕ) (entries : List Deed) (output : List ℕ)
+pub record Conn (desk : Desk) (input moments : List ℕ) (deeds : List Deed) (output : List ℕ)
     : Type 0 where
   pub turns : List Turn
   pub end : End
-  pub asked : Asked desk input moments entries turns end
+  pub asked : Asked desk input moments deeds turns end
   pub output_is : output ≡ texts_of turns ++ end_text end
 
 -- What may be written next.
@@ -113,7 +113,7 @@ IsLine (reply t) = ⊥
 IsLine (last end) = ⊥
 
 -- Where a fault cuts: what was written is the texts of the first messages, and a front of what comes next.
-pub record Cut (desk : Desk) (input moments : List ℕ) (entries : List Deed) (output : List ℕ)
+pub record Cut (desk : Desk) (input moments : List ℕ) (deeds : List Deed) (output : List ℕ)
     : Type 0 where
   pub turns : List Turn
   pub next : Next
@@ -123,7 +123,7 @@ pub record Cut (desk : Desk) (input moments : List ℕ) (entries : List Deed) (o
   pub input_is : input ≡ bytes_of turns ++ rest
   pub is_next : IsNext desk (length turns) rest next
   pub moments_are : moments ≡ moments_of turns ++ next_moments next
-  pub entries_are : entries ≡ parts_of turns ++ next_part next
+  pub deeds_are : deeds ≡ parts_of turns ++ next_part next
   pub front : List ℕ
   pub back : List ℕ
   pub parts : next_text next ≡ front ++ back
@@ -131,21 +131,21 @@ pub record Cut (desk : Desk) (input moments : List ℕ) (entries : List Deed) (o
 
 -- A fault of reading comes between messages, where all that was begun was written.
 abbrev pub IsConnEnd : Desk → ConnEnd → List ℕ → List ℕ → List Deed → List ℕ → Type 0
-IsConnEnd desk Done input moments entries output = Conn desk input moments entries output
-IsConnEnd desk ReadFault input moments entries output =
-    (cut : Cut desk input moments entries output) × IsLine cut.next × (cut.back ≡ [])
-IsConnEnd desk WriteFault input moments entries output = Cut desk input moments entries output
-IsConnEnd desk Memory input moments entries output = (moments ≡ []) × (entries ≡ []) × (output ≡ [])
+IsConnEnd desk Done input moments deeds output = Conn desk input moments deeds output
+IsConnEnd desk ReadFault input moments deeds output =
+    (cut : Cut desk input moments deeds output) × IsLine cut.next × (cut.back ≡ [])
+IsConnEnd desk WriteFault input moments deeds output = Cut desk input moments deeds output
+IsConnEnd desk Memory input moments deeds output = (moments ≡ []) × (deeds ≡ []) × (output ≡ [])
 
--- The link's bytes, the moments that the clock gave, the new entries and what was written are a connection that ended so.
+-- The link's bytes, the moments that the clock gave, what was done and what was written are a connection that ended so.
 pub record Serves (desk : Desk) (always : Sight → Type 0) (end : ConnEnd)
-    (left : Option (List ℕ)) (clock clock' : Option (List ℕ)) (history history' : Sight) (held held' : Option (List ℕ)) : Type 0 where
+    (left : Option (List ℕ)) (clock clock' : Option (List ℕ)) (sight sight' : Sight) (held held' : Option (List ℕ)) : Type 0 where
   pub input : List ℕ
   pub moments : List ℕ
-  pub entries : List Deed
+  pub deeds : List Deed
   pub output : List ℕ
   pub reads : Are left input
   pub times : GivesAll clock clock' moments
-  pub makes : Does always history history' entries
+  pub makes : Does always sight sight' deeds
   pub writes : Appends held held' output
-  pub says : IsConnEnd desk end input moments entries output
+  pub says : IsConnEnd desk end input moments deeds output

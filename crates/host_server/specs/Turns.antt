@@ -1,8 +1,9 @@
 -- A message and what was answered.
-use Rattle.std.specs.Prelude.{◌≡◌, ◌<◌, ℕ, Bool, false, List, [], ◌∷◌, ◌++◌, map, Result, Ok, Err, ⊤}
+use Rattle.std.specs.Prelude.{◌≡◌, ℕ, Bool, false, List, [], ◌∷◌, ◌++◌, map, Result, Ok, Err, ⊤}
 use Rattle.std.specs.List.{flat_map}
 use Rattle.wopi_text.specs.declared.faults.Memory.{Memory}
 use Rattle.wopi_http.specs.declared.message.Request.{Request}
+use Rattle.wopi_model.specs.Moment.{IsMoment}
 use Rattle.wopi_http.specs.Messages.{Msg}
 use Rattle.wopi_http.specs.Answers.{hundred_text}
 use Rattle.wopi_http.specs.Closing.{closes}
@@ -44,7 +45,7 @@ pub record Turn : Type 0 where
 
 pub record IsTurn (desk : Desk) (t : Turn) : Type 0 where
   pub message : Msg t.bytes t.request t.hundred
-  pub in_time : t.moment < 253402300800000
+  pub in_time : IsMoment t.moment
   pub said : IsSaid desk t.request t.moment t.part t.said
 
 -- what is written for it

@@ -118,8 +118,8 @@ fn answer_call<C: Caller>(
     }
 }
 
-/// Answers what was asked, with the request's body.
-fn answer_ask<C: Caller>(
+/// Answers what was asked, with the request's body: its token is read under the desk's key, and then the call is made.
+pub fn answer_ask<C: Caller>(
     alloc: Global,
     caller: &mut C,
     desk: &Desk,

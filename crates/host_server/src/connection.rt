@@ -2,8 +2,9 @@
 ghost use Rattle.std.specs.Prelude.{◌≡◌, ◌≤◌, ◌<◌, ◌+◌, ◌==◌, OnErr};
 ghost use Rattle.std.specs.Io.KnownBytes.{prepend_known};
 ghost use Rattle.outside.specs.Faults.{Rose};
+ghost use Rattle.wopi_model.specs.Moment.{IsMoment};
 ghost use Rattle.host_server.specs.Connection.{message_limit, is_last, Serves};
-ghost use Rattle.host_server.specs.Steps.{Makes, Replies, Steps};
+ghost use Rattle.host_server.specs.Steps.{Prepares, Replies, Steps};
 
 use crate::answering::answer;
 use crate::desk::Desk;
@@ -53,10 +54,10 @@ fn reply_to<C: Caller>(
     moment: u64,
     close: bool,
 ) -> Option<Reply>
-    requires { moment < 253402300800000 }
+    requires { IsMoment moment }
     ensures basis { C.basis caller.new ≡ C.basis caller.old }
     ensures lent { C.references caller.new ≡ C.references caller.old }
-    ensures makes { Makes desk.now C.always request moment close (C.sight caller.old) (C.sight caller.new) result }
+    ensures makes { Prepares desk.now C.always request moment close (C.sight caller.old) (C.sight caller.new) result }
 {
     match answer(alloc, caller, desk, request, moment) {
         Ok(answer) => match reply_of(alloc, answer, close) {

@@ -1,6 +1,5 @@
 //! Rulings told as answers.
 ghost use Rattle.std.specs.Prelude.{◌≡◌, ◌==◌, [], IfOk, codes, unwrap_or, if◌then◌else◌};
-ghost use Rattle.wopi_headers.specs.Replies.{version_text};
 ghost use Rattle.wopi_headers.specs.declared.answer.BodyKind.TheVariants.{Plain};
 ghost use Rattle.file_info.specs.Info.{HasTexts};
 ghost use Rattle.host_server.specs.Telling.{status_only, journal_full, kind_of_contents, ruling_told, info_of, info_told};
@@ -8,9 +7,8 @@ ghost use Rattle.host_server.specs.Telling.{status_only, journal_full, kind_of_c
 use access_tokens::Token;
 use file_info::{Info, info_text};
 use host_core::Ruling;
-use itoa::Buffer;
 use std::alloc::Global;
-use wopi_headers::{Answer, BodyKind};
+use wopi_headers::{Answer, BodyKind, version_text};
 use wopi_text::{Bytes, FileName, LockField, Memory};
 
 /// Who owns every file.
@@ -86,18 +84,6 @@ pub fn ruling_told(alloc: Global, ruling: Ruling) -> Result<Answer, Memory>
     })
 }
 
-/// The text of a version.
-#[tactic(auto, unfolding(wopi_headers::specs::Replies::version_text))]
-fn version_text(alloc: Global, version: u64) -> Result<Bytes, Memory>
-    ensures { IfOk result (λ text. text ≡ version_text version) }
-{
-    let mut digits = Buffer::new();
-    let mut text = Vec::new(alloc);
-    text.extend_from_slice(b"v")?;
-    text.extend_from_slice(digits.format(version).as_bytes())?;
-    Ok(Bytes::from_vec(text))
-}
-
 /// What is told of the file of that name.
 fn info_of(
     alloc: Global,
@@ -113,7 +99,7 @@ fn info_of(
         name: Bytes::from_slice(alloc, name.as_slice())?,
         owner: Bytes::from_slice(alloc, OWNER)?,
         user: Bytes::from_slice(alloc, token.user.as_slice())?,
-        version: version_text(alloc, version)?,
+        version: Bytes::from_vec(version_text(alloc, version)?),
         size,
         can_write: token.write,
     })

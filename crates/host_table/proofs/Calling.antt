@@ -4,20 +4,23 @@ use mathlib.Core.List.{IsPrefix, map-append}
 use Rattle.std.specs.Prelude as Prelude
 use Rattle.wopi_text.specs.FileName.{shard_of}
 use Rattle.wopi_model.specs.declared.calls.Call.{Call}
-use Rattle.wopi_model.specs.Shard.{Opening, Item, Entry, Legal, RisesFrom, entries}
+use Rattle.wopi_model.specs.Shard.{Opening, Item, Step, Entry, Legal, RisesFrom, entries}
 use Rattle.wopi_model.specs.Host.{FullAt}
 use Rattle.host_core.specs.declared.caller.Receipt.{Receipt}
 use Rattle.host_core.specs.declared.caller.CallFault.{CallFault}
 use Rattle.host_core.specs.Entries.{Made}
 use Rattle.host_core.specs.Caller.{entry_of, Extends, Makes, Refuses, Frames, IsFullCall}
 use Rattle.host_core.specs.Value.{Book}
-use Rattle.host_table.specs.Histories.{steps_of, untimed, last_stamp, IsSeen}
+use Rattle.host_core.specs.Times.{steps_of, untimed}
+use Rattle.host_table.specs.Histories.{last_stamp, IsSeen}
 use Rattle.host_table.specs.Passes.{Place, PassView, Own, stamp_of, own_of, lock_of, base_of, top, seen_at, opening_in, opening_at, sight_of, IsBase, Owns, HasOwn, IsSeat, IsPass, HasSeen, IsSamePass}
 use Rattle.host_table.specs.Calls.{Calls, Looks}
-use Rattle.host_table.proofs.Timing.{entries-untimed}
+use Rattle.host_table.specs.Sights.{seen_alone}
+use Rattle.host_core.proofs.Timing.{entries-untimed}
 use Rattle.host_table.proofs.Stamps.{steps-append, steps-long, last_stamp-prefix, get_last}
 use Rattle.host_table.proofs.Owned.{AreOwn, owns-later, owns-push, own_after, own_stays, rises_after}
-use Rattle.host_table.proofs.Turning.{ok_map, err_map, on_err, either_case}
+use Rattle.host_core.proofs.Results.{ifok_map}
+use Rattle.host_table.proofs.Turning.{err_map, on_err, either_case}
 use Rattle.host_table.proofs.Seats.{get_there, get_set, get_other, map_set, rises_of, seat_there, seats_set, own_seats, top_set, has_seen}
 
 -- the pass, with a seat changed
@@ -104,6 +107,8 @@ module _ {F : Type 0} (p : PassView F) (k : ℕ) (v w : Place F) (inside : IsPas
         pass = refl;
         capacity = refl;
         opened = refl;
+        ticked = refl;
+        alone = λ _. seen_alone (slice_get (set p.seats k w) (shard_of call.name));
         legal = subst Q home legal;
       }
 
@@ -184,11 +189,16 @@ module _ {F : Type 0} (p : PassView F) (k : ℕ) (v w : Place F) (inside : IsPas
           let P : Opening × (ℕ × ℕ) → Type 0 = λ z. FullAt z.0 z.1.0 z.1.1 (untimed made) p.last call moment → ⊥ in
           let terms : (calls.base.opening, (calls.base.opened, calls.base.capacity)) ≡ (opening_at (slice_get p.seats k), (p.opened, p.capacity)) = λ i. (sym opening i, (sym opened i, sym capacity i)) in
           let room : FullAt (opening_at (slice_get p.seats k)) p.opened p.capacity (untimed made) p.last call moment → ⊥ = subst P terms calls.room in
+          let end : untimed (made ++ one ∷ []) ≡ untimed made ++ Step entry ∷ [] = ap (map Step) (steps-append made (one ∷ [])) ∙ map-append Step (steps_of made) (entry ∷ []) in
+          let seen : seen_at (slice_get (set p.seats k w) k) ≡ untimed made ++ Step entry ∷ [] = ap seen_at (get_set p.seats k w here) ∙ (ap untimed calls.seen ∙ end) in
+          let Seen : ℕ → Type 0 = λ n. seen_at (slice_get (set p.seats k w) n) ≡ untimed made ++ Step entry ∷ [] in
           let Last : ℕ → Type 0 = λ n. entries (seen_at (slice_get (set p.seats k w) n)) ≡ entries (untimed made) ++ entry ∷ [] in
           let Begins : ℕ → Type 0 = λ n. Extends (entries (seen_at (slice_get p.seats n))) (entries (untimed made)) in
           let Room : ℕ → Type 0 = λ n. FullAt (opening_at (slice_get p.seats n)) p.opened p.capacity (untimed made) p.last call moment → ⊥ in
           record {
             found = untimed made;
+            later = [];
+            seen = subst Seen home seen;
             own = ap (map (λ (one : Own). one.entry)) own_call ∙ map-append (λ (one : Own). one.entry) (own_of p) _;
             last = subst Last home (now ∙ ap (λ (es : List Entry). es ++ entry ∷ []) (sym found));
             shard = shard_same ∙ home;
@@ -258,13 +268,13 @@ module _ {F : Type 0} (p : PassView F) (k : ℕ) (v w : Place F) (inside : IsPas
       seen_all_then = has_seen q pass_then
 
       pub makes_then : IfOk answer (Makes (sight_of p) (sight_of q) call moment)
-      makes_then = ok_map answer _ _ makes called
+      makes_then = ifok_map answer _ _ makes called
 
       pub refuses_then : IfErr answer (Refuses (sight_of p) (sight_of q) call moment)
       refuses_then = err_map answer _ _ refuses looked
 
       pub own_then : IfOk answer (λ receipt. own_of q ≡ own_of p ++ record { shard = receipt.shard; place = receipt.place; entry = entry_of p.number call moment receipt } ∷ [])
-      own_then = ok_map answer _ _ own_call called
+      own_then = ifok_map answer _ _ own_call called
 
       pub own_stays_then : OnErr answer (own_of q ≡ own_of p)
       own_stays_then = on_err answer _ _ own_looked looked

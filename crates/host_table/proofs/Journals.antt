@@ -15,13 +15,14 @@ use Rattle.host_core.specs.Opening.{IsTaken}
 use Rattle.host_core.specs.Entries.{Made}
 use Rattle.host_core.specs.Value.{Book, Left, IsLawful}
 use Rattle.host_table.specs.declared.journal.Spot.{Spot}
-use Rattle.host_table.specs.Histories.{steps_of, untimed, last_time, as_opened, AreNamed}
-use Rattle.host_table.specs.Held.{IsTaken as IsTakenApart}
+use Rattle.host_core.specs.Times.{steps_of, untimed, last_time}
+use Rattle.host_table.specs.Histories.{as_opened, AreNamed}
+use Rattle.host_table.specs.Held.{IsTakenApart}
 use Rattle.host_table.specs.Passes.{Place, PassView, HostView, Own, stamp_of, own_of, owned_from, lock_of, base_of, IsPassOf, AreBases, IsPass, IsHost, HasOwn}
 use Rattle.host_table.specs.Rows.{CanClose, AreEnds}
 use Rattle.host_table.specs.Journal.{order_of, all_spots, merge_of, AreFound, openings, AreParts}
 use Rattle.host_table.specs.Close.{number_of, capacity_of, AreFree, IsWhole, IsBasedOn, IsJoinOf, AreSeen, AreTaken, IsEnded, AreEnded, Ends}
-use Rattle.host_table.proofs.Timing.{entries-history, legal-untimed}
+use Rattle.host_core.proofs.Timing.{entries-history, legal-untimed}
 use Rattle.host_table.proofs.Stamps.{prefix_get, get_inside}
 use Rattle.host_table.proofs.Owned.{has_own}
 use Rattle.host_table.proofs.Order.{Has, all_at, all_of, has_filter, filter_has, filter_none, has_map, map_has, filter_map_is, AreOrdered, ordered_filter, one_order, rises_ordered}
@@ -71,11 +72,12 @@ module _ {F : Type 0} (files : F → Option Files) (faults : F → ℕ) where
   -- what a shard leaves is of the shard that was opened
   ended_one : (h : Book F) (part : Left F) (folder : F) → IsTakenApart files faults h part folder → IsEnded files faults (as_opened h) part folder
   ended_one h part folder t =
-      let time : last_time h.opened h.made ≡ h.time = sym t.held.time_is in
+      let goes = t.lawful.timely t.held.unticked in
+      let time : last_time h.opened h.made ≡ h.time = sym goes.time_is in
       let P : Left F × F → Type 0 = λ z. IsEnded files faults (as_opened h) z.0 z.1 in
       let both : (record { opening = h.opening; made = h.made; start = h.start }, h.folder) ≡ (part, folder) = λ i. (sym t.left_is i, sym t.folder_is i) in
       let Q : ℕ → Type 0 = λ n. IsLawful (record { only = h.only; opening = h.opening; opened = h.opened; capacity = h.capacity; made = h.made; time = n; ticked = h.ticked; start = h.start; folder = h.folder }) (files h.start) (files h.folder) (faults h.start) (faults h.folder) in
-      subst P both (record { opening = refl; start = refl; timely = t.held.timely; lawful = subst Q (sym time) t.lawful })
+      subst P both (record { opening = refl; start = refl; timely = goes.timely; lawful = subst Q (sym time) t.lawful })
 
   ended_all : (books : List (Book F)) (parts : List (Left F)) (folders : List F) → AreTaken files faults books parts folders → AreEnded files faults (map as_opened books) parts folders
   ended_all [] [] [] a = tt
@@ -213,7 +215,7 @@ part_legal : {F : Type 0} (files : F → Option Files) (faults : F → ℕ) (h :
 part_legal files faults h part folder t =
     let P : Opening × List Made → Type 0 = λ z. Legal z.0 h.opened (untimed z.1) in
     let both : (h.opening, h.made) ≡ (part.opening, part.made) = λ i. ((sym t.left_is i).opening, (sym t.left_is i).made) in
-    subst P both (legal-untimed h.opening h.opened h.made h.time t.held.timely t.lawful.legal)
+    subst P both (t.lawful.alone t.held.unticked)
 
 module _ {F : Type 0} where
   homed_all : (files : F → Option Files) (faults : F → ℕ) (opened capacity j : ℕ) (books : List (Book F)) (parts : List (Left F)) (folders : List F) → AreTaken files faults books parts folders → AreBases opened capacity j (map as_opened books) → AreHomed j parts

@@ -4,7 +4,8 @@ use Rattle.std.proofs.lemmas.Bool.Decides.{nat_tests}
 use mathlib.Core.List.{IsPrefix}
 use Rattle.wopi_model.specs.Shard.{RisesFrom, stamps, last_from}
 use Rattle.host_core.specs.Entries.{Made}
-use Rattle.host_table.specs.Histories.{steps_of, last_stamp}
+use Rattle.host_core.specs.Times.{steps_of}
+use Rattle.host_table.specs.Histories.{last_stamp}
 use Rattle.host_table.specs.Passes.{Place, Own, owned_at, owned, stamp_of, put_in, by_stamp, owned_from, top, HasOwn, Owns}
 use Rattle.host_table.proofs.Stamps.{prefix_get, get_last, last_stamp-most, rises-push}
 

@@ -3,9 +3,10 @@ use Rattle.std.proofs.Common.{◌≡◌, ◌≢◌, ℕ, zero, suc, ◌+◌, ◌
 use Rattle.wopi_model.specs.Shard.{Entry, RisesFrom, stamps}
 use Rattle.host_core.specs.Entries.{Made}
 use Rattle.host_core.specs.Value.{Book}
-use Rattle.host_table.specs.Histories.{steps_of, last_stamp, AreNamed, IsSeen}
+use Rattle.host_core.specs.Times.{steps_of}
+use Rattle.host_table.specs.Histories.{last_stamp, AreNamed, IsSeen}
 use Rattle.host_table.specs.Passes.{PassView, IsPass, HasSeen, Place, top, IsSeat, AreSeats, AreInShards}
-use Rattle.host_table.proofs.Timing.{entries-untimed}
+use Rattle.host_core.proofs.Timing.{entries-untimed}
 use Rattle.host_table.proofs.Owned.{AreOwn}
 
 module _ {A : Type 0} where

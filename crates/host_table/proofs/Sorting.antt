@@ -12,7 +12,8 @@ use Rattle.wopi_model.specs.Host.{place_of, ComesBefore, IsInOrder}
 use Rattle.host_core.specs.Entries.{Made}
 use Rattle.host_core.specs.Value.{Left}
 use Rattle.host_table.specs.declared.journal.Spot.{Spot}
-use Rattle.host_table.specs.Histories.{steps_of, AreNamed}
+use Rattle.host_core.specs.Times.{steps_of}
+use Rattle.host_table.specs.Histories.{AreNamed}
 use Rattle.host_table.specs.Journal.{order_of, spots_from, all_spots, made_in, found, with_found, merge_of, IsFound, AreFound}
 use Rattle.host_table.proofs.Order.{Has, has_left, has_right, all_at, all_of, has_contained, contained_has}
 

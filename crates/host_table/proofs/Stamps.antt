@@ -3,7 +3,8 @@ use Rattle.std.proofs.Common.{◌≡◌, ℕ, zero, suc, ◌≤◌, ◌<◌, Som
 use mathlib.Core.List.{IsPrefix}
 use Rattle.wopi_model.specs.Shard.{Entry, RisesFrom, last_from, stamps}
 use Rattle.host_core.specs.Entries.{Made}
-use Rattle.host_table.specs.Histories.{steps_of, last_stamp}
+use Rattle.host_core.specs.Times.{steps_of}
+use Rattle.host_table.specs.Histories.{last_stamp}
 
 module _ {A : Type 0} where
   pub prefix_get : (xs ys : List A) (k : ℕ) (x : A) → IsPrefix xs ys → slice_get xs k ≡ Some x → slice_get ys k ≡ Some x

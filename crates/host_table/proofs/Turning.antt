@@ -11,7 +11,8 @@ use Rattle.host_core.specs.declared.caller.CallFault.{CallFault}
 use Rattle.host_core.specs.Caller.{entry_of, IsFullCall}
 use Rattle.host_core.specs.Entries.{Made}
 use Rattle.host_core.specs.Value.{Book}
-use Rattle.host_table.specs.Histories.{untimed, as_opened}
+use Rattle.host_core.specs.Times.{untimed}
+use Rattle.host_table.specs.Histories.{as_opened}
 use Rattle.host_table.specs.Held.{Adds, Declines}
 use Rattle.host_table.specs.Passes.{Place}
 use Rattle.host_table.specs.Calls.{Calls, Looks}
@@ -74,10 +75,6 @@ refused_call v w old new call floor moment refusal free based begins is declines
       handed = declines.handed;
       same = is ∙ (λ i. record { lock = v.lock; seen = sym seen i; own = own i; weight = v.weight; base = v.base; taken = sym free i });
     }
-
-pub ok_map : {A E : Type 0} (r : Result A E) (P Q : A → Type 0) → ((x : A) → P x → Q x) → IfOk r P → IfOk r Q
-ok_map (Ok x) P Q f h = f x h
-ok_map (Err e) P Q f h = tt
 
 pub err_map : {A E : Type 0} (r : Result A E) (P Q : E → Type 0) → ((e : E) → P e → Q e) → IfErr r P → IfErr r Q
 err_map (Ok x) P Q f h = tt

@@ -8,7 +8,7 @@ use Rattle.host_core.specs.declared.caller.CallFault.{CallFault}
 use Rattle.host_core.specs.Caller.{entry_of, called_back, IsFullCall}
 use Rattle.host_core.specs.Entries.{Made, back_of}
 use Rattle.host_core.specs.Value.{Book}
-use Rattle.host_table.specs.Histories.{untimed}
+use Rattle.host_core.specs.Times.{untimed}
 use Rattle.host_table.specs.Passes.{Place}
 
 module _ {F : Type 0} (v : Place F) (call : Call) where

@@ -6,8 +6,8 @@ use Rattle.turn_lock.specs.Places.{total, AreAllBelow, longer}
 use Rattle.outside.specs.Folder.{Files}
 use Rattle.wopi_model.specs.Host.{LegalHost}
 use Rattle.host_core.specs.Value.{Book, Left, IsLawful}
-use Rattle.host_table.specs.Histories.{steps_of, last_time, IsTimely}
-use Rattle.host_table.specs.Held.{IsTaken}
+use Rattle.host_core.specs.Times.{steps_of, last_time, IsTimely}
+use Rattle.host_table.specs.Held.{IsTakenApart}
 use Rattle.host_table.specs.Journal.{JournalView, AreParts, openings}
 use Rattle.host_table.specs.Passes.{Place, PassView, HostView, own_of, base_of, IsPass}
 
@@ -86,7 +86,7 @@ module _ {F : Type 0} (files : F → Option Files) (faults : F → ℕ) where
   -- each shard was taken apart
   abbrev pub AreTaken : List (Book F) → List (Left F) → List F → Type 0
   AreTaken [] [] [] = ⊤
-  AreTaken (book ∷ books) (part ∷ parts) (folder ∷ folders) = IsTaken files faults book part folder × AreTaken books parts folders
+  AreTaken (book ∷ books) (part ∷ parts) (folder ∷ folders) = IsTakenApart files faults book part folder × AreTaken books parts folders
   AreTaken _ _ _ = ⊥
 
   -- What a shard leaves is of the shard that was opened, and its folder is as the last step left it: it holds what the

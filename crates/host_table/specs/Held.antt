@@ -1,5 +1,5 @@
 -- A shard of a host, as it lies under its lock. (Own.)
-use Rattle.std.specs.Prelude.{◌≡◌, ℕ, ◌≤◌, ◌<◌, [], ◌∷◌, ◌++◌, length, Option, Some}
+use Rattle.std.specs.Prelude.{◌≡◌, ℕ, ◌≤◌, ◌<◌, false, [], ◌∷◌, ◌++◌, length, Option, Some}
 use Rattle.outside.specs.Folder.{Files, Keeps}
 use Rattle.wopi_model.specs.declared.calls.Call.{Call}
 use Rattle.wopi_model.specs.Host.{FullAt}
@@ -8,12 +8,12 @@ use Rattle.host_core.specs.declared.caller.CallFault.{CallFault}
 use Rattle.host_core.specs.Caller.{entry_of, called_back, IsFullCall}
 use Rattle.host_core.specs.Entries.{back_of}
 use Rattle.host_core.specs.Value.{Book, Left, IsLawful}
-use Rattle.host_table.specs.Histories.{untimed, last_time, IsTimely, AreNamed}
+use Rattle.host_core.specs.Times.{untimed}
+use Rattle.host_table.specs.Histories.{AreNamed}
 
--- What each of a host's shards keeps. Before its first entry the folder holds what it held at the start.
+-- What each of a host's shards keeps: nobody set its time apart from an entry. Before its first entry the folder holds what it held at the start.
 pub record IsHeld {F : Type 0} (book : Book F) (start now : Option Files) (began count : ℕ) : Type 0 where
-  pub timely : IsTimely book.opened book.made
-  pub time_is : book.time ≡ last_time book.opened book.made
+  pub unticked : book.ticked ≡ false
   pub named : AreNamed book.only book.made
   pub few : length book.made ≤ book.capacity
   pub unchanged : book.made ≡ [] → Keeps start now
@@ -36,7 +36,7 @@ pub record Declines {F : Type 0} (old new : Book F) (call : Call) (floor moment 
   pub handed : called_back refusal ≡ call
 
 -- what a shard leaves, and its folder as the last step left it
-pub record IsTaken {F : Type 0} (files : F → Option Files) (faults : F → ℕ) (book : Book F) (left : Left F) (folder : F) : Type 0 where
+pub record IsTakenApart {F : Type 0} (files : F → Option Files) (faults : F → ℕ) (book : Book F) (left : Left F) (folder : F) : Type 0 where
   pub left_is : left ≡ record { opening = book.opening; made = book.made; start = book.start }
   pub folder_is : folder ≡ book.folder
   pub held : IsHeld book (files book.start) (files book.folder) (faults book.start) (faults book.folder)

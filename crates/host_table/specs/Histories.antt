@@ -1,30 +1,14 @@
--- A shard's history as its entries alone. (Own.)
-use Rattle.std.specs.Prelude.{◌≡◌, ⊤, ℕ, max, Option, List, [], ◌∷◌, map}
+-- What a shard's seat has seen of it. (Own.)
+use Rattle.std.specs.Prelude.{ℕ, Option, List, []}
 use Rattle.std.specs.List.{AllByRecursion}
-use Rattle.wopi_model.specs.Shard.{Item, Step, Entry, Legal, stamps, last_from}
+use Rattle.wopi_model.specs.Shard.{Legal, stamps, last_from}
 use Rattle.host_core.specs.Entries.{Made}
 use Rattle.host_core.specs.Opening.{IsOfShard}
+use Rattle.host_core.specs.Times.{steps_of, untimed}
 use Rattle.host_core.specs.Value.{Book}
-
-abbrev pub steps_of : List Made → List Entry
-steps_of made = map (λ one. one.step) made
-
--- The entries without the ticks between them. Where time goes on with entries alone, the ticks change nothing.
-abbrev pub untimed : List Made → List Item
-untimed made = map Step (steps_of made)
 
 abbrev pub last_stamp : List Made → ℕ
 last_stamp made = last_from 0 (stamps (steps_of made))
-
--- the time of the last entry, or that time where there is none
-abbrev pub last_time : ℕ → List Made → ℕ
-last_time time [] = time
-last_time time (one ∷ made) = last_time one.time made
-
--- time begins there, and goes on with entries alone
-abbrev pub IsTimely : ℕ → List Made → Type 0
-IsTimely time [] = ⊤
-IsTimely time (one ∷ made) = (one.time ≡ max time one.step.moment) × IsTimely one.time made
 
 -- each entry stands in its name's shard
 abbrev pub AreNamed : Option ℕ → List Made → Type 0

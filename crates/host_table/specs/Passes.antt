@@ -9,7 +9,8 @@ use Rattle.host_core.specs.Opening.{IsTaken}
 use Rattle.host_core.specs.Entries.{Made}
 use Rattle.host_core.specs.Caller.{Sight}
 use Rattle.host_core.specs.Value.{Book}
-use Rattle.host_table.specs.Histories.{untimed, last_stamp, AreNamed, IsSeen}
+use Rattle.host_core.specs.Times.{untimed}
+use Rattle.host_table.specs.Histories.{last_stamp, AreNamed, IsSeen}
 
 -- A seat at a shard's lock. Its base is the shard as it was opened.
 abbrev pub Place : Type 0 → Type 0
@@ -116,6 +117,7 @@ module _ {F : Type 0} where
     floor = pass.last;
     capacity = pass.capacity;
     opened = pass.opened;
+    ticked = false;
     home = shard_of;
     openings = λ shard. opening_at (slice_get pass.seats shard);
     seen = λ shard. seen_at (slice_get pass.seats shard);

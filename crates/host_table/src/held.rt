@@ -6,7 +6,7 @@ ghost use Rattle.wopi_model.specs.Moment.{IsMoment};
 ghost use Rattle.host_core.specs.Opening.{IsOpening, Fits, IsTooLarge, IfTooLarge};
 ghost use Rattle.wopi_text.specs.FileName.{shard_of};
 ghost use Rattle.host_table.specs.Histories.{last_stamp, as_opened, IsSeen};
-ghost use Rattle.host_table.specs.Held.{Adds, Declines, IsTaken};
+ghost use Rattle.host_table.specs.Held.{Adds, Declines, IsTakenApart};
 
 use host_core::{CallFault, Past, Receipt, Shard, StartFault, StepFault};
 use outside::Folder;
@@ -145,7 +145,7 @@ impl<F: Folder> Held<F> {
 
     /// The folder as the last step left it, and what the shard leaves.
     pub fn end(self) -> (F, Past<F>)
-        ensures taken { IsTaken F.files F.faults self result.1 result.0 }
+        ensures taken { IsTakenApart F.files F.faults self result.1 result.0 }
     {
         let Held { shard } = self;
         let (folder, past) = shard.end();

@@ -1,70 +1,138 @@
-//! Makes the real streams, folders and clocks, hands them to the top call, and ends with its status.
+//! Makes the real streams, folders, listeners and clocks, hands them to the top call, and ends with its status.
 #![tactic(auto)]
 
-ghost use Rattle.std.specs.Prelude.{◌≡◌, ◌↔◌, IfOk, IsTrue, map, string_bytes, vec_len};
+ghost use Rattle.std.specs.Prelude.{◌≡◌, ℕ, List, IfOk, map, string_bytes, vec_len};
+ghost use Rattle.wopi_program.specs.ServeWords.{IsServeRow};
 ghost use Rattle.wopi_program.specs.Words.{IsRow};
 
 use outside::{DirFolder, StdSink, StdSource, SystemClock, TcpDialer, TcpListen};
 use std::alloc::Global;
 use std::env::{self, Env};
 use std::fs::Files;
+use std::io::ErrorKind;
+use std::net::{Net, TcpListener, TcpStream};
 use std::process::ExitCode;
 use std::time;
-use wopi_program::{Command, Outside, read_words, run};
+use wopi_program::{Command, Outside, ServeAsk, read_words, run, serve_ask};
 use wopi_text::Memory;
 
-/// Whether the words' command works with a folder and a clock.
-fn has_folder(words: &[String]) -> bool
-    ensures { IsTrue result ↔ IsRow (map string_bytes words.now) Command.Once }
+/// How many folders and clocks a command works with.
+#[derive(Clone, Copy, Debug, PartialEq, Eq)]
+struct Parts {
+    folders: usize,
+    clocks: usize,
+}
+
+const ONE: Parts = Parts {
+    folders: 1,
+    clocks: 1,
+};
+
+const NONE: Parts = Parts {
+    folders: 0,
+    clocks: 0,
+};
+
+/// Those of `serve`.
+fn parts_of_serve(words: &[String]) -> Parts
+    requires { IsRow (map string_bytes words.now) Command.Serve }
+    ensures { (key : List ℕ) (base : List ℕ) (ask : ServeAsk) → IsServeRow (map string_bytes words.now) key base ask
+        → (result.folders ≡ 16) × (result.clocks ≡ ask.workers) }
 {
-    match read_words(words) {
-        Some(Command::Once) => true,
-        Some(Command::Token) => false,
-        Some(Command::Help) => false,
-        Some(Command::Version) => false,
-        None => false,
+    match serve_ask(words) {
+        Some(ask) => Parts {
+            folders: 16,
+            clocks: ask.workers as usize,
+        },
+        None => unreachable!(),
     }
 }
 
-/// The folder of the words, where their command has one.
+/// Those of the words' command.
+fn parts_of(words: &[String]) -> Parts
+    ensures once { IsRow (map string_bytes words.now) Command.Once → (result.folders ≡ 1) × (result.clocks ≡ 1) }
+    ensures serve { (key : List ℕ) (base : List ℕ) (ask : ServeAsk) → IsServeRow (map string_bytes words.now) key base ask
+        → (result.folders ≡ 16) × (result.clocks ≡ ask.workers) }
+{
+    match read_words(words) {
+        Some(Command::Once) => Parts {
+            folders: 1,
+            clocks: 1,
+        },
+        Some(Command::Serve) => parts_of_serve(words),
+        Some(Command::Token) => NONE,
+        Some(Command::Help) => NONE,
+        Some(Command::Version) => NONE,
+        None => NONE,
+    }
+}
+
+/// So many times the folder of the words, which is the second of them.
 fn folders<'a, R: Files>(
     alloc: Global,
     rt: &'a R,
     words: &[String],
+    count: usize,
 ) -> Result<Vec<DirFolder<'a, R>>, Memory>
-    ensures { IsRow (map string_bytes words.now) Command.Once → IfOk result (λ all. vec_len all ≡ 1) }
+    ensures { IfOk result (λ all. vec_len all ≡ count) }
 {
-    let mut all = Vec::new(alloc);
-    if has_folder(words) {
-        let name = match words {
-            [_, folder, ..] => folder.as_str(),
-            _ => "",
-        };
+    let name = match words {
+        [_, folder, ..] => folder.as_str(),
+        _ => "",
+    };
+    let mut all = Vec::with_capacity(alloc, count)?;
+    for _ in 0..count {
         all.push(DirFolder::new(alloc, rt, name)?)?;
     }
     Ok(all)
 }
 
-/// A clock, where the command of the words has one.
+/// So many clocks.
 fn clocks<'a, T: time::Clock>(
     alloc: Global,
     clock: &'a T,
-    words: &[String],
+    count: usize,
 ) -> Result<Vec<SystemClock<'a, T>>, Memory>
-    ensures { IsRow (map string_bytes words.now) Command.Once → IfOk result (λ all. vec_len all ≡ 1) }
+    ensures { IfOk result (λ all. vec_len all ≡ count) }
 {
-    let mut all = Vec::new(alloc);
-    if has_folder(words) {
+    let mut all = Vec::with_capacity(alloc, count)?;
+    for _ in 0..count {
         all.push(SystemClock::new(clock))?;
     }
     Ok(all)
 }
 
+/// The listeners of the words' workers, over one socket at the port of the words. Only this machine reaches it.
+fn listeners<R: Net<Stream = TcpStream, Listener = TcpListener>>(
+    alloc: Global,
+    rt: &R,
+    words: &[String],
+) -> Result<Vec<TcpListen>, Memory>
+    ensures { (key : List ℕ) (base : List ℕ) (ask : ServeAsk) → IsServeRow (map string_bytes words.now) key base ask
+        → IfOk result (λ all. vec_len all ≡ ask.workers) }
+{
+    match serve_ask(words) {
+        Some(ask) => {
+            let address = format!(in alloc; "127.0.0.1:{}", ask.port)?;
+            TcpListen::bind(
+                alloc,
+                rt,
+                address.as_str(),
+                ask.workers as usize,
+                ask.each as u64,
+            )
+        }
+        None => Ok(Vec::new(alloc)),
+    }
+}
+
 /// The words after the program's name; none where one of them is no text.
 fn words<R: Env + AllocGlobal>(rt: &R) -> Result<Vec<String>, Memory> {
     let mut all = Vec::new(rt.alloc());
-    let Ok(args) = env::args(rt) else {
-        return Ok(all);
+    let args = match env::args(rt) {
+        Ok(args) => args,
+        Err(error) if error.kind() == ErrorKind::OutOfMemory => return Err(Memory),
+        Err(_) => return Ok(all),
     };
     for word in args.skip(1) {
         all.push(word)?;
@@ -77,13 +145,16 @@ fn main(rt: HostRuntime) -> ExitCode {
     let Ok(words) = words(&rt) else {
         return ExitCode::from(6);
     };
-    let Ok(folders) = folders(alloc, &rt, &words) else {
+    let parts = parts_of(&words);
+    let Ok(folders) = folders(alloc, &rt, &words, parts.folders) else {
         return ExitCode::from(6);
     };
-    let Ok(clocks) = clocks(alloc, &rt, &words) else {
+    let Ok(listeners) = listeners(alloc, &rt, &words) else {
         return ExitCode::from(6);
     };
-    let listeners: Vec<TcpListen> = Vec::new(alloc);
+    let Ok(clocks) = clocks(alloc, &rt, parts.clocks) else {
+        return ExitCode::from(6);
+    };
     let mut outside = Outside {
         input: StdSource::new(rt.stdin()),
         output: StdSink::output(rt.stdout()),

@@ -1,17 +1,22 @@
 -- From a shard that was served to a run of `once`.
-use Rattle.std.proofs.Common.{◌≡◌, ◌≢◌, ℕ, false, List, [], Option, None, sym, ap, ◌∙◌, subst, inl, inr, arith}
+use Rattle.std.proofs.Common.{◌≡◌, ◌≢◌, ℕ, Bool, false, List, [], ◌++◌, map, Option, None, sym, ap, ◌∙◌, subst, inl, inr, arith}
 use Rattle.outside.specs.Folder.{Files}
 use Rattle.outside.specs.Clock.{Gives}
+use Rattle.wopi_model.specs.Shard.{Opening, Item, Step, Entry, Legal, entries}
+use Rattle.host_core.specs.Entries.{Made, items_of}
+use Rattle.host_core.specs.Times.{untimed, happened_of}
 use Rattle.host_core.specs.Value.{Book, IsLawful}
 use Rattle.host_core.specs.Opening.{IsOpening, Fits}
-use Rattle.host_core.specs.Single.{sight_of, SeesItsOwn}
+use Rattle.host_core.specs.Single.{sight_of, sees_its_own, SeesItsOwn}
 use Rattle.host_server.specs.declared.desk.Desk.{Desk}
 use Rattle.host_server.specs.declared.connection.ConnEnd.{ConnEnd}
 use Rattle.host_server.specs.declared.connection.ConnEnd.TheVariants as conn
 use Rattle.host_server.specs.Connection.{Serves}
+use Rattle.host_server.specs.Deeds.{made}
 use Rattle.wopi_program.specs.declared.outside_world.Outside.{Outside}
 use Rattle.wopi_program.specs.declared.once.OnceEnd.{OnceEnd}
 use Rattle.wopi_program.specs.declared.once.OnceEnd.TheVariants.{Served, FolderFault, TooLarge, Memory}
+use Rattle.wopi_program.specs.Meanings.{Meanings}
 use Rattle.wopi_program.specs.Once.{IsFresh, ServesShard, OpensAndServes, Finishes, OnceEnds}
 
 module _ {F : Type 0} (files : F → Option Files) (faults : F → ℕ) where
@@ -29,6 +34,23 @@ module _ {F : Type 0} (files : F → Option Files) (faults : F → ℕ) where
     lawful = lawful;
     folder_is = folder_is;
   }
+
+  -- the entries of a connection over a fresh shard are legal by themselves
+  legal_alone : (desk : Desk) (end : ConnEnd) (left clock clock' held held' : Option (List ℕ)) (folder : F) (first : Book F) → first.made ≡ [] → first.ticked ≡ false
+      → (s : ServesShard files faults desk end left clock clock' held held' first folder) → Legal first.opening first.opened (map Step (made s.serves.deeds))
+  legal_alone desk end left clock clock' held held' folder first none unticked s =
+      let last = s.last in
+      let does = s.serves.makes in
+      let calm : last.ticked ≡ false = does.follows.ticked ∙ unticked in
+      let own : entries (items_of last.made) ≡ made s.serves.deeds = does.own ∙ ap (λ (m : List Made). entries (items_of m) ++ made s.serves.deeds) none in
+      let items : untimed last.made ≡ map Step (made s.serves.deeds) =
+      sym (ap (λ (b : Bool). happened_of b last.made last.time) calm) ∙ (sees_its_own last).alone calm ∙ ap (λ (es : List Entry). map Step es) own
+      in
+      let opening : last.opening ≡ first.opening = does.follows.openings 0 in
+      let opened : last.opened ≡ first.opened = does.follows.opened in
+      subst (λ (o : Opening). Legal o first.opened (map Step (made s.serves.deeds))) opening
+      (subst (λ (m : ℕ). Legal last.opening m (map Step (made s.serves.deeds))) opened
+      (subst (λ (l : List Item). Legal last.opening last.opened l) items (s.lawful.alone calm)))
 
   pub opens_and_serves : (desk : Desk) (key base : List ℕ) (opened : ℕ) (end : ConnEnd) (left clock mid clock' held held' : Option (List ℕ)) (folder folder' : F)
       (first : Book F) → desk.key ≡ key → desk.base ≡ base → desk.opened ≡ opened → Gives clock mid opened
@@ -55,6 +77,8 @@ module _ {F : Type 0} (files : F → Option Files) (faults : F → ℕ) where
     times = subst (Gives clock mid) (sym opened_is) times;
     opens = subst (λ m. IsFresh files folder m first) (sym opened_is) (record { book = book; opening = opening; fits = fits });
     serves = serves;
+    legal = subst (λ (m : ℕ). Legal first.opening m (map Step (made serves.serves.deeds))) (ap (λ (b : Book F). b.opened) book ∙ sym opened_is)
+        (legal_alone desk end left mid clock' held held' folder' first (ap (λ (b : Book F). b.made) book) (ap (λ (b : Book F). b.ticked) book) serves);
   }
 
 Finishes-known : {K : Type 0} (held : K → Option (List ℕ)) (count : K → ℕ) (status : ℕ) (old new : K) (end : OnceEnd)
@@ -69,10 +93,7 @@ Finishes-known held count status old new (TooLarge name) (inr want) two = absurd
 Finishes-known held count status old new Memory is two = absurd (omega (arith, is.0, two))
 
 -- a run of `once` doesn't end as words that are no command
-pub OnceEnds-known : {S K F N D C : Type 0} (left : S → Option (List ℕ)) (read_faults : S → ℕ) (held : K → Option (List ℕ)) (write_faults : K → ℕ)
-    (files : F → Option Files) (faults : F → ℕ) (moments : C → Option (List ℕ)) (words : List (List ℕ)) (status : ℕ) (old new : Outside S K F N D C)
-    → OnceEnds left read_faults held write_faults files faults moments words status old new → status ≢ 2
-OnceEnds-known left read_faults held write_faults files faults moments words status old new (inl want) =
-    λ two. let six = want.status_is in absurd (omega (arith, six, two))
-OnceEnds-known left read_faults held write_faults files faults moments words status old new (inr ran) =
-    Finishes-known held write_faults status old.notes new.notes ran.end ran.finishes
+pub OnceEnds-known : {S K F N D C L : Type 0} (m : Meanings S K F N D C L) (words : List (List ℕ)) (status : ℕ) (old new : Outside S K F N D C)
+    → OnceEnds m words status old new → status ≢ 2
+OnceEnds-known m words status old new (inl want) = λ two. let six = want.status_is in absurd (omega (arith, six, two))
+OnceEnds-known m words status old new (inr ran) = Finishes-known m.held m.write_faults status old.notes new.notes ran.end ran.finishes

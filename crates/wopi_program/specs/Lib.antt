@@ -1,6 +1,13 @@
 pub mod Words
 pub mod Notes
+pub mod Meanings
 pub mod Telling
 pub mod Once
 pub mod Token
 pub mod Runs
+pub mod Passes
+pub mod Journal
+pub mod Serve
+pub mod Worked
+pub mod ServeWords
+pub mod ServeEnds

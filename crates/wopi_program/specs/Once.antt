@@ -1,9 +1,10 @@
 -- What a run of `once` promises.
-use Rattle.std.specs.Prelude.{◌≡◌, ◌⊎◌, ⊤, ℕ, false, List, [], ◌∷◌, ◌++◌, Option, None, codes}
+use Rattle.std.specs.Prelude.{◌≡◌, ◌⊎◌, ⊤, ℕ, false, List, [], ◌∷◌, ◌++◌, map, Option, None, codes}
 use Rattle.outside.specs.Faults.{Rose}
 use Rattle.outside.specs.Clock.{Gives}
 use Rattle.outside.specs.Folder.{Files, Keeps}
 use Rattle.wopi_text.specs.Ids.{id_of}
+use Rattle.wopi_model.specs.Shard.{Step, Legal}
 use Rattle.host_core.specs.declared.opening.StartFault.{StartFault}
 use Rattle.host_core.specs.declared.opening.StartFault.TheVariants as start
 use Rattle.host_core.specs.Value.{Book, IsLawful}
@@ -13,9 +14,11 @@ use Rattle.host_server.specs.declared.desk.Desk.{Desk}
 use Rattle.host_server.specs.declared.connection.ConnEnd.{ConnEnd}
 use Rattle.host_server.specs.declared.connection.ConnEnd.TheVariants as conn
 use Rattle.host_server.specs.Connection.{Serves}
+use Rattle.host_server.specs.Deeds.{made}
 use Rattle.wopi_program.specs.declared.outside_world.Outside.{Outside}
 use Rattle.wopi_program.specs.declared.once.OnceEnd.{OnceEnd}
 use Rattle.wopi_program.specs.declared.once.OnceEnd.TheVariants.{Served, FolderFault, TooLarge, Memory}
+use Rattle.wopi_program.specs.Meanings.{Meanings}
 use Rattle.wopi_program.specs.Notes.{Notes, NotesFor}
 use Rattle.wopi_program.specs.Words.{IsOnceRow}
 use Rattle.wopi_program.specs.Telling.{Wants}
@@ -75,7 +78,8 @@ pub record ServesShard {F : Type 0} (files : F → Option Files) (faults : F →
   pub lawful : IsLawful last (files last.start) (files last.folder) (faults last.start) (faults last.folder)
   pub folder_is : folder ≡ last.folder
 
--- The clock's first moment opened the shard, and the connection was served by its later ones.
+-- The clock's first moment opened the shard, and the connection was served by its later ones. The entries that were made are
+-- legal by themselves, from the opening: nobody set the shard's time beside them.
 pub record OpensAndServes {F : Type 0} (files : F → Option Files) (faults : F → ℕ) (key base : List ℕ) (end : ConnEnd)
     (left clock clock' held held' : Option (List ℕ)) (folder folder' : F) : Type 0 where
   pub desk : Desk
@@ -86,6 +90,7 @@ pub record OpensAndServes {F : Type 0} (files : F → Option Files) (faults : F 
   pub times : Gives clock mid desk.opened
   pub opens : IsFresh files folder desk.opened first
   pub serves : ServesShard files faults desk end left mid clock' held held' first folder'
+  pub legal : Legal first.opening desk.opened (map Step (made serves.serves.deeds))
 
 -- What a run did, by its end. Where no shard was opened the folder holds what it held.
 abbrev pub OnceRuns : {F : Type 0} → (F → Option Files) → (F → ℕ) → List ℕ → List ℕ → OnceEnd
@@ -98,19 +103,18 @@ OnceRuns files faults key base (TooLarge name) left clock clock' held held' fold
     IsTooLarge None (files folder) name × Keeps (files folder) (files folder')
 OnceRuns files faults key base Memory left clock clock' held held' folder folder' = Keeps (files folder) (files folder')
 
--- the moments that the one clock gave
-abbrev pub told_by : {C : Type 0} → (C → Option (List ℕ)) → List C → Option (List ℕ)
-told_by moments (clock ∷ []) = moments clock
-told_by moments clocks = None
-
--- the same with the one folder and the one clock in their lists
+-- the same with the one folder and the one clock in their lists, in which they are again
 pub record OnceRunsIn {F C : Type 0} (files : F → Option Files) (faults : F → ℕ) (moments : C → Option (List ℕ)) (key base : List ℕ) (end : OnceEnd)
     (left held held' : Option (List ℕ)) (folders folders' : List F) (clocks clocks' : List C) : Type 0 where
   pub folder : F
   pub folder' : F
   pub folders_are : folders ≡ folder ∷ []
   pub folders_then : folders' ≡ folder' ∷ []
-  pub runs : OnceRuns files faults key base end left (told_by moments clocks) (told_by moments clocks') held held' folder folder'
+  pub clock : C
+  pub clock' : C
+  pub clocks_are : clocks ≡ clock ∷ []
+  pub clocks_then : clocks' ≡ clock' ∷ []
+  pub runs : OnceRuns files faults key base end left (moments clock) (moments clock') held held' folder folder'
 
 -- where no connection was served the streams stay as they were
 abbrev pub Untouched : {S K : Type 0} → OnceEnd → S → S → K → K → Type 0
@@ -118,22 +122,18 @@ Untouched (Served end) source source' sink sink' = ⊤
 Untouched end source source' sink sink' = (source' ≡ source) × (sink' ≡ sink)
 
 -- A run under the key and the base of the words: what it did, the causes of the faults, the status's line on the notes; and all else stays.
-pub record OnceRan {S K F N D C : Type 0} (left : S → Option (List ℕ)) (read_faults : S → ℕ) (held : K → Option (List ℕ)) (write_faults : K → ℕ)
-    (files : F → Option Files) (faults : F → ℕ) (moments : C → Option (List ℕ)) (words : List (List ℕ)) (status : ℕ) (old new : Outside S K F N D C)
-    : Type 0 where
+pub record OnceRan {S K F N D C L : Type 0} (m : Meanings S K F N D C L) (words : List (List ℕ)) (status : ℕ) (old new : Outside S K F N D C) : Type 0 where
   pub end : OnceEnd
   pub key : List ℕ
   pub base : List ℕ
   pub row : IsOnceRow words key base
-  pub runs : OnceRunsIn files faults moments key base end (left old.input) (held old.output) (held new.output)
+  pub runs : OnceRunsIn m.files m.folder_faults m.moments key base end (m.left old.input) (m.held old.output) (m.held new.output)
       old.folders.items new.folders.items old.clocks.items new.clocks.items
   pub untouched : Untouched end old.input new.input old.output new.output
-  pub read_cause : status ≡ 3 → Rose (read_faults old.input) (read_faults new.input)
-  pub write_cause : status ≡ 4 → Rose (write_faults old.output) (write_faults new.output)
-  pub finishes : Finishes held write_faults status old.notes new.notes end
+  pub read_cause : status ≡ 3 → Rose (m.read_faults old.input) (m.read_faults new.input)
+  pub write_cause : status ≡ 4 → Rose (m.write_faults old.output) (m.write_faults new.output)
+  pub finishes : Finishes m.held m.write_faults status old.notes new.notes end
   pub others : new ≡ record old { input = new.input; output = new.output; notes = new.notes; folders = new.folders; clocks = new.clocks }
 
-abbrev pub OnceEnds : {S K F N D C : Type 0} → (S → Option (List ℕ)) → (S → ℕ) → (K → Option (List ℕ)) → (K → ℕ)
-    → (F → Option Files) → (F → ℕ) → (C → Option (List ℕ)) → List (List ℕ) → ℕ → Outside S K F N D C → Outside S K F N D C → Type 0
-OnceEnds left read_faults held write_faults files faults moments words status old new =
-    Wants held write_faults status old new ⊎ OnceRan left read_faults held write_faults files faults moments words status old new
+abbrev pub OnceEnds : {S K F N D C L : Type 0} → Meanings S K F N D C L → List (List ℕ) → ℕ → Outside S K F N D C → Outside S K F N D C → Type 0
+OnceEnds m words status old new = Wants m.held m.write_faults status old new ⊎ OnceRan m words status old new

@@ -1,8 +1,9 @@
 -- What a run of `token` promises. (Own.)
-use Rattle.std.specs.Prelude.{◌⊎◌, ℕ, List, ◌++◌, Option, codes}
+use Rattle.std.specs.Prelude.{◌⊎◌, ℕ, List, ◌++◌, codes}
 use Rattle.access_tokens.specs.TokenText.{token_text}
 use Rattle.wopi_model.specs.declared.token.Token.{Token}
 use Rattle.wopi_program.specs.declared.outside_world.Outside.{Outside}
+use Rattle.wopi_program.specs.Meanings.{Meanings}
 use Rattle.wopi_program.specs.Words.{IsTokenRow}
 use Rattle.wopi_program.specs.Telling.{TextEnds, Wants}
 
@@ -11,13 +12,11 @@ abbrev pub token_line : List ℕ → Token → List ℕ
 token_line key token = token_text key token ++ codes "\n"
 
 -- The line of the words' token under their key was written, or a front of it where the output failed.
-pub record TokenTold {S K F N D C : Type 0} (held : K → Option (List ℕ)) (write_faults : K → ℕ) (words : List (List ℕ)) (status : ℕ) (old new : Outside S K F N D C)
-    : Type 0 where
+pub record TokenTold {S K F N D C L : Type 0} (m : Meanings S K F N D C L) (words : List (List ℕ)) (status : ℕ) (old new : Outside S K F N D C) : Type 0 where
   pub key : List ℕ
   pub token : Token
   pub row : IsTokenRow words key token
-  pub told : TextEnds held write_faults (token_line key token) status old new
+  pub told : TextEnds m.held m.write_faults (token_line key token) status old new
 
-abbrev pub TokenEnds : {S K F N D C : Type 0} → (K → Option (List ℕ)) → (K → ℕ) → List (List ℕ) → ℕ → Outside S K F N D C → Outside S K F N D C → Type 0
-TokenEnds held write_faults words status old new =
-    Wants held write_faults status old new ⊎ TokenTold held write_faults words status old new
+abbrev pub TokenEnds : {S K F N D C L : Type 0} → Meanings S K F N D C L → List (List ℕ) → ℕ → Outside S K F N D C → Outside S K F N D C → Type 0
+TokenEnds m words status old new = Wants m.held m.write_faults status old new ⊎ TokenTold m words status old new

@@ -6,6 +6,7 @@ use Rattle.host_server.specs.Bases.{is_base}
 use Rattle.wopi_model.specs.declared.token.Token.{Token}
 use Rattle.wopi_program.specs.declared.command.Command.{Command}
 use Rattle.wopi_program.specs.declared.command.Command.TheVariants as command
+use Rattle.wopi_program.specs.ServeWords.{IsServe}
 
 -- once FOLDER KEY BASE
 pub record IsOnceRow (words : List (List ℕ)) (key base : List ℕ) : Type 0 where
@@ -33,6 +34,7 @@ abbrev pub IsRow : List (List ℕ) → Command → Type 0
 IsRow words command.Help = words ≡ codes "--help" ∷ []
 IsRow words command.Version = words ≡ codes "--version" ∷ []
 IsRow words command.Once = (key : List ℕ) × (base : List ℕ) × IsOnceRow words key base
+IsRow words command.Serve = IsServe words
 IsRow words command.Token = (key : List ℕ) × (token : Token) × IsTokenRow words key token
 
 -- the words are a row of some command

@@ -3,6 +3,7 @@ ghost use Rattle.std.specs.Prelude.{◌≡◌, ◌↔◌, [], ◌∷◌, map, st
 ghost use Rattle.wopi_program.specs.Words.{IsRow};
 
 use crate::once_words::once_words;
+use crate::serve_words::serve_words;
 use crate::token_words::token_words;
 
 /// What the words ask for.
@@ -14,6 +15,8 @@ pub enum Command {
     Version,
     /// The requests of the input answered on the output.
     Once,
+    /// The requests of many connections answered by a host, and its journal on the output.
+    Serve,
     /// The text of an access token, on the output.
     Token,
 }
@@ -32,6 +35,15 @@ fn is_once(words: &[String]) -> bool
     ensures { IsTrue result ↔ IsRow (map string_bytes words.now) Command.Once }
 {
     match once_words(words) {
+        Some(_) => true,
+        None => false,
+    }
+}
+
+fn is_serve(words: &[String]) -> bool
+    ensures { IsTrue result ↔ IsRow (map string_bytes words.now) Command.Serve }
+{
+    match serve_words(words) {
         Some(_) => true,
         None => false,
     }
@@ -56,6 +68,8 @@ pub fn read_words(words: &[String]) -> Option<Command>
         Some(Command::Version)
     } else if is_once(words) {
         Some(Command::Once)
+    } else if is_serve(words) {
+        Some(Command::Serve)
     } else if is_token(words) {
         Some(Command::Token)
     } else {

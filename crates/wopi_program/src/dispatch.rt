@@ -1,9 +1,12 @@
 //! The top call.
-ghost use Rattle.std.specs.Prelude.{◌≡◌, ◌↔◌, length, map, string_bytes};
+ghost use Rattle.std.specs.Prelude.{◌≡◌, ◌↔◌, ℕ, List, length, map, string_bytes};
 ghost use Rattle.wopi_program.specs.Words.{IsCommand, IsRow};
+ghost use Rattle.wopi_program.specs.ServeWords.{IsServeRow};
 ghost use Rattle.wopi_program.specs.Telling.{UsageEnds};
 ghost use Rattle.wopi_program.specs.Runs.{RunEnds};
 
+use crate::serve::run_serve;
+use crate::serve_words::ServeAsk;
 use crate::{Command, Outside, help, read_words, refuse, run_once, run_token, tell, version};
 use outside::{Clock, Dialer, Folder, Listener, Sink, Source};
 use std::alloc::Global;
@@ -19,17 +22,39 @@ pub fn run<
     N: Listener + Send,
     D: Dialer,
     C: Clock + Send,
->(_rt: &R, alloc: Global, words: &[String], outside: &mut Outside<S, K, F, N, D, C>) -> u8
+>(rt: &R, alloc: Global, words: &[String], outside: &mut Outside<S, K, F, N, D, C>) -> u8
     requires once { IsRow (map string_bytes words.now) Command.Once
         → (length outside.old.folders.items ≡ 1) × (length outside.old.clocks.items ≡ 1) }
+    requires serve { (key : List ℕ) (base : List ℕ) (ask : ServeAsk) → IsServeRow (map string_bytes words.now) key base ask
+        → (length outside.old.folders.items ≡ 16) × (length outside.old.listeners.items ≡ ask.workers) × (length outside.old.clocks.items ≡ ask.workers) }
 
     ensures usage { result ≡ 2 ↔ (¬ IsCommand (map string_bytes words.now)) }
     ensures usage_leaves { ¬ IsCommand (map string_bytes words.now) → UsageEnds K.held K.write_faults result outside.old outside.new }
     ensures runs { (command : Command) → IsRow (map string_bytes words.now) command
-        → RunEnds S.left S.read_faults K.held K.write_faults F.files F.faults C.moments (map string_bytes words.now) result outside.old outside.new command }
+        → RunEnds (record {
+          left = S.left;
+          read_faults = S.read_faults;
+          held = K.held;
+          write_faults = K.write_faults;
+          files = F.files;
+          folder_faults = F.faults;
+          links_left = N.links_left;
+          finished_links = N.finished_links;
+          accepted = N.accepted;
+          finished = N.finished;
+          listener_faults = N.faults;
+          link_left = N.Link.left;
+          link_held = N.Link.held;
+          link_read_faults = N.Link.read_faults;
+          link_write_faults = N.Link.write_faults;
+          exchanges = D.exchanges;
+          dialer_faults = D.faults;
+          moments = C.moments;
+        }) (map string_bytes words.now) result outside.old outside.new command }
 {
     match read_words(words) {
         Some(Command::Once) => run_once(alloc, words, outside),
+        Some(Command::Serve) => run_serve(rt, alloc, words, outside),
         Some(Command::Token) => run_token(alloc, words, outside),
         Some(Command::Help) => tell(outside, help()),
         Some(Command::Version) => tell(outside, version()),

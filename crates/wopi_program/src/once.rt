@@ -164,7 +164,7 @@ fn too_large_line(alloc: Global, name: &FileName) -> Result<Vec<u8>, Memory>
 }
 
 /// Tells of a folder that is too large, where there is memory for the line.
-fn finish_too_large<K: Sink>(alloc: Global, notes: &mut K, name: &FileName) -> u8
+pub(crate) fn finish_too_large<K: Sink>(alloc: Global, notes: &mut K, name: &FileName) -> u8
     ensures { TooLargeEnds K.held K.write_faults result notes.old notes.new name.now }
 {
     match too_large_line(alloc, name) {
@@ -230,8 +230,26 @@ pub fn run_once<S: Source, K: Sink, F: Folder, N: Listener, D: Dialer, C: Clock>
     requires folders { length outside.old.folders.items ≡ 1 }
     requires clocks { length outside.old.clocks.items ≡ 1 }
 
-    ensures { OnceEnds S.left S.read_faults K.held K.write_faults F.files F.faults C.moments (map string_bytes words.now)
-        result outside.old outside.new }
+    ensures { OnceEnds (record {
+      left = S.left;
+      read_faults = S.read_faults;
+      held = K.held;
+      write_faults = K.write_faults;
+      files = F.files;
+      folder_faults = F.faults;
+      links_left = N.links_left;
+      finished_links = N.finished_links;
+      accepted = N.accepted;
+      finished = N.finished;
+      listener_faults = N.faults;
+      link_left = N.Link.left;
+      link_held = N.Link.held;
+      link_read_faults = N.Link.read_faults;
+      link_write_faults = N.Link.write_faults;
+      exchanges = D.exchanges;
+      dialer_faults = D.faults;
+      moments = C.moments;
+    }) (map string_bytes words.now) result outside.old outside.new }
 {
     let Some((key, base)) = once_words(words) else {
         unreachable!()

@@ -3,15 +3,17 @@ mod chunks;
 mod copies;
 mod faults;
 mod files;
+mod gates;
 mod info;
 mod refusals;
 mod replies;
+mod serve;
 mod tokens;
 
 ghost use Rattle.std.specs.Prelude.{◌≡◌, ◌∷◌, IfOk, IsTrue, length};
 ghost use Rattle.outside.specs.Script.{all_moments};
 
-use crate::{Outside, run};
+use crate::{Outside, run, serve_ask};
 use outside::{
     Folder, MemFolder, MemListener, MemSink, MemSource, Pair, ScriptClock, ScriptDialer,
 };
@@ -119,6 +121,9 @@ pub fn run_in<R: Threads + Wait + Sync>(
     requires clocks { length outside.clocks.items ≡ 1 }
 {
     let words = words(alloc, list)?;
+    if serve_ask(&words).is_some() {
+        return Err(Memory);
+    }
     let status = run(rt, alloc, &words, &mut outside);
     let Outside {
         input: _,

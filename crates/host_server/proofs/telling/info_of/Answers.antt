@@ -8,5 +8,5 @@ returns-clause-texts c = record {
   name = subst IsUtf8 (sym (c.in_ok-from_slice.ensures ∙ c.as_slice.ensures.value)) c.as_slice.ensures.form.utf8;
   owner = subst IsUtf8 (sym c.in_ok-from_slice-2.ensures) owner_is_text;
   user = subst IsUtf8 (sym (c.in_ok-from_slice-3.ensures ∙ c.as_slice-2.ensures.value)) (user_is_text _ c.as_slice-2.ensures.form);
-  version = subst IsUtf8 (sym c.in_ok-version_text.ensures) (version_is_text c.args.version c.ranges.version.fits);
+  version = subst IsUtf8 (sym (c.from_vec.ensures ∙ c.in_ok-version_text.ensures)) (version_is_text c.args.version c.ranges.version.fits);
 }

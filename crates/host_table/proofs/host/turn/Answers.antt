@@ -3,7 +3,8 @@ use mathlib.Core.List.{IsPrefix}
 use Rattle.host_core.specs.Entries.{Made}
 use Rattle.host_table.specs.Passes.{Place}
 use Rattle.host_table.specs.Calls.{Calls, Looks}
-use Rattle.host_table.proofs.Turning.{grown, given_back, made_call, refused_call, ok_map, err_map}
+use Rattle.host_table.proofs.Turning.{grown, given_back, made_call, refused_call, err_map}
+use Rattle.host_core.proofs.Results.{ifok_map}
 use Rattle.host_table.proofs.host.turn.Goals as goal
 
 pub give_back-requires-clause-turn : goal.give_back-requires-clause-turn
@@ -15,7 +16,7 @@ pub returns-clause-made : goal.returns-clause-made
 returns-clause-made g c =
     let v = c.args.seat.now in let w = c.give_back.new.seat in let old = c.take-held.result in let new = c.call-answer.new.self in
     let after = given_back v c.take-held.new.seat w old new c.take-held.ensures.seat c.give_back.ensures in
-    ok_map c.call-answer.result _ (λ receipt. Calls v c.args.call c.args.number c.args.floor c.args.moment receipt w)
+    ifok_map c.call-answer.result _ (λ receipt. Calls v c.args.call c.args.number c.args.floor c.args.moment receipt w)
     (λ receipt adds. made_call v w old new c.args.call c.args.number c.args.floor c.args.moment receipt c.requires.free c.take-held.ensures.base c.take-held.ensures.prefix after adds) c.call-answer.ensures.made
 
 pub returns-clause-refused : goal.returns-clause-refused

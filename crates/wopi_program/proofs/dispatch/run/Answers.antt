@@ -1,7 +1,8 @@
 use Rattle.std.proofs.Common.{Some, ap, ◌∙◌}
-use Rattle.wopi_program.specs.declared.command.Command.TheVariants.{Once, Token}
+use Rattle.wopi_program.specs.declared.command.Command.TheVariants.{Once, Serve, Token}
 use Rattle.wopi_program.proofs.Rows.{known}
 use Rattle.wopi_program.proofs.OnceLemmas.{OnceEnds-known}
+use Rattle.wopi_program.proofs.EndLemmas.{ServeEnds-known}
 use Rattle.wopi_program.proofs.dispatch.run.Goals as goal
 
 pub run_once-requires-clause-words : goal.run_once-requires-clause-words
@@ -21,8 +22,28 @@ run_token-requires-after_bounds g c κs within = (c.read_words.ensures Token).0 
 pub returns-in-Some-Once-clause-usage : goal.returns-in-Some-Once-clause-usage
 returns-in-Some-Once-clause-usage g c =
     known _ Once ((c.read_words.ensures Once).0 (c.in-Some-Once.is ∙ ap Some c.in-Some-Once.field-0-is)) c.run_once.result
-    (OnceEnds-known _ _ _ _ _ _ _ _ _ _ _ c.run_once.ensures)
+    (OnceEnds-known _ _ _ _ _ c.run_once.ensures)
 
 pub returns-in-Some-Once-clause-usage_leaves : goal.returns-in-Some-Once-clause-usage_leaves
 returns-in-Some-Once-clause-usage_leaves g c =
     λ none. absurd (none (Once, (c.read_words.ensures Once).0 (c.in-Some-Once.is ∙ ap Some c.in-Some-Once.field-0-is)))
+
+pub run_serve-requires-clause-words : goal.run_serve-requires-clause-words
+run_serve-requires-clause-words g c κs within = (c.read_words.ensures Serve).0 (c.in-Some-Serve.is ∙ ap Some c.in-Some-Serve.field-0-is)
+
+pub run_serve-requires-clause-folders : goal.run_serve-requires-clause-folders
+run_serve-requires-clause-folders g c κs within =
+    let row = (c.read_words.ensures Serve).0 (c.in-Some-Serve.is ∙ ap Some c.in-Some-Serve.field-0-is) in
+    (c.requires.serve row.0 row.1 row.2 row.3).0
+
+pub run_serve-requires-clause-workers : goal.run_serve-requires-clause-workers
+run_serve-requires-clause-workers g c κs within = λ key base ask row. let all = c.requires.serve key base ask row in (all.1, all.2)
+
+pub returns-in-Some-Serve-clause-usage : goal.returns-in-Some-Serve-clause-usage
+returns-in-Some-Serve-clause-usage g c =
+    known _ Serve ((c.read_words.ensures Serve).0 (c.in-Some-Serve.is ∙ ap Some c.in-Some-Serve.field-0-is)) c.run_serve.result
+    (ServeEnds-known _ _ _ _ _ c.run_serve.ensures)
+
+pub returns-in-Some-Serve-clause-usage_leaves : goal.returns-in-Some-Serve-clause-usage_leaves
+returns-in-Some-Serve-clause-usage_leaves g c =
+    λ none. absurd (none (Serve, (c.read_words.ensures Serve).0 (c.in-Some-Serve.is ∙ ap Some c.in-Some-Serve.field-0-is)))

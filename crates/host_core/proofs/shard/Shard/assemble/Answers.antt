@@ -1,10 +1,11 @@
-use Rattle.std.proofs.Common.{◌≡◌, ℕ, List, Option, length, sym, ap, subst, arith}
+use Rattle.std.proofs.Common.{◌≡◌, ℕ, List, Option, length, refl, sym, ap, subst, arith}
 use Rattle.file_versions.specs.Versions.{kept_in}
 use Rattle.host_core.specs.Archive.{IsArchive}
 use Rattle.host_core.specs.Entries.{Made}
 use Rattle.host_core.specs.Files.{files_of, torn_in}
 use Rattle.host_core.specs.ShardView.{opening_of}
 use Rattle.host_core.specs.Value.{Keeps, Agrees, RoseBy, faults_in}
+use Rattle.host_core.specs.Times.{GoesByEntries}
 use Rattle.host_core.proofs.History.{keeps-start}
 use Rattle.host_core.proofs.Standing.{rose-begin, lawful}
 use Rattle.host_core.proofs.Beginning.{agrees_start, first_long}
@@ -31,6 +32,7 @@ invariant_of-result g c =
       folder = subst (λ (only : Option ℕ). Agrees only (files start) (files c.args.folder) (files_of kept) (torn_in kept)) (sym c.of.ensures)
           (agrees_start c.args.only (files start) (files c.args.folder) opening kept c.requires.opening c.requires.same c.requires.stock.files);
       faults = subst (λ (m : List Made). RoseBy (faults start) (faults_in m) (faults c.args.folder)) (sym c.new.ensures.items) (rose-begin (faults start) (faults c.args.folder) c.requires.faults);
+      timely = λ _. subst (λ (m : List Made). GoesByEntries c.args.opened m c.args.opened) (sym c.new.ensures.items) (record { timely = tt; time_is = refl });
       archive = subst (λ o. IsArchive o c.new.result.items kept stock.versions) same
           (subst (λ (m : List Made). IsArchive opening m kept stock.versions) (sym c.new.ensures.items) c.requires.stock.archive);
       first = omega (arith, stock.files.ok.0, c.len.ensures, count, long);

@@ -1,4 +1,4 @@
-use Rattle.std.proofs.Common.{◌≡◌, Bool, false, sym, ap, subst, ◌∙◌}
+use Rattle.std.proofs.Common.{◌≡◌, Bool, false, refl, sym, ap, subst, ◌∙◌, arith}
 use Rattle.file_versions.specs.Places.{IsFirst}
 use Rattle.wopi_model.specs.File.{File, never_met}
 use Rattle.wopi_model.specs.Settle.{settled}
@@ -28,8 +28,8 @@ view_of-requires-clause-held g c =
     let first : IsFirst (is_named name) kept c.in-Some.place = rw c.deref.ensures.value at c.in-Some.ensures in
     held_at kept c.self.inside.ledger.versions name c.in-Some.place c.index-file.result.now c.self.invariant.archive.stocked first c.index-file.ensures
 
-pub returns-then-file-eq0 : goal.returns-then-file-eq0
-returns-then-file-eq0 g c =
+pub returns-then-file-eq0-clause-met : goal.returns-then-file-eq0-clause-met
+returns-then-file-eq0-clause-met g c =
     let inside = c.self.inside in
     let book = book_of inside in
     let kept = inside.ledger.files.items in
@@ -37,11 +37,28 @@ returns-then-file-eq0 g c =
     let first : IsFirst (is_named name) kept c.in-Some.place = rw c.deref.ensures.value at c.in-Some.ensures in
     let here : files_of kept name ≡ file_of c.index-file.result.now = file_at file_of never_met kept name c.in-Some.place c.index-file.result.now first c.index-file.ensures in
     let shown = shown-file book.opening book.opened book.capacity book.made book.time inside.ledger.last (kept_in inside.ledger.versions) kept c.self.invariant.keeps name in
+    let unmet : ((state_of c.args.self.now.opening c.args.self.now.opened c.args.self.now.made c.args.self.now.time).files name).version ≡ 0 =
     subst (λ (b : Book _). ((state_of b.opening b.opened b.made b.time).files name).version ≡ 0) c.self.view_is
-    (sym (ap (λ (f : File). f.version) shown) ∙ ap (λ (f : File). f.version) here ∙ c.if-file-eq0.true)
+    (sym (ap (λ (f : File). f.version) shown) ∙ ap (λ (f : File). f.version) here ∙ c.if-file-eq0.true) in
+    (λ some. absurd (cc some), λ met. absurd (omega (arith, met, unmet)))
 
-pub returns-else-file-eq0 : goal.returns-else-file-eq0
-returns-else-file-eq0 g c =
+pub returns-else-file-eq0-clause-met : goal.returns-else-file-eq0-clause-met
+returns-else-file-eq0-clause-met g c =
+    let inside = c.self.inside in
+    let book = book_of inside in
+    let kept = inside.ledger.files.items in
+    let name = c.args.name.now in
+    let first : IsFirst (is_named name) kept c.in-Some.place = rw c.deref.ensures.value at c.in-Some.ensures in
+    let here : files_of kept name ≡ file_of c.index-file.result.now = file_at file_of never_met kept name c.in-Some.place c.index-file.result.now first c.index-file.ensures in
+    let shown = shown-file book.opening book.opened book.capacity book.made book.time inside.ledger.last (kept_in inside.ledger.versions) kept c.self.invariant.keeps name in
+    let same : ((state_of c.args.self.now.opening c.args.self.now.opened c.args.self.now.made c.args.self.now.time).files name).version ≡ c.index-file.result.now.version =
+    subst (λ (b : Book _). ((state_of b.opening b.opened b.made b.time).files name).version ≡ c.index-file.result.now.version) c.self.view_is
+    (sym (ap (λ (f : File). f.version) shown) ∙ ap (λ (f : File). f.version) here) in
+    let met = c.if-file-eq0.false in
+    (λ some. omega (arith, met, same), λ _. refl)
+
+pub returns-else-file-eq0-clause-view : goal.returns-else-file-eq0-clause-view
+returns-else-file-eq0-clause-view g c =
     let inside = c.self.inside in
     let book = book_of inside in
     let kept = inside.ledger.files.items in

@@ -15,6 +15,7 @@ invariant_of-self g c =
           (keeps-tick book.opening book.opened book.capacity book.made book.time inside.ledger.last (kept_in inside.ledger.versions) inside.ledger.files.items c.self.invariant.keeps c.args.moment c.requires);
       folder = c.self.invariant.folder;
       faults = c.self.invariant.faults;
+      timely = λ h. absurd (cc (h, c.of.ensures));
       archive = c.self.invariant.archive;
       first = c.self.invariant.first;
       few = c.self.invariant.few;

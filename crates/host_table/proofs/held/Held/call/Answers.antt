@@ -13,23 +13,23 @@ invariant_of-self g c =
     let P : Book F → Type 0 = λ b. IsHeld b (f.files b.start) (f.files b.folder) (f.faults b.start) (f.faults b.folder) in
     subst P (sym c.in-Ok.ensures.entry)
     (held_push old c.step.new.self.folder one (f.files old.start) (f.files old.folder) (f.files c.step.new.self.folder) (f.faults old.start) (f.faults old.folder) (f.faults c.step.new.self.folder) c.args.floor c.args.call
-    c.self.invariant refl (rw c.self.view_is c.requires.only) c.in-Ok.ensures.room c.step.ensures.never_falls)
+    c.self.invariant (rw c.self.view_is c.requires.only) c.in-Ok.ensures.room c.step.ensures.never_falls)
 
 pub returns-in-Ok-clause-seen : goal.returns-in-Ok-clause-seen
-returns-in-Ok-clause-seen g c = seen_of c.step.new.self _ _ _ _ (invariant_of-self g c) c.step.ensures.lawful.legal
+returns-in-Ok-clause-seen g c = seen_of c.step.new.self _ _ _ _ (invariant_of-self g c) c.step.ensures.lawful.alone
 
 pub returns-in-Ok-clause-made : goal.returns-in-Ok-clause-made
 returns-in-Ok-clause-made g c =
-    rw (← c.self.view_is) (held_adds c.self.inside.shard c.step.new.self _ _ _ _ c.args.call c.args.pass c.args.floor c.args.moment _ c.self.invariant c.in-Ok.ensures.entry
-    (rw c.self.view_is (c.requires.only ∙ ap Some (sym c.shard-shard.ensures))) c.len-place.ensures c.in-Ok.ensures.stamp c.in-Ok.ensures.room c.in-Ok.ensures.back)
+    rw (← c.self.view_is) (held_adds c.self.inside.shard c.step.new.self c.args.call c.args.pass c.args.floor c.args.moment _ (c.len-place.ensures.lawful.timely c.self.invariant.unticked) c.in-Ok.ensures.entry
+    (rw c.self.view_is (c.requires.only ∙ ap Some (sym c.shard-shard.ensures))) c.len-place.ensures.count c.in-Ok.ensures.stamp c.in-Ok.ensures.room c.in-Ok.ensures.back)
 
 pub returns-in-Err-Full-clause-seen : goal.returns-in-Err-Full-clause-seen
-returns-in-Err-Full-clause-seen g c = seen_stays c.self.inside.shard c.step.new.self _ _ _ _ c.self.invariant c.in-Err-Full.ensures.err c.step.ensures.lawful.legal
+returns-in-Err-Full-clause-seen g c = seen_stays c.self.inside.shard c.step.new.self _ _ _ _ c.self.invariant c.in-Err-Full.ensures.err c.step.ensures.lawful.alone
 
 pub returns-in-Err-Memory-clause-seen : goal.returns-in-Err-Memory-clause-seen
-returns-in-Err-Memory-clause-seen g c = seen_stays c.self.inside.shard c.step.new.self _ _ _ _ c.self.invariant c.in-Err-Memory.ensures.err c.step.ensures.lawful.legal
+returns-in-Err-Memory-clause-seen g c = seen_stays c.self.inside.shard c.step.new.self _ _ _ _ c.self.invariant c.in-Err-Memory.ensures.err c.step.ensures.lawful.alone
 
 pub returns-in-Err-Full-clause-refused : goal.returns-in-Err-Full-clause-refused
 returns-in-Err-Full-clause-refused g c =
     let h = rw c.in-Err-Full.field-0-is at c.in-Err-Full.ensures in
-    rw (← c.self.view_is) (held_declines c.self.inside.shard c.step.new.self _ _ _ _ c.args.call c.args.floor c.args.moment (fault.Full c.in-Err-Full.call) c.self.invariant h.err h.full h.call)
+    rw (← c.self.view_is) (held_declines c.self.inside.shard c.step.new.self c.args.call c.args.floor c.args.moment (fault.Full c.in-Err-Full.call) (c.len-place.ensures.lawful.timely c.self.invariant.unticked) h.err h.full h.call)

@@ -1,0 +1,40 @@
+-- How a run of `serve` ends. (Own.)
+use Rattle.std.specs.Prelude.{◌≡◌, ◌⊎◌, ℕ, List, Option}
+use Rattle.outside.specs.Faults.{Rose}
+use Rattle.wopi_program.specs.declared.outside_world.Outside.{Outside}
+use Rattle.wopi_program.specs.declared.serve_words.ServeAsk.{ServeAsk}
+use Rattle.wopi_program.specs.declared.serving.ServeEnd.{ServeEnd}
+use Rattle.wopi_program.specs.declared.serving.ServeEnd.TheVariants as end
+use Rattle.wopi_program.specs.Meanings.{Meanings}
+use Rattle.wopi_program.specs.Notes.{NotesFor}
+use Rattle.wopi_program.specs.Once.{TooLargeEnds}
+use Rattle.wopi_program.specs.Serve.{ServeRuns}
+use Rattle.wopi_program.specs.ServeWords.{IsServeRow}
+use Rattle.wopi_program.specs.Telling.{Wants}
+
+-- the status and the notes of a run's end
+abbrev pub ServeFinishes : {K : Type 0} → (K → Option (List ℕ)) → (K → ℕ) → ℕ → K → K → ServeEnd → Type 0
+ServeFinishes held count status old new end.Served = (status ≡ 0) × NotesFor held count status old new
+ServeFinishes held count status old new end.ListenerFault = (status ≡ 10) × NotesFor held count status old new
+ServeFinishes held count status old new end.WriteFault = (status ≡ 4) × NotesFor held count status old new
+ServeFinishes held count status old new end.FolderFault = (status ≡ 5) × NotesFor held count status old new
+ServeFinishes held count status old new (end.TooLarge name) = TooLargeEnds held count status old new name
+ServeFinishes held count status old new end.Memory = (status ≡ 6) × NotesFor held count status old new
+
+-- A run under the key, the base and the numbers of the words: what it did, the cause of a write's fault, the status's line on the notes;
+-- and all else stays.
+pub record ServeRan {S K F N D C L : Type 0} (m : Meanings S K F N D C L) (words : List (List ℕ)) (status : ℕ) (old new : Outside S K F N D C) : Type 0 where
+  pub end : ServeEnd
+  pub key : List ℕ
+  pub base : List ℕ
+  pub ask : ServeAsk
+  pub row : IsServeRow words key base ask
+  pub runs : ServeRuns m.links_left m.finished_links m.accepted m.finished m.listener_faults m.link_left m.link_held m.link_read_faults m.link_write_faults m.moments
+      m.files m.folder_faults key base ask.capacity end (m.held old.output) (m.held new.output) old.folders.items new.folders.items
+      old.listeners.items new.listeners.items old.clocks.items new.clocks.items
+  pub write_cause : status ≡ 4 → Rose (m.write_faults old.output) (m.write_faults new.output)
+  pub finishes : ServeFinishes m.held m.write_faults status old.notes new.notes end
+  pub others : new ≡ record old { output = new.output; notes = new.notes; folders = new.folders; listeners = new.listeners; clocks = new.clocks }
+
+abbrev pub ServeEnds : {S K F N D C L : Type 0} → Meanings S K F N D C L → List (List ℕ) → ℕ → Outside S K F N D C → Outside S K F N D C → Type 0
+ServeEnds m words status old new = Wants m.held m.write_faults status old new ⊎ ServeRan m words status old new

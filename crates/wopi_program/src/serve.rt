@@ -1,0 +1,97 @@
+//! The command `serve`: a host over the folders, and a worker for each listener.
+ghost use Rattle.std.specs.Prelude.{◌≡◌, ℕ, List, length, map, string_bytes};
+ghost use Rattle.wopi_program.specs.ServeEnds.{ServeEnds, ServeFinishes};
+ghost use Rattle.wopi_program.specs.ServeWords.{IsServeRow};
+ghost use Rattle.wopi_program.specs.Words.{IsRow};
+
+use crate::once::finish_too_large;
+use crate::serve_words::{ServeAsk, serve_words};
+use crate::serving::{ServeEnd, serve_in};
+use crate::telling::want;
+use crate::{Command, Outside, note};
+use outside::{Clock, Dialer, Folder, Listener, Sink, Source};
+use std::alloc::Global;
+use std::sync::Wait;
+use std::thread::Threads;
+use wopi_text::Bytes;
+
+/// Says how the run ended, and gives the status.
+fn finish<K: Sink>(alloc: Global, notes: &mut K, end: &ServeEnd) -> u8
+    ensures { ServeFinishes K.held K.write_faults result notes.old notes.new end.now }
+{
+    match end {
+        ServeEnd::Served => 0,
+        ServeEnd::ListenerFault => {
+            note(notes, b"listener fault\n");
+            10
+        }
+        ServeEnd::WriteFault => {
+            note(notes, b"write fault\n");
+            4
+        }
+        ServeEnd::FolderFault => {
+            note(notes, b"folder fault\n");
+            5
+        }
+        ServeEnd::TooLarge(name) => finish_too_large(alloc, notes, name),
+        ServeEnd::Memory => {
+            note(notes, b"out of memory\n");
+            6
+        }
+    }
+}
+
+/// Serves the links of the listeners over a host of the folders, and writes the host's journal on the output.
+pub fn run_serve<
+    R: Threads + Wait + Sync,
+    S: Source,
+    K: Sink,
+    F: Folder + Send,
+    N: Listener + Send,
+    D: Dialer,
+    C: Clock + Send,
+>(rt: &R, alloc: Global, words: &[String], outside: &mut Outside<S, K, F, N, D, C>) -> u8
+    requires words { IsRow (map string_bytes words.now) Command.Serve }
+    requires folders { length outside.old.folders.items ≡ 16 }
+    requires workers { (key : List ℕ) (base : List ℕ) (ask : ServeAsk) → IsServeRow (map string_bytes words.now) key base ask
+        → (length outside.old.listeners.items ≡ ask.workers) × (length outside.old.clocks.items ≡ ask.workers) }
+    ensures { ServeEnds (record {
+      left = S.left;
+      read_faults = S.read_faults;
+      held = K.held;
+      write_faults = K.write_faults;
+      files = F.files;
+      folder_faults = F.faults;
+      links_left = N.links_left;
+      finished_links = N.finished_links;
+      accepted = N.accepted;
+      finished = N.finished;
+      listener_faults = N.faults;
+      link_left = N.Link.left;
+      link_held = N.Link.held;
+      link_read_faults = N.Link.read_faults;
+      link_write_faults = N.Link.write_faults;
+      exchanges = D.exchanges;
+      dialer_faults = D.faults;
+      moments = C.moments;
+    }) (map string_bytes words.now) result outside.old outside.new }
+{
+    let Some((key, base, ask)) = serve_words(words) else {
+        unreachable!()
+    };
+    let Ok(base) = Bytes::from_slice(alloc, base.as_bytes()) else {
+        return want(outside);
+    };
+    let end = serve_in(
+        rt,
+        alloc,
+        key,
+        base,
+        ask.capacity,
+        &mut outside.folders,
+        &mut outside.listeners,
+        &mut outside.clocks,
+        &mut outside.output,
+    );
+    finish(alloc, &mut outside.notes, &end)
+}
