@@ -13,7 +13,7 @@ use std::io::ErrorKind;
 use std::net::{Net, TcpListener, TcpStream};
 use std::process::ExitCode;
 use std::time;
-use wopi_program::{Command, Outside, ServeAsk, read_words, run, serve_ask};
+use wopi_program::{Command, Outside, ServeAsk, edit_authority, read_words, run, serve_ask};
 use wopi_text::Memory;
 
 /// How many folders and clocks a command works with.
@@ -60,6 +60,7 @@ fn parts_of(words: &[String]) -> Parts
             clocks: 1,
         },
         Some(Command::Serve) => parts_of_serve(words),
+        Some(Command::Edit) => NONE,
         Some(Command::Token) => NONE,
         Some(Command::Help) => NONE,
         Some(Command::Version) => NONE,
@@ -126,6 +127,14 @@ fn listeners<R: Net<Stream = TcpStream, Listener = TcpListener>>(
     }
 }
 
+/// The host of the words, where their command speaks with one.
+fn authority(alloc: Global, words: &[String]) -> Result<String, Memory> {
+    match edit_authority(words) {
+        Some(authority) => Ok(String::from_str(alloc, authority)?),
+        None => Ok(String::new(alloc)),
+    }
+}
+
 /// The words after the program's name; none where one of them is no text.
 fn words<R: Env + AllocGlobal>(rt: &R) -> Result<Vec<String>, Memory> {
     let mut all = Vec::new(rt.alloc());
@@ -155,13 +164,16 @@ fn main(rt: HostRuntime) -> ExitCode {
     let Ok(clocks) = clocks(alloc, &rt, parts.clocks) else {
         return ExitCode::from(6);
     };
+    let Ok(authority) = authority(alloc, &words) else {
+        return ExitCode::from(6);
+    };
     let mut outside = Outside {
         input: StdSource::new(rt.stdin()),
         output: StdSink::output(rt.stdout()),
         notes: StdSink::notes(rt.stderr()),
         folders,
         listeners,
-        dialer: TcpDialer::new(alloc, &rt, String::new(alloc)),
+        dialer: TcpDialer::new(alloc, &rt, authority),
         clocks,
     };
     ExitCode::from(run(&rt, alloc, &words, &mut outside))
