@@ -2,6 +2,7 @@
 #![tactic(auto)]
 
 ghost use Rattle.std.specs.Prelude.{◌≡◌, ℕ, List, IfOk, map, string_bytes, vec_len};
+ghost use Rattle.wopi_program.specs.EditWords.{IsEditRow};
 ghost use Rattle.wopi_program.specs.ServeWords.{IsServeRow};
 ghost use Rattle.wopi_program.specs.Words.{IsRow};
 
@@ -128,7 +129,10 @@ fn listeners<R: Net<Stream = TcpStream, Listener = TcpListener>>(
 }
 
 /// The host of the words, where their command speaks with one.
-fn authority(alloc: Global, words: &[String]) -> Result<String, Memory> {
+fn authority(alloc: Global, words: &[String]) -> Result<String, Memory>
+    ensures { (authority : List ℕ) (file : List ℕ) (token : List ℕ) (nonce : List ℕ) → IsEditRow (map string_bytes words.now) authority file token nonce
+        → IfOk result (λ host. string_bytes host ≡ authority) }
+{
     match edit_authority(words) {
         Some(authority) => Ok(String::from_str(alloc, authority)?),
         None => Ok(String::new(alloc)),

@@ -1,5 +1,6 @@
 -- The statuses of `edit`.
-use Rattle.std.proofs.Common.{◌≡◌, ◌≢◌, ◌≤◌, ◌⊎◌, ℕ, List, [], ◌++◌, Option, Result, Ok, Err, ◌∙◌, refl, sym, subst, append-nil, arith, inl, inr}
+use Rattle.std.proofs.Common.{◌≡◌, ◌≢◌, ◌≤◌, ◌⊎◌, ℕ, List, [], ◌++◌, Option, Result, Ok, Err, ◌∙◌, refl, sym, subst, append-nil, length, codes, decimal, ◌<◌, arith, inl, inr}
+use Rattle.std.proofs.lemmas.List.{length-append}
 use Rattle.std.specs.Io.KnownBytes.{Appends}
 use Rattle.outside.specs.Faults.{Rose}
 use Rattle.outside.specs.Stream.{GrewByPrefix}
@@ -13,7 +14,7 @@ use Rattle.grid_editor.specs.declared.turns.Went.{Went}
 use Rattle.grid_editor.specs.declared.turns.Went.TheVariants.{On, Ended}
 use Rattle.wopi_program.specs.declared.outside_world.Outside.{Outside}
 use Rattle.wopi_program.specs.Meanings.{Meanings}
-use Rattle.wopi_program.specs.Edit.{EditEnds, Tells, status_of}
+use Rattle.wopi_program.specs.Edit.{EditEnds, Tells, bad_line, last_line, status_of}
 
 ended-not-2 : (told : Outcome) → status_of (Ok (Ended told)) ≢ 2
 ended-not-2 (outcome.Opened version) is = absurd (omega (arith, is))
@@ -38,8 +39,8 @@ status-not-2 (Err fault.Memory) is = absurd (omega (arith, is))
 
 tells-not-2 : (held held' : Option (List ℕ)) (status wanted : ℕ) (lines last : List ℕ) → wanted ≢ 2 → Tells held held' status wanted lines last → status ≢ 2
 tells-not-2 held held' status wanted lines last other (inl (is, grew)) two = other (sym is ∙ two)
-tells-not-2 held held' status wanted lines last other (inr (inl is, more)) two = absurd (omega (arith, is, two))
-tells-not-2 held held' status wanted lines last other (inr (inr is, more)) two = absurd (omega (arith, is, two))
+tells-not-2 held held' status wanted lines last other (inr (some, inl (is, front, rest, same, more))) two = absurd (omega (arith, is, two))
+tells-not-2 held held' status wanted lines last other (inr (some, inr (is, more))) two = absurd (omega (arith, is, two))
 
 pub EditEnds-known : {S K F N D C L : Type 0} (m : Meanings S K F N D C L) (words : List (List ℕ)) (status : ℕ) (old new : Outside S K F N D C)
     → EditEnds m words status old new → status ≢ 2
@@ -59,17 +60,42 @@ EditEnds-known m words status old new (inr ran) two = elim ran.edits [
 pub tells_whole : (start old new : Option (List ℕ)) (wanted : ℕ) (lines last : List ℕ) → Appends start old lines → Appends old new last → Tells start new wanted wanted lines last
 tells_whole start old new wanted lines last before more = inl (refl, appends_then start old new lines last before more)
 
-pub tells_cut : (start old new : Option (List ℕ)) (wanted : ℕ) (lines last : List ℕ) → Appends start old lines → GrewByPrefix old new last → Tells start new 4 wanted lines last
-tells_cut start old new wanted lines last before (front, rest, is, more) = inr (inl refl, front, rest, is, appends_then start old new lines front before more)
+pub tells_cut : (start old new : Option (List ℕ)) (wanted : ℕ) (lines last : List ℕ) → 0 < length last → Appends start old lines → GrewByPrefix old new last
+    → Tells start new 4 wanted lines last
+tells_cut start old new wanted lines last some before (front, rest, is, more) =
+    inr (some, inl (refl, front, rest, is, appends_then start old new lines front before more))
 
 pub tells_no_last : (start old : Option (List ℕ)) (wanted : ℕ) (lines : List ℕ) → Appends start old lines → Tells start old wanted wanted lines []
 tells_no_last start old wanted lines before = inl (refl, subst (λ l. Appends start old l) (sym (append-nil lines)) before)
 
-pub tells_wanting : (start old : Option (List ℕ)) (wanted : ℕ) (lines last : List ℕ) → Appends start old lines → Tells start old 6 wanted lines last
-tells_wanting start old wanted lines last before = inr (inr refl, [], last, refl, subst (λ l. Appends start old l) (sym (append-nil lines)) before)
+pub tells_wanting : (start old : Option (List ℕ)) (wanted : ℕ) (lines last : List ℕ) → 0 < length last → Appends start old lines → Tells start old 6 wanted lines last
+tells_wanting start old wanted lines last some before = inr (some, inr (refl, before))
 
-pub rose_later : (a b c : ℕ) → Rose a b → b ≤ c → Rose a c
-rose_later a b c rose more = omega (arith, rose, more)
+pub some_last : (at : ℕ) → 0 < length (last_line (Err (fault.BadReply at)))
+some_last at = let n = length-append (codes "bad reply ") (decimal at ++ codes "\n") in omega (arith, n)
 
-pub rose_before : (a b c : ℕ) → a ≤ b → Rose b c → Rose a c
-rose_before a b c less rose = omega (arith, less, rose)
+pub some_bad_line : (number : ℕ) → 0 < length (bad_line number)
+some_bad_line number = let n = length-append (codes "line ") (decimal number ++ codes ": bad line\n") in omega (arith, n)
+
+-- status 4 is that of a failed write alone
+
+ended-not-4 : (told : Outcome) → status_of (Ok (Ended told)) ≢ 4
+ended-not-4 (outcome.Opened version) is = absurd (omega (arith, is))
+ended-not-4 (outcome.Read version) is = absurd (omega (arith, is))
+ended-not-4 (outcome.Saved version) is = absurd (omega (arith, is))
+ended-not-4 outcome.Refreshed is = absurd (omega (arith, is))
+ended-not-4 outcome.Closed is = absurd (omega (arith, is))
+ended-not-4 (outcome.Conflict lock reason) is = absurd (omega (arith, is))
+ended-not-4 (outcome.LockLost lock reason) is = absurd (omega (arith, is))
+ended-not-4 outcome.TooLarge is = absurd (omega (arith, is))
+ended-not-4 (outcome.HostFault status) is = absurd (omega (arith, is))
+ended-not-4 outcome.TokenDead is = absurd (omega (arith, is))
+ended-not-4 outcome.Gone is = absurd (omega (arith, is))
+ended-not-4 outcome.NoAnswer is = absurd (omega (arith, is))
+
+pub four_is_a_failed_write : (result : Result Went EditFault) → status_of result ≡ 4 → result ≡ Err fault.WriteFault
+four_is_a_failed_write (Ok On) is = absurd (omega (arith, is))
+four_is_a_failed_write (Ok (Ended told)) is = absurd (ended-not-4 told is)
+four_is_a_failed_write (Err (fault.BadReply at)) is = absurd (omega (arith, is))
+four_is_a_failed_write (Err fault.WriteFault) is = refl
+four_is_a_failed_write (Err fault.Memory) is = absurd (omega (arith, is))

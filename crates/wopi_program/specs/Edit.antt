@@ -1,6 +1,6 @@
 -- What a run of `edit` promises. (Own.)
-use Rattle.std.specs.Prelude.{◌≡◌, ◌⊎◌, ℕ, Bool, true, false, ◌==◌, ◌||◌, List, [], ◌++◌, Option, None, Result, Ok, Err, codes, decimal, ⊤}
-use Rattle.std.specs.Io.KnownBytes.{Appends}
+use Rattle.std.specs.Prelude.{◌≡◌, ◌<◌, ◌⊎◌, ℕ, Bool, true, false, ◌==◌, ◌||◌, List, [], ◌++◌, length, Option, None, Result, Ok, Err, codes, decimal}
+use Rattle.std.specs.Io.KnownBytes.{Appends, IsAtEnd}
 use Rattle.outside.specs.Faults.{Rose}
 use Rattle.outside.specs.declared.dialer.Exchange.{Exchange}
 use Rattle.save_session.specs.declared.output.Outcome.TheVariants as outcome
@@ -40,11 +40,16 @@ last_line ended = []
 abbrev pub bad_line : ℕ → List ℕ
 bad_line number = codes "line " ++ (decimal number ++ codes ": bad line\n")
 
--- the output grew by these lines and a last one, or, at status 4 or 6, by a front of the last one
+-- the write of a last line failed after a front of it
+abbrev pub IsCut : Option (List ℕ) → Option (List ℕ) → ℕ → List ℕ → List ℕ → Type 0
+IsCut held held' status lines last = (status ≡ 4) × (front : List ℕ) × (rest : List ℕ) × (last ≡ front ++ rest) × Appends held held' (lines ++ front)
+
+-- The output grew by these lines and a last one, at the wanted status. Only where there is a last one: at status 4 its write failed after a
+-- front of it, and at status 6 there was no memory for it.
 abbrev pub Tells : Option (List ℕ) → Option (List ℕ) → ℕ → ℕ → List ℕ → List ℕ → Type 0
 Tells held held' status wanted lines last =
     ((status ≡ wanted) × Appends held held' (lines ++ last))
-    ⊎ (((status ≡ 4) ⊎ (status ≡ 6)) × (front : List ℕ) × (rest : List ℕ) × (last ≡ front ++ rest) × Appends held held' (lines ++ front))
+    ⊎ ((0 < length last) × (IsCut held held' status lines last ⊎ ((status ≡ 6) × Appends held held' lines)))
 
 -- An editor has run commands: what they did, the status of how they ended, and what went to the output and to the dialer.
 pub record HasRun (first : Editor) (commands : List script.Command) (status : ℕ) (held held' : Option (List ℕ)) (told told' : Option (List Exchange)) (faults faults' : ℕ)
@@ -74,11 +79,12 @@ pub record IsNewEditor (editor : Editor) (row : EditRow) : Type 0 where
   pub session_is : state_of (session_of editor) ≡ new_session
   pub sheet_is : sheet_of editor ≡ None
 
--- The script was run: its commands are the input's.
-pub record IsRun {K D : Type 0} (held : K → Option (List ℕ)) (exchanges : D → Option (List Exchange)) (faults : D → ℕ) (left : Option (List ℕ)) (first : Editor) (status : ℕ)
+-- The script was run: its commands are those of the whole input, which was read to its end.
+pub record IsRun {K D : Type 0} (held : K → Option (List ℕ)) (exchanges : D → Option (List Exchange)) (faults : D → ℕ) (left left' : Option (List ℕ)) (first : Editor) (status : ℕ)
     (output output' : K) (dialer dialer' : D) : Type 0 where
   pub commands : List script.Command
   pub script : IsScript left commands
+  pub whole : IsAtEnd left'
   pub ran : HasRun first commands status (held output) (held output') (exchanges dialer) (exchanges dialer') (faults dialer) (faults dialer')
 
 -- The script has a bad line: nothing was sent.
@@ -95,10 +101,10 @@ pub record IsUnread {K D : Type 0} (status : ℕ) (output output' : K) (dialer d
   pub dialer_is : dialer' ≡ dialer
 
 -- what became of the script that an input is
-abbrev pub Edits : {K D : Type 0} → (K → Option (List ℕ)) → (D → Option (List Exchange)) → (D → ℕ) → Option (List ℕ) → Editor → ℕ → K → K → D → D → Type 0
-Edits held exchanges faults left first status output output' dialer dialer' =
+abbrev pub Edits : {K D : Type 0} → (K → Option (List ℕ)) → (D → Option (List Exchange)) → (D → ℕ) → Option (List ℕ) → Option (List ℕ) → Editor → ℕ → K → K → D → D → Type 0
+Edits held exchanges faults left left' first status output output' dialer dialer' =
     IsUnread status output output' dialer dialer'
-    ⊎ (IsRefused held left status output output' dialer dialer' ⊎ IsRun held exchanges faults left first status output output' dialer dialer')
+    ⊎ (IsRefused held left status output output' dialer dialer' ⊎ IsRun held exchanges faults left left' first status output output' dialer dialer')
 
 -- only these statuses have a line on the notes
 abbrev pub has_note : ℕ → Bool
@@ -114,7 +120,7 @@ pub record EditRan {S K F N D C L : Type 0} (m : Meanings S K F N D C L) (words 
   pub first : Editor
   pub row : IsEditRow words asked.authority asked.file asked.token asked.nonce
   pub editor : IsNewEditor first asked
-  pub edits : Edits m.held m.exchanges m.dialer_faults (m.left old.input) first status old.output new.output old.dialer new.dialer
+  pub edits : Edits m.held m.exchanges m.dialer_faults (m.left old.input) (m.left new.input) first status old.output new.output old.dialer new.dialer
   pub read_cause : status ≡ 3 → Rose (m.read_faults old.input) (m.read_faults new.input)
   pub write_cause : status ≡ 4 → Rose (m.write_faults old.output) (m.write_faults new.output)
   pub notes : NotesForEdit m.held m.write_faults status old.notes new.notes

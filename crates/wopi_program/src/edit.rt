@@ -1,26 +1,26 @@
 //! The command `edit`: the script that the input is, run over a sheet at a host.
-ghost use Rattle.std.specs.Prelude.{◌≡◌, ◌⊎◌, ◌≤◌, Err, List, Option, ℕ, [], map, string_bytes, IfOk};
+ghost use Rattle.std.specs.Prelude.{◌≡◌, ◌⊎◌, ◌<◌, ◌≤◌, Err, List, length, Option, ℕ, [], map, string_bytes, IfOk};
 ghost use Rattle.std.specs.Io.KnownBytes.{Appends};
 ghost use Rattle.outside.specs.Faults.{Rose};
 ghost use Rattle.wopi_program.specs.Words.{IsRow};
 ghost use Rattle.wopi_program.specs.Edit.{EditEnds, Edits, HasRun, IsNewEditor, NotesForEdit, Tells, bad_line, last_line, status_of};
 
-use crate::edit_words::{EditAsk, edit_words};
+use crate::edit_words::edit_words;
 use crate::telling::want;
 use crate::{Command, Outside, note};
 use grid_editor::{EditFault, Editor, InputFault, Script, Went, read_script};
 use itoa::Buffer;
 use outside::{Clock, Dialer, Failed, Folder, Listener, Sink, Source, write_whole};
-use save_session::Outcome;
+use save_session::{Nonce, Outcome};
 use std::alloc::Global;
 use wopi_client::Desktop;
-use wopi_text::{Bytes, Memory};
+use wopi_text::{Bytes, FileName, Memory};
 
 /// The status of how a script ended.
-fn status_of(result: &Result<Went, EditFault>) -> u8
-    ensures { result ≡ status_of result.now }
+fn status_of(ended: &Result<Went, EditFault>) -> u8
+    ensures { result ≡ status_of ended.now }
 {
-    match result {
+    match ended {
         Ok(Went::On) => 0,
         Ok(Went::Ended(Outcome::NoAnswer)) => 9,
         Ok(Went::Ended(_)) => 8,
@@ -31,13 +31,19 @@ fn status_of(result: &Result<Went, EditFault>) -> u8
 }
 
 /// The editor of the words.
-fn editor_of(alloc: Global, ask: EditAsk) -> Result<Editor, Memory>
-    ensures { IfOk result (λ editor. IsNewEditor editor (record { authority = ask.authority.now; file = ask.file; token = ask.token.now; nonce = ask.nonce })) }
+fn editor_of(
+    alloc: Global,
+    authority: &str,
+    file: FileName,
+    token: &str,
+    nonce: Nonce,
+) -> Result<Editor, Memory>
+    ensures { IfOk result (λ editor. IsNewEditor editor (record { authority = authority.now; file = file; token = token.now; nonce = nonce })) }
 {
-    let token = Bytes::from_slice(alloc, ask.token.as_bytes())?;
-    let authority = String::from_str(alloc, ask.authority)?;
-    let desktop = Desktop::new(ask.file, token, authority);
-    Editor::new(alloc, desktop, ask.nonce)
+    let token = Bytes::from_slice(alloc, token.as_bytes())?;
+    let authority = String::from_str(alloc, authority)?;
+    let desktop = Desktop::new(file, token, authority);
+    Editor::new(alloc, desktop, nonce)
 }
 
 /// The line that a bad reply adds to those of the script.
@@ -63,9 +69,11 @@ fn bad_line(alloc: Global, number: u64) -> Result<Vec<u8>, Memory>
 }
 
 /// Writes a last line, and gives the status: the one that is wanted, or 4 where the write failed.
+#[tactic(auto, using(crate::proofs::EditLemmas::tells_whole, crate::proofs::EditLemmas::tells_cut))]
 fn say<K: Sink>(output: &mut K, line: &[u8], wanted: u8) -> u8
+    requires { 0 < length line.now }
     ensures tells { (lines : List ℕ) (start : Option (List ℕ)) → Appends start (K.held output.old) lines → Tells start (K.held output.new) result wanted lines line.now }
-    ensures never_fall { K.write_faults output.old ≤ K.write_faults output.new }
+    ensures never_falls { K.write_faults output.old ≤ K.write_faults output.new }
     ensures cause { result ≡ 4 → (wanted ≡ 4) ⊎ Rose (K.write_faults output.old) (K.write_faults output.new) }
 {
     match write_whole(output, line) {
@@ -75,10 +83,11 @@ fn say<K: Sink>(output: &mut K, line: &[u8], wanted: u8) -> u8
 }
 
 /// Adds the line of a bad reply, where one ended the script, and gives the status.
+#[tactic(auto, using(crate::proofs::EditLemmas::tells_no_last, crate::proofs::EditLemmas::tells_wanting, crate::proofs::EditLemmas::some_last, crate::proofs::EditLemmas::four_is_a_failed_write))]
 fn finish<K: Sink>(alloc: Global, output: &mut K, ended: &Result<Went, EditFault>) -> u8
     ensures tells { (lines : List ℕ) (start : Option (List ℕ)) → Appends start (K.held output.old) lines
         → Tells start (K.held output.new) result (status_of ended.now) lines (last_line ended.now) }
-    ensures never_fall { K.write_faults output.old ≤ K.write_faults output.new }
+    ensures never_falls { K.write_faults output.old ≤ K.write_faults output.new }
     ensures cause { result ≡ 4 → (ended.now ≡ Err EditFault.WriteFault) ⊎ Rose (K.write_faults output.old) (K.write_faults output.new) }
 {
     match ended {
@@ -108,6 +117,7 @@ fn run_script<K: Sink, D: Dialer>(
 }
 
 /// Tells of a script's first bad line, and gives the status.
+#[tactic(auto, using(crate::proofs::EditLemmas::tells_wanting, crate::proofs::EditLemmas::some_bad_line))]
 fn refuse_script<K: Sink>(alloc: Global, output: &mut K, number: u64) -> u8
     ensures told { Tells (K.held output.old) (K.held output.new) result 7 [] (bad_line number) }
     ensures cause { result ≡ 4 → Rose (K.write_faults output.old) (K.write_faults output.new) }
@@ -126,7 +136,7 @@ fn edit<S: Source, K: Sink, D: Dialer>(
     output: &mut K,
     dialer: &mut D,
 ) -> u8
-    ensures edits { Edits K.held D.exchanges D.faults (S.left input.old) editor result output.old output.new dialer.old dialer.new }
+    ensures edits { Edits K.held D.exchanges D.faults (S.left input.old) (S.left input.new) editor result output.old output.new dialer.old dialer.new }
     ensures read_cause { result ≡ 3 → Rose (S.read_faults input.old) (S.read_faults input.new) }
     ensures write_cause { result ≡ 4 → Rose (K.write_faults output.old) (K.write_faults output.new) }
 {
@@ -182,7 +192,7 @@ pub fn run_edit<S: Source, K: Sink, F: Folder, N: Listener, D: Dialer, C: Clock>
     let Some(ask) = edit_words(words) else {
         unreachable!()
     };
-    let Ok(editor) = editor_of(alloc, ask) else {
+    let Ok(editor) = editor_of(alloc, ask.authority, ask.file, ask.token, ask.nonce) else {
         return want(outside);
     };
     let status = edit(

@@ -40,6 +40,14 @@ fn edit<R: Threads + Wait + Sync>(
     Ok(run_in(rt, alloc, &words, outside)?)
 }
 
+/// The request at this place, or no bytes.
+fn request(dialer: &ScriptDialer, place: usize) -> &[u8] {
+    match dialer.exchanges().get(place) {
+        Some(exchange) => exchange.request.as_slice(),
+        None => &[],
+    }
+}
+
 fn expect(
     rt: &impl Abort,
     left: &Left,
@@ -69,7 +77,7 @@ fn two_saves_take_seven_requests(rt: HostRuntime) -> Result<(), Fail> {
         "POST /wopi/files/612e637376/contents?access_token={TOKEN} HTTP/1.1\r\nHost: localhost:8880\r\n\
 X-WOPI-Override: PUT\r\nX-WOPI-Lock: n-1\r\nContent-Length: 4\r\nConnection: close\r\n\r\n1,9\n"
     )?;
-    assert_eq!(rt; left.dialer.exchanges()[3].request.as_slice(), put.as_bytes());
+    assert_eq!(rt; request(&left.dialer, 3), put.as_bytes());
     Ok(())
 }
 
@@ -93,25 +101,41 @@ fn outcomes_have_their_statuses(rt: HostRuntime) -> Result<(), Fail> {
 }
 
 #[test]
+fn faults_of_the_streams_are_told(rt: HostRuntime) -> Result<(), Fail> {
+    let alloc = rt.alloc();
+    let words = ["edit", "localhost:8880", "612e637376", TOKEN, "n"];
+    let mut given = whole(b"show\n");
+    given.failing_reads = &[1];
+    let unread = run_with(&rt, alloc, &words, &given)?;
+    expect(&rt, &unread, 3, b"", 0)?;
+    assert_eq!(rt; unread.notes.as_slice(), b"read fault\n".as_slice());
+    given.failing_reads = &[];
+    given.failing_writes = &[1];
+    let unwritten = run_with(&rt, alloc, &words, &given)?;
+    expect(&rt, &unwritten, 4, b"", 0)?;
+    assert_eq!(rt; unwritten.notes.as_slice(), b"write fault\n".as_slice());
+    Ok(())
+}
+
+#[test]
 fn words_of_edit_have_their_form(rt: HostRuntime) -> Result<(), Fail> {
     let alloc = rt.alloc();
-    for (place, word) in [
-        (1, "localhost"),
-        (1, ":8880"),
-        (1, "localhost:0"),
-        (1, "localhost:65536"),
-        (1, "localhost:080"),
-        (1, "local host:80"),
-        (2, "612E637376"),
-        (3, ""),
-        (3, "a b"),
-        (4, ""),
-        (4, "n-1"),
+    let (host, id) = ("localhost:8880", "612e637376");
+    for words in [
+        ["edit", "localhost", id, TOKEN, "n"],
+        ["edit", ":8880", id, TOKEN, "n"],
+        ["edit", "localhost:0", id, TOKEN, "n"],
+        ["edit", "localhost:65536", id, TOKEN, "n"],
+        ["edit", "localhost:080", id, TOKEN, "n"],
+        ["edit", "local host:80", id, TOKEN, "n"],
+        ["edit", host, "612E637376", TOKEN, "n"],
+        ["edit", host, id, "", "n"],
+        ["edit", host, id, "a b", "n"],
+        ["edit", host, id, TOKEN, ""],
+        ["edit", host, id, TOKEN, "n-1"],
     ] {
-        let mut words = ["edit", "localhost:8880", "612e637376", TOKEN, "n"];
-        words[place] = word;
         let left = run_with(&rt, alloc, &words, &whole(b""))?;
-        assert!(rt; left.status == 2, "{word}");
+        assert_eq!(rt; left.status, 2);
     }
     Ok(())
 }
