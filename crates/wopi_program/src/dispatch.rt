@@ -7,7 +7,9 @@ ghost use Rattle.wopi_program.specs.Runs.{RunEnds};
 
 use crate::serve::run_serve;
 use crate::serve_words::ServeAsk;
-use crate::{Command, Outside, help, read_words, refuse, run_edit, run_once, run_token, tell, version};
+use crate::{
+    Command, Outside, help, read_words, refuse, run_edit, run_once, run_token, tell, version,
+};
 use outside::{Clock, Dialer, Folder, Listener, Sink, Source};
 use std::alloc::Global;
 use std::sync::Wait;

@@ -25,7 +25,10 @@ pub(crate) fn edit_words(words: &[String]) -> Option<EditAsk<'_>>
 {
     match words {
         [word, authority, id, token, nonce] => {
-            if word.as_str() != "edit" || !is_authority(authority.as_str()) || !is_token(token.as_str()) {
+            if word.as_str() != "edit"
+                || !is_authority(authority.as_str())
+                || !is_token(token.as_str())
+            {
                 return None;
             }
             let Ok(file) = id_read(id.as_bytes()) else {

@@ -19,7 +19,8 @@ const V2: &[u8] = b"HTTP/1.1 200 OK\r\nContent-Length: 0\r\nX-WOPI-ItemVersion: 
 
 const V3: &[u8] = b"HTTP/1.1 200 OK\r\nContent-Length: 0\r\nX-WOPI-ItemVersion: v3\r\n\r\n";
 
-const LOCKED: &[u8] = b"HTTP/1.1 409 Conflict\r\nContent-Length: 0\r\nX-WOPI-Lock: other\r\nX-WOPI-LockFailureReason: locked\r\n\r\n";
+const LOCKED: &[u8] =
+    b"HTTP/1.1 409 Conflict\r\nContent-Length: 0\r\nX-WOPI-Lock: other\r\nX-WOPI-LockFailureReason: locked\r\n\r\n";
 
 const SEVEN: &[u8] = b"open\nset 1 2 9\nsave\nset 1 1 7\nsave\nclose";
 
