@@ -134,7 +134,10 @@ fn authority(alloc: Global, words: &[String]) -> Result<String, Memory>
         → IfOk result (λ host. string_bytes host ≡ authority) }
 {
     match edit_authority(words) {
-        Some(authority) => Ok(String::from_str(alloc, authority)?),
+        Some(authority) => {
+            let host = String::from_str(alloc, authority)?;
+            Ok(host)
+        }
         None => Ok(String::new(alloc)),
     }
 }
