@@ -1,4 +1,4 @@
 mod ScriptLemmas
 mod WordLemmas
 mod SheetLemmas
-mod TurnLemmas
+pub mod TurnLemmas

@@ -29,7 +29,7 @@ made_none told faults P are = record { exchanges = []; grew = grew_nothing told;
 pub made_so : (a b : Option (List Exchange)) (f g : ℕ) (P Q : List Exchange → Type 0) → Made a b f g P → ((exchanges : List Exchange) → P exchanges → Q exchanges) → Made a b f g Q
 made_so a b f g P Q made so = record { exchanges = made.exchanges; grew = made.grew; lost = made.lost; are = so made.exchanges made.are }
 
-appends_then : (a b c : Option (List ℕ)) (xs ys : List ℕ) → Appends a b xs → Appends b c ys → Appends a c (xs ++ ys)
+pub appends_then : (a b c : Option (List ℕ)) (xs ys : List ℕ) → Appends a b xs → Appends b c ys → Appends a c (xs ++ ys)
 appends_then None b c xs ys x y = tt
 appends_then (Some a) None c xs ys x y = absurd x
 appends_then (Some a) (Some b) None xs ys x y = absurd y

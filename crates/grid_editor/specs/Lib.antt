@@ -7,3 +7,4 @@ pub mod Lines
 pub mod Turns
 pub mod Runs
 pub mod Inputs
+pub mod Views

@@ -12,8 +12,6 @@
 //! What a command sends is the talk of a session over the dialer (`wopi_client`), and what it writes
 //! is one line, stated in `specs/Lines.antt`. `specs/Turns.antt` says of each command what becomes of
 //! the sheet, what is sent and what is written; `specs/Runs.antt` says it of a whole script.
-//!
-//! No command of the program uses it yet.
 #![tactic(auto)]
 
 mod command;

@@ -2,6 +2,7 @@
 #![tactic(auto)]
 
 ghost use Rattle.std.specs.Prelude.{◌≡◌, ℕ, List, IfOk, map, string_bytes, vec_len};
+ghost use Rattle.wopi_program.specs.EditWords.{IsEditRow};
 ghost use Rattle.wopi_program.specs.ServeWords.{IsServeRow};
 ghost use Rattle.wopi_program.specs.Words.{IsRow};
 
@@ -13,7 +14,7 @@ use std::io::ErrorKind;
 use std::net::{Net, TcpListener, TcpStream};
 use std::process::ExitCode;
 use std::time;
-use wopi_program::{Command, Outside, ServeAsk, read_words, run, serve_ask};
+use wopi_program::{Command, Outside, ServeAsk, edit_authority, read_words, run, serve_ask};
 use wopi_text::Memory;
 
 /// How many folders and clocks a command works with.
@@ -60,6 +61,7 @@ fn parts_of(words: &[String]) -> Parts
             clocks: 1,
         },
         Some(Command::Serve) => parts_of_serve(words),
+        Some(Command::Edit) => NONE,
         Some(Command::Token) => NONE,
         Some(Command::Help) => NONE,
         Some(Command::Version) => NONE,
@@ -126,6 +128,20 @@ fn listeners<R: Net<Stream = TcpStream, Listener = TcpListener>>(
     }
 }
 
+/// The host of the words, where their command speaks with one.
+fn authority(alloc: Global, words: &[String]) -> Result<String, Memory>
+    ensures { (authority : List ℕ) (file : List ℕ) (token : List ℕ) (nonce : List ℕ) → IsEditRow (map string_bytes words.now) authority file token nonce
+        → IfOk result (λ host. string_bytes host ≡ authority) }
+{
+    match edit_authority(words) {
+        Some(authority) => {
+            let host = String::from_str(alloc, authority)?;
+            Ok(host)
+        }
+        None => Ok(String::new(alloc)),
+    }
+}
+
 /// The words after the program's name; none where one of them is no text.
 fn words<R: Env + AllocGlobal>(rt: &R) -> Result<Vec<String>, Memory> {
     let mut all = Vec::new(rt.alloc());
@@ -155,13 +171,16 @@ fn main(rt: HostRuntime) -> ExitCode {
     let Ok(clocks) = clocks(alloc, &rt, parts.clocks) else {
         return ExitCode::from(6);
     };
+    let Ok(authority) = authority(alloc, &words) else {
+        return ExitCode::from(6);
+    };
     let mut outside = Outside {
         input: StdSource::new(rt.stdin()),
         output: StdSink::output(rt.stdout()),
         notes: StdSink::notes(rt.stderr()),
         folders,
         listeners,
-        dialer: TcpDialer::new(alloc, &rt, String::new(alloc)),
+        dialer: TcpDialer::new(alloc, &rt, authority),
         clocks,
     };
     ExitCode::from(run(&rt, alloc, &words, &mut outside))

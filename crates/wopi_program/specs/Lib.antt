@@ -11,3 +11,5 @@ pub mod Serve
 pub mod Worked
 pub mod ServeWords
 pub mod ServeEnds
+pub mod EditWords
+pub mod Edit

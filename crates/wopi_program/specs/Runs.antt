@@ -6,6 +6,7 @@ use Rattle.wopi_program.specs.declared.outside_world.Outside.{Outside}
 use Rattle.wopi_program.specs.Meanings.{Meanings}
 use Rattle.wopi_program.specs.Telling.{TextEnds, help_text, version_text}
 use Rattle.wopi_program.specs.Once.{OnceEnds}
+use Rattle.wopi_program.specs.Edit.{EditEnds}
 use Rattle.wopi_program.specs.ServeEnds.{ServeEnds}
 use Rattle.wopi_program.specs.Token.{TokenEnds}
 
@@ -15,4 +16,5 @@ RunEnds m words status old new command.Help = TextEnds m.held m.write_faults hel
 RunEnds m words status old new command.Version = TextEnds m.held m.write_faults version_text status old new
 RunEnds m words status old new command.Once = OnceEnds m words status old new
 RunEnds m words status old new command.Serve = ServeEnds m words status old new
+RunEnds m words status old new command.Edit = EditEnds m words status old new
 RunEnds m words status old new command.Token = TokenEnds m words status old new

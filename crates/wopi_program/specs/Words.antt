@@ -6,6 +6,7 @@ use Rattle.host_server.specs.Bases.{is_base}
 use Rattle.wopi_model.specs.declared.token.Token.{Token}
 use Rattle.wopi_program.specs.declared.command.Command.{Command}
 use Rattle.wopi_program.specs.declared.command.Command.TheVariants as command
+use Rattle.wopi_program.specs.EditWords.{IsEdit}
 use Rattle.wopi_program.specs.ServeWords.{IsServe}
 
 -- once FOLDER KEY BASE
@@ -35,6 +36,7 @@ IsRow words command.Help = words ≡ codes "--help" ∷ []
 IsRow words command.Version = words ≡ codes "--version" ∷ []
 IsRow words command.Once = (key : List ℕ) × (base : List ℕ) × IsOnceRow words key base
 IsRow words command.Serve = IsServe words
+IsRow words command.Edit = IsEdit words
 IsRow words command.Token = (key : List ℕ) × (token : Token) × IsTokenRow words key token
 
 -- the words are a row of some command

@@ -2,6 +2,7 @@
 ghost use Rattle.std.specs.Prelude.{◌≡◌, ◌↔◌, [], ◌∷◌, map, string_bytes, IsTrue, Some};
 ghost use Rattle.wopi_program.specs.Words.{IsRow};
 
+use crate::edit_words::edit_words;
 use crate::once_words::once_words;
 use crate::serve_words::serve_words;
 use crate::token_words::token_words;
@@ -17,6 +18,8 @@ pub enum Command {
     Once,
     /// The requests of many connections answered by a host, and its journal on the output.
     Serve,
+    /// The script of the input run over a sheet at a host.
+    Edit,
     /// The text of an access token, on the output.
     Token,
 }
@@ -49,6 +52,15 @@ fn is_serve(words: &[String]) -> bool
     }
 }
 
+fn is_edit(words: &[String]) -> bool
+    ensures { IsTrue result ↔ IsRow (map string_bytes words.now) Command.Edit }
+{
+    match edit_words(words) {
+        Some(_) => true,
+        None => false,
+    }
+}
+
 fn is_token(words: &[String]) -> bool
     ensures { IsTrue result ↔ IsRow (map string_bytes words.now) Command.Token }
 {
@@ -70,6 +82,8 @@ pub fn read_words(words: &[String]) -> Option<Command>
         Some(Command::Once)
     } else if is_serve(words) {
         Some(Command::Serve)
+    } else if is_edit(words) {
+        Some(Command::Edit)
     } else if is_token(words) {
         Some(Command::Token)
     } else {

@@ -7,7 +7,9 @@ ghost use Rattle.wopi_program.specs.Runs.{RunEnds};
 
 use crate::serve::run_serve;
 use crate::serve_words::ServeAsk;
-use crate::{Command, Outside, help, read_words, refuse, run_once, run_token, tell, version};
+use crate::{
+    Command, Outside, help, read_words, refuse, run_edit, run_once, run_token, tell, version,
+};
 use outside::{Clock, Dialer, Folder, Listener, Sink, Source};
 use std::alloc::Global;
 use std::sync::Wait;
@@ -55,6 +57,7 @@ pub fn run<
     match read_words(words) {
         Some(Command::Once) => run_once(alloc, words, outside),
         Some(Command::Serve) => run_serve(rt, alloc, words, outside),
+        Some(Command::Edit) => run_edit(alloc, words, outside),
         Some(Command::Token) => run_token(alloc, words, outside),
         Some(Command::Help) => tell(outside, help()),
         Some(Command::Version) => tell(outside, version()),

@@ -4,11 +4,14 @@
 //! generic in all that it meets, so that its contract speaks of the bytes that were read and
 //! written. The command `once` answers the requests of its input, one after another, on its output;
 //! `serve` answers those of many connections by workers, and then writes its host's journal on the
-//! output; `token` writes the text of an access token.
+//! output; `edit` runs the script of its input over a sheet at a host; `token` writes the text of an
+//! access token.
 #![tactic(auto)]
 
 mod command;
 mod dispatch;
+mod edit;
+mod edit_words;
 mod notes;
 mod once;
 mod once_words;
@@ -22,6 +25,8 @@ mod token_words;
 
 pub use command::{Command, read_words};
 pub use dispatch::run;
+pub use edit::run_edit;
+pub use edit_words::edit_authority;
 pub use notes::note;
 pub use once::{OnceEnd, run_once};
 pub use outside_world::Outside;

@@ -1,6 +1,7 @@
 //! The program over fakes in memory: each request and its reply to the byte.
 mod chunks;
 mod copies;
+mod edits;
 mod faults;
 mod files;
 mod gates;
@@ -50,6 +51,7 @@ pub struct Left {
     pub output: MemSink,
     pub notes: MemSink,
     pub folders: Vec<MemFolder>,
+    pub dialer: ScriptDialer,
 }
 
 fn words(alloc: Global, list: &[&str]) -> Result<Vec<String>, Memory> {
@@ -131,7 +133,7 @@ pub fn run_in<R: Threads + Wait + Sync>(
         notes,
         folders,
         listeners: _,
-        dialer: _,
+        dialer,
         clocks: _,
     } = outside;
     Ok(Left {
@@ -139,6 +141,7 @@ pub fn run_in<R: Threads + Wait + Sync>(
         output,
         notes,
         folders,
+        dialer,
     })
 }
 

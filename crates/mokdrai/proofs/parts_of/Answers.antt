@@ -34,3 +34,9 @@ returns-in-None-clause-once c = λ row. let is = (c.read_words.ensures Once).1 r
 
 pub returns-in-None-clause-serve : goal.returns-in-None-clause-serve
 returns-in-None-clause-serve c = λ key base ask row. let is = (c.read_words.ensures Serve).1 (key, base, ask, row) in absurd (cc is)
+
+pub returns-in-Some-Edit-clause-once : goal.returns-in-Some-Edit-clause-once
+returns-in-Some-Edit-clause-once c = λ row. let is = (c.read_words.ensures Once).1 row in absurd (cc is)
+
+pub returns-in-Some-Edit-clause-serve : goal.returns-in-Some-Edit-clause-serve
+returns-in-Some-Edit-clause-serve c = λ key base ask row. let is = (c.read_words.ensures Serve).1 (key, base, ask, row) in absurd (cc is)

@@ -73,7 +73,7 @@ fn help_and_version_go_to_the_output(rt: HostRuntime) -> Result<(), Fail> {
     assert_eq!(rt; left.output.as_slice(), b"mokdrai 0.1.0\n".as_slice());
     let left = run_with(&rt, alloc, &["--help"], &given)?;
     let wanted =
-        "mokdrai once FOLDER KEY BASE\n    answers the requests of the input on the output\nmokdrai serve FOLDER PORT KEY BASE WORKERS [--journal J] [--each C]\n    answers the requests of many connections, and then writes the journal on the output\nmokdrai token KEY USER NAME RIGHTS SERIAL ISSUED EXPIRES\n    writes the text of an access token\nmokdrai --help\n    writes these lines\nmokdrai --version\n    writes the version\n";
+        "mokdrai once FOLDER KEY BASE\n    answers the requests of the input on the output\nmokdrai serve FOLDER PORT KEY BASE WORKERS [--journal J] [--each C]\n    answers the requests of many connections, and then writes the journal on the output\nmokdrai edit AUTHORITY ID TOKEN NONCE\n    runs the script of the input over a sheet at a host\nmokdrai token KEY USER NAME RIGHTS SERIAL ISSUED EXPIRES\n    writes the text of an access token\nmokdrai --help\n    writes these lines\nmokdrai --version\n    writes the version\n";
     assert_eq!(rt; left.status, 0);
     assert_eq!(rt; left.output.as_slice(), wanted.as_bytes());
     Ok(())

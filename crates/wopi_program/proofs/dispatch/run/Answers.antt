@@ -1,7 +1,8 @@
 use Rattle.std.proofs.Common.{Some, ap, ◌∙◌}
-use Rattle.wopi_program.specs.declared.command.Command.TheVariants.{Once, Serve, Token}
+use Rattle.wopi_program.specs.declared.command.Command.TheVariants.{Edit, Once, Serve, Token}
 use Rattle.wopi_program.proofs.Rows.{known}
 use Rattle.wopi_program.proofs.OnceLemmas.{OnceEnds-known}
+use Rattle.wopi_program.proofs.EditLemmas.{EditEnds-known}
 use Rattle.wopi_program.proofs.EndLemmas.{ServeEnds-known}
 use Rattle.wopi_program.proofs.dispatch.run.Goals as goal
 
@@ -47,3 +48,15 @@ returns-in-Some-Serve-clause-usage g c =
 pub returns-in-Some-Serve-clause-usage_leaves : goal.returns-in-Some-Serve-clause-usage_leaves
 returns-in-Some-Serve-clause-usage_leaves g c =
     λ none. absurd (none (Serve, (c.read_words.ensures Serve).0 (c.in-Some-Serve.is ∙ ap Some c.in-Some-Serve.field-0-is)))
+
+pub run_edit-requires-after_bounds : goal.run_edit-requires-after_bounds
+run_edit-requires-after_bounds g c κs within = (c.read_words.ensures Edit).0 (c.in-Some-Edit.is ∙ ap Some c.in-Some-Edit.field-0-is)
+
+pub returns-in-Some-Edit-clause-usage : goal.returns-in-Some-Edit-clause-usage
+returns-in-Some-Edit-clause-usage g c =
+    known _ Edit ((c.read_words.ensures Edit).0 (c.in-Some-Edit.is ∙ ap Some c.in-Some-Edit.field-0-is)) c.run_edit.result
+    (EditEnds-known _ _ _ _ _ c.run_edit.ensures)
+
+pub returns-in-Some-Edit-clause-usage_leaves : goal.returns-in-Some-Edit-clause-usage_leaves
+returns-in-Some-Edit-clause-usage_leaves g c =
+    λ none. absurd (none (Edit, (c.read_words.ensures Edit).0 (c.in-Some-Edit.is ∙ ap Some c.in-Some-Edit.field-0-is)))
