@@ -1,7 +1,7 @@
 //! Makes the real streams, folders, listeners and clocks, hands them to the top call, and ends with its status.
 #![tactic(auto)]
 
-ghost use Rattle.std.specs.Prelude.{◌≡◌, ℕ, List, IfOk, map, string_bytes, vec_len};
+ghost use Rattle.std.specs.Prelude.{◌≡◌, ◌↔◌, ℕ, List, IfOk, IsErr, map, string_bytes, vec_len};
 ghost use Rattle.wopi_program.specs.EditWords.{IsEditRow};
 ghost use Rattle.wopi_program.specs.ServeWords.{IsServeRow};
 ghost use Rattle.wopi_program.specs.Words.{IsRow};
@@ -142,14 +142,24 @@ fn authority(alloc: Global, words: &[String]) -> Result<String, Memory>
     }
 }
 
+/// What arguments come to that could not be read: no words, or want of memory.
+fn unread(alloc: Global, kind: ErrorKind) -> Result<Vec<String>, Memory>
+    ensures exact { IsErr result ↔ (kind ≡ ErrorKind.OutOfMemory) }
+    ensures none { IfOk result (λ words. vec_len words ≡ 0) }
+{
+    match kind {
+        ErrorKind::OutOfMemory => Err(Memory),
+        _ => Ok(Vec::new(alloc)),
+    }
+}
+
 /// The words after the program's name; none where one of them is no text.
 fn words<R: Env + AllocGlobal>(rt: &R) -> Result<Vec<String>, Memory> {
-    let mut all = Vec::new(rt.alloc());
     let args = match env::args(rt) {
         Ok(args) => args,
-        Err(error) if error.kind() == ErrorKind::OutOfMemory => return Err(Memory),
-        Err(_) => return Ok(all),
+        Err(error) => return unread(rt.alloc(), error.kind()),
     };
+    let mut all = Vec::new(rt.alloc());
     for word in args.skip(1) {
         all.push(word)?;
     }
@@ -185,3 +195,6 @@ fn main(rt: HostRuntime) -> ExitCode {
     };
     ExitCode::from(run(&rt, alloc, &words, &mut outside))
 }
+
+#[cfg(test)]
+mod tests;
