@@ -4,7 +4,7 @@ use Rattle.mokdrai.proofs.main.Goals as goal
 
 pub run-requires-clause-serve : goal.run-requires-clause-serve
 run-requires-clause-serve g c κs = λ key base ask row.
-    let here = c.deref-4.ensures.value in
+    let here = c.deref-5.ensures.value in
     let first = subst (λ (l : List (List ℕ)). IsServeRow l key base ask) (ap (map string_bytes) (here ∙ sym c.deref.ensures.value)) row in
     let third = subst (λ (l : List (List ℕ)). IsServeRow l key base ask) (ap (map string_bytes) (here ∙ sym c.deref-3.ensures.value)) row in
     let parts = c.parts_of-parts.ensures.serve key base ask first in
