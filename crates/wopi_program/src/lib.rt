@@ -35,6 +35,3 @@ pub use serve_words::{ServeAsk, serve_ask};
 pub use serving::ServeEnd;
 pub use telling::{help, refuse, tell, version};
 pub use token::run_token;
-
-#[cfg(test)]
-mod tests;
