@@ -5,10 +5,6 @@ use Rattle.file_versions.specs.declared.Version.{Version}
 use Rattle.file_versions.specs.declared.AddFault.{AddFault}
 use Rattle.file_versions.specs.declared.AddFault.TheVariants as fault
 
--- the most bytes that are kept
-abbrev pub most_kept : ℕ
-most_kept = 268435456
-
 abbrev pub kept_in : List Version → ℕ
 kept_in versions = sum_by (λ one. length one.contents) versions
 

@@ -10,7 +10,8 @@
 #![tactic(auto)]
 
 ghost use Rattle.std.specs.Prelude.{◌≡◌, ◌+◌, ◌<◌, ◌++◌, ◌∷◌, [], length, None, IsNone, IfNone, IfSome, OnOk, OnErr, IfErr, MatchOption, option_map, ◌≤◌};
-ghost use Rattle.file_versions.specs.Versions.{most_kept, kept_in, found, removed, IsKeptFull, handed_back, is_of};
+ghost use Rattle.wopi_model.specs.Host.{most_kept};
+ghost use Rattle.file_versions.specs.Versions.{kept_in, found, removed, IsKeptFull, handed_back, is_of};
 ghost use Rattle.file_versions.specs.Places.{IsFirst};
 
 use std::alloc::Global;
@@ -46,7 +47,8 @@ pub struct Versions {
 impl Model for Versions {
     ghost use Rattle.std.specs.Prelude.{◌≡◌, ◌≤◌, List};
     ghost use Rattle.file_versions.specs.declared.Version.{Version};
-    ghost use Rattle.file_versions.specs.Versions.{most_kept, kept_in};
+    ghost use Rattle.wopi_model.specs.Host.{most_kept};
+    ghost use Rattle.file_versions.specs.Versions.{kept_in};
 
     ghost Value = { List Version };
 

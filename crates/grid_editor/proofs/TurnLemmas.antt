@@ -6,7 +6,7 @@ use Rattle.outside.specs.Stream.{GrewByPrefix}
 use Rattle.outside.specs.declared.dialer.Exchange.{Exchange}
 use Rattle.save_session.specs.declared.output.Outcome.{Outcome}
 use Rattle.save_session.specs.declared.output.Outcome.TheVariants as outcome
-use Rattle.wopi_client.specs.Talk.{Grew, Made, RoseBy, lost_in}
+use Rattle.wopi_client.specs.Talk.{Grew, Exchanged, lost_in}
 use Rattle.wopi_client.proofs.TalkLemmas.{grew_nothing, grew_then, rose_then}
 use Rattle.grid_sheet.specs.declared.fault.GridFault.{GridFault}
 use Rattle.grid_sheet.specs.Rows.{Rows}
@@ -23,10 +23,10 @@ use Rattle.grid_editor.specs.Runs.{Commands, Runs, Writes, over, goes_on, ends}
 
 -- ---- exchanges
 
-pub made_none : (told : Option (List Exchange)) (faults : ℕ) (P : List Exchange → Type 0) → P [] → Made told told faults faults P
+pub made_none : (told : Option (List Exchange)) (faults : ℕ) (P : List Exchange → Type 0) → P [] → Exchanged told told faults faults P
 made_none told faults P are = record { exchanges = []; grew = grew_nothing told; lost = omega arith; are = are }
 
-pub made_so : (a b : Option (List Exchange)) (f g : ℕ) (P Q : List Exchange → Type 0) → Made a b f g P → ((exchanges : List Exchange) → P exchanges → Q exchanges) → Made a b f g Q
+pub made_so : (a b : Option (List Exchange)) (f g : ℕ) (P Q : List Exchange → Type 0) → Exchanged a b f g P → ((exchanges : List Exchange) → P exchanges → Q exchanges) → Exchanged a b f g Q
 made_so a b f g P Q made so = record { exchanges = made.exchanges; grew = made.grew; lost = made.lost; are = so made.exchanges made.are }
 
 pub appends_then : (a b c : Option (List ℕ)) (xs ys : List ℕ) → Appends a b xs → Appends b c ys → Appends a c (xs ++ ys)
@@ -116,7 +116,7 @@ leads_end start now new all rest later asked result written first sent more is l
 -- ---- a command
 
 pub writes_ok : (a b : Option (List ℕ)) (t u : Option (List Exchange)) (f g : ℕ) (old new : Editor) (asked : Command) (turn : Turn) → Appends a b turn.line
-    → Made t u f g (Does old asked new (Ok turn)) → Writes a b t u f g (Commands old asked new (Ok turn.went))
+    → Exchanged t u f g (Does old asked new (Ok turn)) → Writes a b t u f g (Commands old asked new (Ok turn.went))
 writes_ok a b t u f g old new asked turn grew made = record {
   written = turn.line;
   grew = grew;
@@ -124,7 +124,7 @@ writes_ok a b t u f g old new asked turn grew made = record {
 }
 
 pub writes_cut : (a b : Option (List ℕ)) (t u : Option (List Exchange)) (f g : ℕ) (old new : Editor) (asked : Command) (turn : Turn) → GrewByPrefix a b turn.line
-    → Made t u f g (Does old asked new (Ok turn)) → Writes a b t u f g (Commands old asked new (Err fault.WriteFault))
+    → Exchanged t u f g (Does old asked new (Ok turn)) → Writes a b t u f g (Commands old asked new (Err fault.WriteFault))
 writes_cut a b t u f g old new asked turn (front, rest, is, grew) made = record {
   written = front;
   grew = grew;
@@ -132,7 +132,7 @@ writes_cut a b t u f g old new asked turn (front, rest, is, grew) made = record 
 }
 
 pub writes_none : (a : Option (List ℕ)) (t u : Option (List Exchange)) (f g : ℕ) (old new : Editor) (asked : Command) (why : EditFault) → (why ≡ fault.WriteFault → ⊥)
-    → Made t u f g (Does old asked new (Err why)) → Writes a a t u f g (Commands old asked new (Err why))
+    → Exchanged t u f g (Does old asked new (Err why)) → Writes a a t u f g (Commands old asked new (Err why))
 writes_none a t u f g old new asked (fault.BadReply at) other made = record {
   written = [];
   grew = appends_none a;

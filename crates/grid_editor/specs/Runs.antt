@@ -2,7 +2,7 @@
 use Rattle.std.specs.Prelude.{ℕ, ◌≡◌, ◌≢◌, List, [], ◌∷◌, ◌++◌, Option, Result, Ok, Err}
 use Rattle.std.specs.Io.KnownBytes.{Appends}
 use Rattle.outside.specs.declared.dialer.Exchange.{Exchange}
-use Rattle.wopi_client.specs.Talk.{Made}
+use Rattle.wopi_client.specs.Talk.{Exchanged}
 use Rattle.grid_editor.specs.declared.command.Command.{Command}
 use Rattle.grid_editor.specs.declared.editor.Editor.{Editor}
 use Rattle.grid_editor.specs.declared.turns.EditFault.{EditFault}
@@ -34,4 +34,4 @@ pub data Runs : Editor → List Command → Editor → Result Went EditFault →
 pub record Writes (held held' : Option (List ℕ)) (told told' : Option (List Exchange)) (faults faults' : ℕ) (P : List ℕ → List Exchange → Type 0) : Type 0 where
   pub written : List ℕ
   pub grew : Appends held held' written
-  pub made : Made told told' faults faults' (P written)
+  pub made : Exchanged told told' faults faults' (P written)

@@ -3,7 +3,7 @@ ghost use Rattle.std.specs.Prelude.{◌≡◌, ◌≤◌, None, IfOk, IsErrOf};
 ghost use Rattle.outside.specs.Faults.{Rose};
 ghost use Rattle.save_session.specs.Session.{new_session};
 ghost use Rattle.save_session.specs.Views.{nonce_of, state_of};
-ghost use Rattle.wopi_client.specs.Talk.{Made};
+ghost use Rattle.wopi_client.specs.Talk.{Exchanged};
 ghost use Rattle.grid_editor.specs.Turns.{Copies, Does, Drives, IsAlone, Refreshes, Saves};
 ghost use Rattle.grid_editor.specs.Runs.{Commands, Runs, Writes};
 
@@ -101,7 +101,7 @@ fn turn<D: Dialer>(
 ) -> Result<Turn, EditFault>
     ensures desktop { editor.new.desktop ≡ editor.old.desktop }
     ensures nonce { nonce_of editor.new.session ≡ nonce_of editor.old.session }
-    ensures does { Made (D.exchanges dialer.old) (D.exchanges dialer.new) (D.faults dialer.old) (D.faults dialer.new) (Does editor.old command.now editor.new result) }
+    ensures does { Exchanged (D.exchanges dialer.old) (D.exchanges dialer.new) (D.faults dialer.old) (D.faults dialer.new) (Does editor.old command.now editor.new result) }
     ensures no_write { IsErrOf result EditFault.WriteFault → ⊥ }
     ensures never_falls { D.faults dialer.old ≤ D.faults dialer.new }
 {
@@ -125,7 +125,7 @@ fn turn<D: Dialer>(
 fn driven<D: Dialer>(editor: &mut Editor, dialer: &mut D, input: Input) -> Result<Turn, EditFault>
     ensures desktop { editor.new.desktop ≡ editor.old.desktop }
     ensures nonce { nonce_of editor.new.session ≡ nonce_of editor.old.session }
-    ensures drives { Made (D.exchanges dialer.old) (D.exchanges dialer.new) (D.faults dialer.old) (D.faults dialer.new) (Drives editor.old input editor.new result) }
+    ensures drives { Exchanged (D.exchanges dialer.old) (D.exchanges dialer.new) (D.faults dialer.old) (D.faults dialer.new) (Drives editor.old input editor.new result) }
     ensures no_write { IsErrOf result EditFault.WriteFault → ⊥ }
     ensures never_falls { D.faults dialer.old ≤ D.faults dialer.new }
 {
@@ -138,7 +138,7 @@ fn driven<D: Dialer>(editor: &mut Editor, dialer: &mut D, input: Input) -> Resul
 fn saved<D: Dialer>(editor: &mut Editor, dialer: &mut D) -> Result<Turn, EditFault>
     ensures desktop { editor.new.desktop ≡ editor.old.desktop }
     ensures nonce { nonce_of editor.new.session ≡ nonce_of editor.old.session }
-    ensures saves { Made (D.exchanges dialer.old) (D.exchanges dialer.new) (D.faults dialer.old) (D.faults dialer.new) (Saves editor.old editor.old.sheet editor.new result) }
+    ensures saves { Exchanged (D.exchanges dialer.old) (D.exchanges dialer.new) (D.faults dialer.old) (D.faults dialer.new) (Saves editor.old editor.old.sheet editor.new result) }
     ensures no_write { IsErrOf result EditFault.WriteFault → ⊥ }
     ensures never_falls { D.faults dialer.old ≤ D.faults dialer.new }
 {
@@ -155,7 +155,7 @@ fn saved<D: Dialer>(editor: &mut Editor, dialer: &mut D) -> Result<Turn, EditFau
 fn refreshed<D: Dialer>(editor: &mut Editor, dialer: &mut D) -> Result<Turn, EditFault>
     ensures desktop { editor.new.desktop ≡ editor.old.desktop }
     ensures nonce { nonce_of editor.new.session ≡ nonce_of editor.old.session }
-    ensures refreshes { Made (D.exchanges dialer.old) (D.exchanges dialer.new) (D.faults dialer.old) (D.faults dialer.new) (Refreshes editor.old editor.old.sheet editor.new result) }
+    ensures refreshes { Exchanged (D.exchanges dialer.old) (D.exchanges dialer.new) (D.faults dialer.old) (D.faults dialer.new) (Refreshes editor.old editor.old.sheet editor.new result) }
     ensures no_write { IsErrOf result EditFault.WriteFault → ⊥ }
     ensures never_falls { D.faults dialer.old ≤ D.faults dialer.new }
 {
@@ -172,7 +172,7 @@ fn copied<D: Dialer>(
     name: &FileName,
 ) -> Result<Turn, EditFault>
     ensures same { editor.new ≡ editor.old }
-    ensures copies { Made (D.exchanges dialer.old) (D.exchanges dialer.new) (D.faults dialer.old) (D.faults dialer.new) (Copies editor.old editor.old.sheet name.now editor.new result) }
+    ensures copies { Exchanged (D.exchanges dialer.old) (D.exchanges dialer.new) (D.faults dialer.old) (D.faults dialer.new) (Copies editor.old editor.old.sheet name.now editor.new result) }
     ensures no_write { IsErrOf result EditFault.WriteFault → ⊥ }
     ensures never_falls { D.faults dialer.old ≤ D.faults dialer.new }
 {

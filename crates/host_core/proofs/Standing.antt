@@ -10,7 +10,7 @@ use Rattle.host_core.specs.Archive.{IsArchive, AreKept, AreWithin, IsKept, Stays
 use Rattle.wopi_model.specs.Shard.{Opening}
 use Rattle.outside.specs.Folder.{Files}
 use Rattle.outside.specs.Folder as folder
-use Rattle.outside.specs.Faults.{Rose}
+use Rattle.outside.specs.Faults.{Rose, RoseBy}
 use Rattle.wopi_model.specs.Moment.{IsMoment}
 use Rattle.wopi_model.specs.declared.calls.Call.{Call}
 use Rattle.wopi_model.specs.declared.calls.Ruling.{Ruling}
@@ -24,7 +24,7 @@ use Rattle.wopi_model.proofs.Histories.{Legal-tick}
 use Rattle.host_core.specs.Files.{files_of, torn_in}
 use Rattle.host_core.specs.Store.{StoresAs, is_store_call, torn_after, brought}
 use Rattle.host_core.specs.Steps.{TakesStep, ShowsSame}
-use Rattle.host_core.specs.Value.{Book, Stands, IsLawful, state_of, is_torn, Reflects, Agrees, RoseBy, faults_in}
+use Rattle.host_core.specs.Value.{Book, Stands, IsLawful, state_of, is_torn, Reflects, Agrees, faults_in}
 use Rattle.host_core.specs.declared.ledger.Ledger.{Ledger}
 use Rattle.host_core.specs.Ledger.{Takes, Stays, made_by}
 use Rattle.host_core.proofs.History.{keeps-step, keeps-stays}

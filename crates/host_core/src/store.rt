@@ -2,7 +2,8 @@
 ghost use Rattle.std.specs.Prelude.{◌≡◌, ◌≤◌, ◌<◌, ◌+◌, length, None, Some, ◌∷◌, [], ◌++◌, IsSome, IfOk, IfErr, OnOk, OnErr, unwrap_or};
 ghost use Rattle.outside.specs.Faults.{Rose};
 ghost use Rattle.outside.specs.Folder.{Keeps, OpensOnly, Replaces};
-ghost use Rattle.file_versions.specs.Versions.{kept_in, most_kept, found, removed};
+ghost use Rattle.wopi_model.specs.Host.{most_kept};
+ghost use Rattle.file_versions.specs.Versions.{kept_in, found, removed};
 ghost use Rattle.host_core.specs.Store.{Holds, MatchStored};
 
 use file_versions::{AddFault, Versions};

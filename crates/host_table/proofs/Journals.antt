@@ -10,7 +10,7 @@ use Rattle.turn_lock.specs.Places.{total, times}
 use Rattle.outside.specs.Folder.{Files}
 use Rattle.wopi_text.specs.FileName.{shard_of}
 use Rattle.wopi_model.specs.Shard.{Opening, Entry, Item, Step, Legal, RisesFrom, stamps}
-use Rattle.wopi_model.specs.Host.{place_of, opening_of, part_of, LegalHost, IsInOrder}
+use Rattle.wopi_model.specs.Host.{shard_of_entry, opening_of, part_of, LegalHost, IsInOrder}
 use Rattle.host_core.specs.Opening.{IsTaken}
 use Rattle.host_core.specs.Entries.{Made}
 use Rattle.host_core.specs.Value.{Book, Left, IsLawful}
@@ -195,12 +195,12 @@ rising_at [] i part r e = absurd (cc e)
 rising_at (p ∷ parts) zero part r e = let same : p ≡ part = cc e in subst (λ (z : Left _). RisesFrom 0 (stamps (steps_of z.made))) same r.0
 rising_at (p ∷ parts) (suc i) part r e = rising_at parts i part r.1 e
 
-named_one : (j : ℕ) (made : List Made) (k : ℕ) (one : Made) → AreNamed (Some j) made → slice_get made k ≡ Some one → place_of one.step ≡ j
+named_one : (j : ℕ) (made : List Made) (k : ℕ) (one : Made) → AreNamed (Some j) made → slice_get made k ≡ Some one → shard_of_entry one.step ≡ j
 named_one j [] k one n e = absurd (cc e)
-named_one j (x ∷ made) zero one n e = let same : x ≡ one = cc e in ap (λ (z : Made). place_of z.step) (sym same) ∙ n.0
+named_one j (x ∷ made) zero one n e = let same : x ≡ one = cc e in ap (λ (z : Made). shard_of_entry z.step) (sym same) ∙ n.0
 named_one j (x ∷ made) (suc k) one n e = named_one j made k one n.1 e
 
-named_in : {F : Type 0} (j : ℕ) (parts : List (Left F)) (i : ℕ) (part : Left F) (k : ℕ) (one : Made) → ArePlaced j parts → slice_get parts i ≡ Some part → slice_get part.made k ≡ Some one → place_of one.step ≡ j + i
+named_in : {F : Type 0} (j : ℕ) (parts : List (Left F)) (i : ℕ) (part : Left F) (k : ℕ) (one : Made) → ArePlaced j parts → slice_get parts i ≡ Some part → slice_get part.made k ≡ Some one → shard_of_entry one.step ≡ j + i
 named_in j [] i part k one a e f = absurd (cc e)
 named_in j (p ∷ parts) zero part k one a e f =
     let same : p ≡ part = cc e in let z : j ≡ j + 0 = omega arith in
@@ -235,12 +235,12 @@ module _ {F : Type 0} where
   base_opened opened capacity j (b ∷ books) zero h a e = let same : b ≡ h = cc e in ap (λ (z : Book F). z.opened) (sym same) ∙ a.0.opened_is
   base_opened opened capacity j (b ∷ books) (suc i) h a e = base_opened opened capacity (j + 1) books i h a.1 e
 
-  parts_are : (merge : List Made) (j : ℕ) (parts : List (Left F)) → ((i : ℕ) (part : Left F) → slice_get parts i ≡ Some part → part.made ≡ filter (λ one. place_of one.step == j + i) merge) → AreParts merge j parts
+  parts_are : (merge : List Made) (j : ℕ) (parts : List (Left F)) → ((i : ℕ) (part : Left F) → slice_get parts i ≡ Some part → part.made ≡ filter (λ one. shard_of_entry one.step == j + i) merge) → AreParts merge j parts
   parts_are merge j [] f = tt
   parts_are merge j (part ∷ parts) f =
       let z : j + 0 ≡ j = omega arith in (
-        f 0 part refl ∙ ap (λ (n : ℕ). filter (λ (one : Made). place_of one.step == n) merge) z,
-        parts_are merge (j + 1) parts (λ i p e. let n : j + suc i ≡ (j + 1) + i = omega arith in f (suc i) p e ∙ ap (λ (m : ℕ). filter (λ (one : Made). place_of one.step == m) merge) n),
+        f 0 part refl ∙ ap (λ (n : ℕ). filter (λ (one : Made). shard_of_entry one.step == n) merge) z,
+        parts_are merge (j + 1) parts (λ i p e. let n : j + suc i ≡ (j + 1) + i = omega arith in f (suc i) p e ∙ ap (λ (m : ℕ). filter (λ (one : Made). shard_of_entry one.step == m) merge) n),
       )
 
   seen_are : (seats : List (Place F)) (parts : List (Left F)) → length seats ≡ length parts → ((i : ℕ) (s : Place F) (part : Left F) → slice_get seats i ≡ Some s → slice_get parts i ≡ Some part → IsPrefix s.seen part.made) → AreSeen seats parts
@@ -276,19 +276,19 @@ module _ {F : Type 0} (files : F → Option Files) (faults : F → ℕ) (opened 
   has_one : (i : ℕ) (part : Left F) (k : ℕ) (one : Made) → slice_get parts i ≡ Some part → slice_get part.made k ≡ Some one → Has merge one
   has_one = entry_has parts sorted few rising placed moved up
 
-  where_is : (one : Made) → Has merge one → (i : ℕ) × (k : ℕ) × (part : Left F) × (slice_get parts i ≡ Some part) × (slice_get part.made k ≡ Some one) × (place_of one.step ≡ i)
+  where_is : (one : Made) → Has merge one → (i : ℕ) × (k : ℕ) × (part : Left F) × (slice_get parts i ≡ Some part) × (slice_get part.made k ≡ Some one) × (shard_of_entry one.step ≡ i)
   where_is = has_entry parts sorted few rising placed moved up
 
   -- a shard's part of the merge
-  part_is : (i : ℕ) (part : Left F) → slice_get parts i ≡ Some part → part.made ≡ filter (λ one. place_of one.step == i) merge
+  part_is : (i : ℕ) (part : Left F) → slice_get parts i ≡ Some part → part.made ≡ filter (λ one. shard_of_entry one.step == i) merge
   part_is i part at =
       let mine : AreOrdered (λ (one : Made). one.step) part.made = rises_ordered 0 (steps_of part.made) (rising_at parts i part rising at) in
-      one_order (λ (one : Made). one.step) part.made (filter (λ one. place_of one.step == i) merge) mine (ordered_filter (λ (one : Made). one.step) (λ one. place_of one.step == i) merge ordered)
+      one_order (λ (one : Made). one.step) part.made (filter (λ one. shard_of_entry one.step == i) merge) mine (ordered_filter (λ (one : Made). one.step) (λ one. shard_of_entry one.step == i) merge ordered)
       (λ one h. let k = has_place part.made one h in
       let there = has_one i part k.0 one at k.1 in let home = named_in 0 parts i part k.0 one placed at k.1 in
-      let test : place_of one.step == i ≡ true = grind (arith, nat_tests) in
-      filter_has (λ (z : Made). place_of z.step == i) merge one there test)
-      (λ one h. let f = has_filter (λ (z : Made). place_of z.step == i) merge one h in let w = where_is one f.0 in let t = f.1 in let home = w.5 in
+      let test : shard_of_entry one.step == i ≡ true = grind (arith, nat_tests) in
+      filter_has (λ (z : Made). shard_of_entry z.step == i) merge one there test)
+      (λ one h. let f = has_filter (λ (z : Made). shard_of_entry z.step == i) merge one h in let w = where_is one f.0 in let t = f.1 in let home = w.5 in
       let same : w.0 ≡ i = grind (arith, nat_tests) in
       let part_same : w.2 ≡ part = cc (w.3, ap (slice_get parts) same, at) in
       place_has part.made w.1 one (ap (λ (p : Left F). slice_get p.made w.1) (sym part_same) ∙ w.4))
@@ -348,7 +348,7 @@ module _ {F : Type 0} (files : F → Option Files) (faults : F → ℕ) (opened 
       let t = made_of shard part.0 part.1 in
       let opening : opening_of shard (openings parts) ≡ part.0.opening = openings_at 0 parts shard part.0 shard (omega arith) (homed_all files faults opened capacity 0 books parts folders taken bases) part.1 in
       let history : part_of shard (steps_of merge) ≡ untimed part.0.made =
-      ap (map Step) (filter_map_is (λ (z : Made). z.step) (λ (e : Entry). place_of e == shard) merge) ∙ ap untimed (sym (part_is shard part.0 part.1)) in
+      ap (map Step) (filter_map_is (λ (z : Made). z.step) (λ (e : Entry). shard_of_entry e == shard) merge) ∙ ap untimed (sym (part_is shard part.0 part.1)) in
       let when : t.0.opened ≡ opened = base_opened opened capacity 0 books shard t.0 bases t.2 in
       let P : Opening × (ℕ × List Item) → Type 0 = λ z. Legal z.0 z.1.0 z.1.1 in
       let all : (part.0.opening, (t.0.opened, untimed part.0.made)) ≡ (opening_of shard (openings parts), (opened, part_of shard (steps_of merge))) = λ i. (sym opening i, (when i, sym history i)) in
@@ -373,7 +373,7 @@ module _ {F : Type 0} (files : F → Option Files) (faults : F → ℕ) (opened 
   legal_host = record { ordered = ordered; shards = shard_legal; passes = pass_rises }
 
   pub all_parts : AreParts merge 0 parts
-  all_parts = parts_are merge 0 parts (λ i part at. let z : i ≡ 0 + i = omega arith in part_is i part at ∙ ap (λ (n : ℕ). filter (λ (one : Made). place_of one.step == n) merge) z)
+  all_parts = parts_are merge 0 parts (λ i part at. let z : i ≡ 0 + i = omega arith in part_is i part at ∙ ap (λ (n : ℕ). filter (λ (one : Made). shard_of_entry one.step == n) merge) z)
 
   pub all_seen : AllByRecursion (λ pass. AreSeen pass.seats parts) passes
   all_seen = all_of (λ (p : PassView F). AreSeen p.seats parts) passes (λ p mine.

@@ -7,7 +7,8 @@ use Rattle.host_core.specs.Entries.{Made}
 use Rattle.host_core.specs.Times.{steps_of}
 use Rattle.host_table.specs.Histories.{last_stamp}
 use Rattle.host_table.specs.Passes.{Place, Own, owned_at, owned, stamp_of, put_in, by_stamp, owned_from, top, HasOwn, Owns}
-use Rattle.host_table.proofs.Stamps.{prefix_get, get_last, last_stamp-most, rises-push}
+use Rattle.host_table.proofs.Stamps.{prefix_get, get_last, last_stamp-most}
+use Rattle.wopi_model.proofs.Histories.{RisesFrom-push}
 
 -- there is an entry of the pass's own
 pub has_own : (number : ℕ) (o : Option Made) → HasOwn number o → (one : Made) × (o ≡ Some one) × (one.step.pass ≡ number)
@@ -148,4 +149,4 @@ module _ {F : Type 0} where
   -- the stamps rise with the new one
   pub rises_after : (number stamp : ℕ) (ss : List (Place F)) → AreOwn number ss → top ss < stamp → RisesFrom 0 (map stamp_of (by_stamp (owned_from 0 ss))) → RisesFrom 0 (map stamp_of (by_stamp (owned_from 0 ss)) ++ stamp ∷ [])
   rises_after number stamp ss o above r =
-      rises-push 0 (map stamp_of (by_stamp (owned_from 0 ss))) stamp r (last_below 0 stamp (by_stamp (owned_from 0 ss)) (omega arith) (by_stamp_below stamp (owned_from 0 ss) (all_below number 0 stamp ss o above (omega arith))))
+      RisesFrom-push 0 (map stamp_of (by_stamp (owned_from 0 ss))) stamp r (last_below 0 stamp (by_stamp (owned_from 0 ss)) (omega arith) (by_stamp_below stamp (owned_from 0 ss) (all_below number 0 stamp ss o above (omega arith))))

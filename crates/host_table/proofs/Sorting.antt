@@ -8,7 +8,7 @@ use Rattle.std.specs.List.Sorted.{IsNonDecreasingBy}
 use Rattle.turn_lock.specs.Places.{total}
 use Rattle.turn_lock.proofs.Sums.{total-append}
 use Rattle.wopi_model.specs.Shard.{Entry, RisesFrom, stamps}
-use Rattle.wopi_model.specs.Host.{place_of, ComesBefore, IsInOrder}
+use Rattle.wopi_model.specs.Host.{shard_of_entry, ComesBefore, IsInOrder}
 use Rattle.host_core.specs.Entries.{Made}
 use Rattle.host_core.specs.Value.{Left}
 use Rattle.host_table.specs.declared.journal.Spot.{Spot}
@@ -104,9 +104,9 @@ strict_of (s ∷ rest) up once =
 
 -- at the spot stands an entry of that stamp, in its name's shard
 abbrev pub IsGood : {F : Type 0} → List (Left F) → Spot → Type 0
-IsGood parts spot = (one : Made) × (found parts spot ≡ Some one) × (spot.stamp ≡ one.step.stamp) × (spot.shard ≡ place_of one.step)
+IsGood parts spot = (one : Made) × (found parts spot ≡ Some one) × (spot.stamp ≡ one.step.stamp) × (spot.shard ≡ shard_of_entry one.step)
 
-before_of : (a b : Entry) → a.stamp * 16 + place_of a < b.stamp * 16 + place_of b → place_of a < 16 → place_of b < 16 → ComesBefore a b
+before_of : (a b : Entry) → a.stamp * 16 + shard_of_entry a < b.stamp * 16 + shard_of_entry b → shard_of_entry a < 16 → shard_of_entry b < 16 → ComesBefore a b
 before_of a b h p q = go (ltb a.stamp b.stamp) refl where
   go : (c : Bool) → ltb a.stamp b.stamp ≡ c → ComesBefore a b
   go true e = let l : a.stamp < b.stamp = grind (arith, nat_tests) in inl l
@@ -120,7 +120,7 @@ module _ {F : Type 0} (parts : List (Left F)) where
   good_found [] a = tt
   good_found (s ∷ spots) a = (subst IsFound (sym a.0.1) tt, good_found spots a.1)
 
-  good_order : (s : Spot) (g : IsGood parts s) → order_of s ≡ g.0.step.stamp * 16 + place_of g.0.step
+  good_order : (s : Spot) (g : IsGood parts s) → order_of s ≡ g.0.step.stamp * 16 + shard_of_entry g.0.step
   good_order s g = λ i. g.2 i * 16 + g.3 i
 
   merged_all : (s : Spot) (g : IsGood parts s) (rest : List Spot) → AllByRecursion (λ t. order_of s < order_of t) rest → AreGood rest → AllByRecursion (ComesBefore g.0.step) (steps_of (merge_of parts rest))
@@ -232,13 +232,13 @@ module _ {F : Type 0} (parts : List (Left F)) (sorted : List Spot) (few : length
       let is : found parts s ≡ Some one = ap (λ (o : Option (Left F)). made_in o k) e ∙ f in
       has_merge parts sorted s one good_sorted (contained_has sorted s (Contains-permutation (all_spots 0 parts) sorted s moved (has_contained (all_spots 0 parts) s there))) is
 
-  pub has_entry : (one : Made) → Has (merge_of parts sorted) one → (i : ℕ) × (k : ℕ) × (part : Left F) × (slice_get parts i ≡ Some part) × (slice_get part.made k ≡ Some one) × (place_of one.step ≡ i)
+  pub has_entry : (one : Made) → Has (merge_of parts sorted) one → (i : ℕ) × (k : ℕ) × (part : Left F) × (slice_get parts i ≡ Some part) × (slice_get part.made k ≡ Some one) × (shard_of_entry one.step ≡ i)
   has_entry one h =
       let m = merge_has parts sorted one good_sorted h in
       let g = all_at (IsGood parts) sorted m.0 good_sorted m.1 in
       let same : g.0 ≡ one = cc (g.1, m.2) in
       let p = in_part (slice_get parts m.0.shard) m.0.place one m.2 in
-      (m.0.shard, m.0.place, p.0, p.1, p.2, sym (g.3 ∙ ap (λ (z : Made). place_of z.step) same)) where
+      (m.0.shard, m.0.place, p.0, p.1, p.2, sym (g.3 ∙ ap (λ (z : Made). shard_of_entry z.step) same)) where
         in_part : (o : Option (Left F)) (place : ℕ) (one : Made) → made_in o place ≡ Some one → (part : Left F) × (o ≡ Some part) × (slice_get part.made place ≡ Some one)
         in_part None place one e = absurd (cc e)
         in_part (Some part) place one e = (part, refl, e)

@@ -57,13 +57,3 @@ pub steps-append : (xs ys : List Made) → steps_of (xs ++ ys) ≡ steps_of xs +
 steps-append [] ys = refl
 steps-append (x ∷ xs) ys = ap (λ (es : List Entry). x.step ∷ es) (steps-append xs ys)
 
-last_from-push : (low : ℕ) (xs : List Made) (one : Made) → last_from low (stamps (steps_of (xs ++ one ∷ []))) ≡ one.step.stamp
-last_from-push low [] one = refl
-last_from-push low (x ∷ xs) one = last_from-push x.step.stamp xs one
-
-pub last_stamp-push : (xs : List Made) (one : Made) → last_stamp (xs ++ one ∷ []) ≡ one.step.stamp
-last_stamp-push = last_from-push 0
-
-pub rises-push : (low : ℕ) (xs : List ℕ) (x : ℕ) → RisesFrom low xs → last_from low xs < x → RisesFrom low (xs ++ x ∷ [])
-rises-push low [] x r h = (h, tt)
-rises-push low (y ∷ xs) x r h = (r.0, rises-push y xs x r.1 h)

@@ -1,16 +1,13 @@
 -- Folders that are opened and handed back, one after another.
 use Rattle.std.proofs.Common.{◌≡◌, ℕ, ◌+◌, Option, None, Some, List, [], ◌∷◌, ◌++◌, map, length, refl, ap, sym, subst, ◌∙◌, append_assoc, arith}
-use Rattle.outside.specs.Folder.{Files, Keeps}
+use Rattle.outside.specs.Folder.{Files}
 use Rattle.outside.specs.Faults.{Rose}
 use Rattle.host_core.specs.declared.opening.StartFault.{StartFault}
 use Rattle.host_core.specs.declared.opening.StartFault.TheVariants as fault
 use Rattle.host_core.specs.Opening.{IsTooLarge, IfTooLarge}
 use Rattle.host_core.specs.Value.{Book}
+use Rattle.host_core.proofs.Decisions.{keeps_self}
 use Rattle.host_table.specs.Start.{start_of, AreNew, IsHanded, AreHanded, HaveOpenings, Blames, IsBlamed, IsBegun, AreBegun}
-
-pub keeps_self : (files : Option Files) → Keeps files files
-keeps_self None = tt
-keeps_self (Some files) = λ name. refl
 
 module _ {F : Type 0} (files : F → Option Files) (faults : F → ℕ) where
   pub handed_push : (olds news : List F) (old new : F) → AreHanded files faults olds news → IsHanded files faults old new → AreHanded files faults (olds ++ old ∷ []) (news ++ new ∷ [])

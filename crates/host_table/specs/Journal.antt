@@ -2,7 +2,7 @@
 use Rattle.std.specs.Prelude.{◌≡◌, ⊤, ℕ, ◌+◌, ◌*◌, ◌==◌, Option, None, Some, List, [], ◌∷◌, ◌++◌, filter, slice_get}
 use Rattle.std.specs.List.{AllByRecursion}
 use Rattle.wopi_model.specs.Shard.{Opening}
-use Rattle.wopi_model.specs.Host.{place_of}
+use Rattle.wopi_model.specs.Host.{shard_of_entry}
 use Rattle.host_core.specs.Entries.{Made}
 use Rattle.host_core.specs.Value.{Left}
 use Rattle.host_table.specs.declared.journal.Spot.{Spot}
@@ -64,4 +64,4 @@ module _ {F : Type 0} where
   -- each shard's entries are those of the merge that stand in it
   abbrev pub AreParts : List Made → ℕ → List (Left F) → Type 0
   AreParts merge shard [] = ⊤
-  AreParts merge shard (part ∷ parts) = (part.made ≡ filter (λ one. place_of one.step == shard) merge) × AreParts merge (shard + 1) parts
+  AreParts merge shard (part ∷ parts) = (part.made ≡ filter (λ one. shard_of_entry one.step == shard) merge) × AreParts merge (shard + 1) parts

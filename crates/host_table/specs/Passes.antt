@@ -2,7 +2,7 @@
 use Rattle.std.specs.Prelude.{◌≤◌, ◌≡◌, ⊤, ℕ, ◌+◌, ◌-◌, ◌/◌, max, ltb, false, List, [], ◌∷◌, ◌++◌, length, map, Option, None, Some, slice_get, if◌then◌else◌}
 use Rattle.std.specs.List.{AllByRecursion}
 use Rattle.atomic_table.specs.Seated.{TableId}
-use Rattle.turn_lock.specs.Seats.{Seated}
+use Rattle.turn_lock.specs.Seats.{SeatValue}
 use Rattle.wopi_text.specs.FileName.{shard_of}
 use Rattle.wopi_model.specs.Shard.{Opening, Item, Entry, RisesFrom}
 use Rattle.host_core.specs.Opening.{IsTaken}
@@ -14,7 +14,7 @@ use Rattle.host_table.specs.Histories.{last_stamp, AreNamed, IsSeen}
 
 -- A seat at a shard's lock. Its base is the shard as it was opened.
 abbrev pub Place : Type 0 → Type 0
-Place F = Seated Made (Book F)
+Place F = SeatValue Made (Book F)
 
 -- the pass's number, its last stamp, its weight, when its host opened, the capacity of a shard, and its seats by shard
 pub record PassView (F : Type 0) : Type 0 where

@@ -9,7 +9,7 @@ use Rattle.turn_lock.specs.declared.view.Stage.{Stage}
 use Rattle.turn_lock.specs.declared.view.Stage.TheVariants.{Free, Waiting, Turn, Joining}
 
 -- the lock, the list that was seen, the places that are the seat's own, its weight, the lock's base and, while the seat holds the turn, the list that was taken
-pub record Seated (E B : Type 0) : Type 0 where
+pub record SeatValue (E B : Type 0) : Type 0 where
   pub lock : TableId
   pub seen : List E
   pub own : List ℕ
@@ -18,7 +18,7 @@ pub record Seated (E B : Type 0) : Type 0 where
   pub taken : Option (List E)
 
 -- a lock's first seat has seen nothing and has all of the weight
-abbrev pub first_seat : {E B : Type 0} → TableId → B → Seated E B
+abbrev pub first_seat : {E B : Type 0} → TableId → B → SeatValue E B
 first_seat lock base = record { lock = lock; seen = []; own = []; weight = whole_weight; base = Some base; taken = None }
 
 -- the places that a list has behind those of the list that was taken
@@ -40,7 +40,7 @@ Rests count carried (Turn t taken) = (carried ≡ (0, None) ∷ []) × (count �
 Rests count carried (Joining xs ys) = ⊥
 
 module _ {T E B : Type 0} where
-  abbrev pub seated : Seat (Option T) (View E B) → Seated E B
+  abbrev pub seated : Seat (Option T) (View E B) → SeatValue E B
   seated p = record { lock = p.table_id; seen = p.me.0.seen; own = p.me.0.own; weight = p.me.0.weight; base = p.me.0.base; taken = taken_of p.me.0.stage }
 
   -- what each seat keeps between two calls

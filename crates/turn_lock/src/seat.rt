@@ -22,9 +22,9 @@ pub struct Seat<V: Grown> {
 }
 
 impl<V: Grown> Model for Seat<V> {
-    ghost use Rattle.turn_lock.specs.Seats.{Seated, seated, IsSeated};
+    ghost use Rattle.turn_lock.specs.Seats.{SeatValue, seated, IsSeated};
 
-    ghost Value = { Seated V.Entry V.Base };
+    ghost Value = { SeatValue V.Entry V.Base };
 
     ghost view = { λ s. seated s.place };
 

@@ -8,12 +8,12 @@ use Rattle.wopi_model.specs.declared.calls.Call.{Call}
 use Rattle.wopi_model.specs.Step.{Accept, decision}
 use Rattle.wopi_model.specs.Shard.{Opening, Item, Step, Entry, Legal, RisesFrom, last_from, entries, stamps, opened_shard, at_moment, after}
 
-abbrev pub place_of : Entry → ℕ
-place_of entry = shard_of entry.call.name
+abbrev pub shard_of_entry : Entry → ℕ
+shard_of_entry entry = shard_of entry.call.name
 
 -- by stamp, and at one stamp by shard
 abbrev pub ComesBefore : Entry → Entry → Type 0
-ComesBefore first second = (first.stamp < second.stamp) ⊎ ((first.stamp ≡ second.stamp) × (place_of first < place_of second))
+ComesBefore first second = (first.stamp < second.stamp) ⊎ ((first.stamp ≡ second.stamp) × (shard_of_entry first < shard_of_entry second))
 
 abbrev pub IsInOrder : List Entry → Type 0
 IsInOrder [] = ⊤
@@ -21,7 +21,7 @@ IsInOrder (entry ∷ merge) = AllByRecursion (ComesBefore entry) merge × IsInOr
 
 -- the history of one shard, out of all entries
 abbrev pub part_of : ℕ → List Entry → List Item
-part_of shard merge = map Step (filter (λ entry. place_of entry == shard) merge)
+part_of shard merge = map Step (filter (λ entry. shard_of_entry entry == shard) merge)
 
 abbrev pub opening_of : ℕ → Opening → Opening
 opening_of shard opening = filter (λ file. shard_of file.0 == shard) opening

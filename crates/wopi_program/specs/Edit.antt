@@ -1,12 +1,12 @@
 -- What a run of `edit` promises. (Own.)
 use Rattle.std.specs.Prelude.{◌≡◌, ◌<◌, ◌⊎◌, ℕ, Bool, true, false, ◌==◌, ◌||◌, List, [], ◌++◌, length, Option, None, Result, Ok, Err, codes, decimal}
 use Rattle.std.specs.Io.KnownBytes.{Appends, IsAtEnd}
-use Rattle.outside.specs.Faults.{Rose}
+use Rattle.outside.specs.Faults.{Rose, RoseBy}
 use Rattle.outside.specs.declared.dialer.Exchange.{Exchange}
 use Rattle.save_session.specs.declared.output.Outcome.TheVariants as outcome
 use Rattle.save_session.specs.Session.{new_session}
 use Rattle.save_session.specs.Views.{nonce_of, state_of}
-use Rattle.wopi_client.specs.Talk.{Grew, RoseBy, lost_in}
+use Rattle.wopi_client.specs.Talk.{Grew, lost_in}
 use Rattle.grid_editor.specs.declared.command.Command as script
 use Rattle.grid_editor.specs.declared.editor.Editor.{Editor}
 use Rattle.grid_editor.specs.declared.turns.EditFault.{EditFault}
@@ -61,7 +61,7 @@ pub record HasRun (first : Editor) (commands : List script.Command) (status : �
   pub runs : Runs first commands last result written sent
   pub output : Tells held held' status (status_of result) written (last_line result)
   pub exchanges : Grew told told' sent
-  pub lost : RoseBy (lost_in sent) faults faults'
+  pub lost : RoseBy faults (lost_in sent) faults'
 
 -- the words of an `edit`
 pub record EditRow : Type 0 where

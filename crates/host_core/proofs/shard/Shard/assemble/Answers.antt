@@ -1,10 +1,11 @@
 use Rattle.std.proofs.Common.{◌≡◌, ℕ, List, Option, length, refl, sym, ap, subst, arith}
+use Rattle.outside.specs.Faults.{RoseBy}
 use Rattle.file_versions.specs.Versions.{kept_in}
 use Rattle.host_core.specs.Archive.{IsArchive}
 use Rattle.host_core.specs.Entries.{Made}
 use Rattle.host_core.specs.Files.{files_of, torn_in}
 use Rattle.host_core.specs.ShardView.{opening_of}
-use Rattle.host_core.specs.Value.{Reflects, Agrees, RoseBy, faults_in}
+use Rattle.host_core.specs.Value.{Reflects, Agrees, faults_in}
 use Rattle.host_core.specs.Times.{GoesByEntries}
 use Rattle.host_core.proofs.History.{keeps-start}
 use Rattle.host_core.proofs.Standing.{rose-begin, lawful}
