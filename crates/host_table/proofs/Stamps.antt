@@ -56,4 +56,3 @@ steps-long (one ∷ made) = ap suc (steps-long made)
 pub steps-append : (xs ys : List Made) → steps_of (xs ++ ys) ≡ steps_of xs ++ steps_of ys
 steps-append [] ys = refl
 steps-append (x ∷ xs) ys = ap (λ (es : List Entry). x.step ∷ es) (steps-append xs ys)
-
