@@ -19,7 +19,7 @@ use Rattle.grid_editor.specs.declared.turns.Went.{Went}
 use Rattle.grid_editor.specs.declared.turns.Went.TheVariants.{On, Ended}
 use Rattle.grid_editor.specs.Sheets.{Edited, IsEdited, IsUndone, after_edit}
 use Rattle.grid_editor.specs.Turns.{Does, Done, IsTold, edits, sheet_after, tells, undoes, writes}
-use Rattle.grid_editor.specs.Runs.{Commands, Runs, Writes, over, goes_on, ends}
+use Rattle.grid_editor.specs.Runs.{Commands, Runs, StaysAt, Writes, over, goes_on, ends}
 
 -- ---- exchanges
 
@@ -92,11 +92,11 @@ pub leads_start : (start : Editor) (all : List Command) → Leads start all star
 leads_start start all = λ new result second more runs. runs
 
 pub leads_on : (start now next : Editor) (all rest later : List Command) (asked : Command) (written first : List ℕ) (sent more : List Exchange)
-    → rest ≡ asked ∷ later → Leads start all now rest written sent → Commands now asked next (Ok On) first more
+    → rest ≡ asked ∷ later → StaysAt now next → Leads start all now rest written sent → Commands now asked next (Ok On) first more
     → Leads start all next later (written ++ first) (sent ++ more)
-leads_on start now next all rest later asked written first sent more is leads does = λ new result second others runs.
+leads_on start now next all rest later asked written first sent more is stays leads does = λ new result second others runs.
     let whole : Runs now rest new result (first ++ second) (more ++ others) =
-    subst (λ l. Runs now l new result (first ++ second) (more ++ others)) (sym is) (goes_on now next new asked later result first second more others does runs) in
+    subst (λ l. Runs now l new result (first ++ second) (more ++ others)) (sym is) (goes_on now next new asked later result first second more others does stays runs) in
     let all_runs = leads new result (first ++ second) (more ++ others) whole in
     subst (λ x. Runs start all new result x ((sent ++ more) ++ others)) (sym (append_assoc written first second))
     (subst (λ x. Runs start all new result (written ++ (first ++ second)) x) (sym (append_assoc sent more others)) all_runs)
@@ -108,10 +108,10 @@ leads_over start now all rest written sent none leads =
     subst (λ x. Runs start all now (Ok On) x sent) (append-nil written) (subst (λ x. Runs start all now (Ok On) (written ++ []) x) (append-nil sent) (leads now (Ok On) [] [] last))
 
 pub leads_end : (start now new : Editor) (all rest later : List Command) (asked : Command) (result : Result Went EditFault) (written first : List ℕ) (sent more : List Exchange)
-    → rest ≡ asked ∷ later → Leads start all now rest written sent → Commands now asked new result first more → result ≢ Ok On
+    → rest ≡ asked ∷ later → StaysAt now new → Leads start all now rest written sent → Commands now asked new result first more → result ≢ Ok On
     → Runs start all new result (written ++ first) (sent ++ more)
-leads_end start now new all rest later asked result written first sent more is leads does other =
-    leads new result first more (subst (λ l. Runs now l new result first more) (sym is) (ends now new asked later result first more does other))
+leads_end start now new all rest later asked result written first sent more is stays leads does other =
+    leads new result first more (subst (λ l. Runs now l new result first more) (sym is) (ends now new asked later result first more does stays other))
 
 -- ---- a command
 
@@ -155,10 +155,10 @@ run_starts a t f start all = record {
 }
 
 pub run_on : (a b c : Option (List ℕ)) (t u v : Option (List Exchange)) (f g h : ℕ) (start now next : Editor) (all rest later : List Command) (asked : Command) → rest ≡ asked ∷ later
-    → Writes a b t u f g (Leads start all now rest) → Writes b c u v g h (Commands now asked next (Ok On)) → Writes a c t v f h (Leads start all next later)
-run_on a b c t u v f g h start now next all rest later asked is so does =
+    → StaysAt now next → Writes a b t u f g (Leads start all now rest) → Writes b c u v g h (Commands now asked next (Ok On)) → Writes a c t v f h (Leads start all next later)
+run_on a b c t u v f g h start now next all rest later asked is stays so does =
     writes_then a b c t u v f g h (Leads start all now rest) (Commands now asked next (Ok On)) (Leads start all next later) so does
-    (λ first second sent more leads commands. leads_on start now next all rest later asked first second sent more is leads commands)
+    (λ first second sent more leads commands. leads_on start now next all rest later asked first second sent more is stays leads commands)
 
 pub run_over : (a b : Option (List ℕ)) (t u : Option (List Exchange)) (f g : ℕ) (start now : Editor) (all rest : List Command) → rest ≡ []
     → Writes a b t u f g (Leads start all now rest) → Writes a b t u f g (Runs start all now (Ok On))
@@ -169,10 +169,13 @@ run_over a b t u f g start now all rest none so = record {
 }
 
 pub run_ends : (a b c : Option (List ℕ)) (t u v : Option (List Exchange)) (f g h : ℕ) (start now new : Editor) (all rest later : List Command) (asked : Command) (result : Result Went EditFault)
-    → rest ≡ asked ∷ later → result ≢ Ok On → Writes a b t u f g (Leads start all now rest) → Writes b c u v g h (Commands now asked new result) → Writes a c t v f h (Runs start all new result)
-run_ends a b c t u v f g h start now new all rest later asked result is other so does =
+    → rest ≡ asked ∷ later → StaysAt now new → result ≢ Ok On → Writes a b t u f g (Leads start all now rest) → Writes b c u v g h (Commands now asked new result) → Writes a c t v f h (Runs start all new result)
+run_ends a b c t u v f g h start now new all rest later asked result is stays other so does =
     writes_then a b c t u v f g h (Leads start all now rest) (Commands now asked new result) (Runs start all new result) so does
-    (λ first second sent more leads commands. leads_end start now new all rest later asked result first second sent more is leads commands other)
+    (λ first second sent more leads commands. leads_end start now new all rest later asked result first second sent more is stays leads commands other)
+
+pub stays-trans : (a b c : Editor) → StaysAt a b → StaysAt b c → StaysAt a c
+stays-trans a b c p q = record { desktop = q.desktop ∙ p.desktop; nonce = q.nonce ∙ p.nonce }
 
 -- the next command
 pub next_is : (script items : List Command) (i : ℕ) (asked : Command) → items ≡ script → i < length items → asked ≡ get_or items i asked → drop i script ≡ asked ∷ drop (i + 1) script

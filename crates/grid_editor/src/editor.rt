@@ -76,6 +76,8 @@ impl Editor {
         sink: &mut K,
         script: &Script,
     ) -> Result<Went, EditFault>
+        ensures desktop { self.new.desktop ≡ self.old.desktop }
+        ensures nonce { nonce_of self.new.session ≡ nonce_of self.old.session }
         ensures runs { Writes (K.held sink.old) (K.held sink.new) (D.exchanges dialer.old) (D.exchanges dialer.new) (D.faults dialer.old) (D.faults dialer.new)
             (Runs self.old script.now self.new result) }
         ensures never_falls { D.faults dialer.old ≤ D.faults dialer.new }

@@ -24,8 +24,8 @@ pub enum InputFault {
     Memory,
 }
 
-/// The script that all the bytes of an input are. It is read to its end, or to its first bad line
-/// and what came with it in one piece: no more of an input without an end is read than that.
+/// The script that all the bytes of an input are. It is read to its end, or to the piece in which
+/// its first bad line shows; that no more is read than that piece is meant, and in no clause.
 pub fn read_script<S: Source>(alloc: Global, source: &mut S) -> Result<Script, InputFault>
     ensures read { IsInputRead (S.left source.old) result }
     ensures whole { OnOk result (IsAtEnd (S.left source.new)) }

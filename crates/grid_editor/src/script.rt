@@ -1,5 +1,5 @@
 //! Scripts, read from a text.
-ghost use Rattle.std.specs.Prelude.{◌≡◌, ◌↔◌, IsTrue, ◌+◌, ◌≤◌, ◌++◌, ◌∷◌, [], ℕ, List, Ok, OnOk, IfErr, length, slice_get, option_copied};
+ghost use Rattle.std.specs.Prelude.{◌≡◌, ◌↔◌, IsTrue, ◌+◌, ◌≤◌, ◌++◌, ◌∷◌, [], ℕ, List, Ok, OnOk, OnErr, IfErr, length, slice_get, option_copied};
 ghost use Rattle.grid_editor.specs.Commands.{IsIdle};
 ghost use Rattle.grid_editor.specs.Scripts.{IsRead, most_lines};
 ghost use Rattle.grid_editor.specs.declared.script.ScriptFault.TheVariants.{BadCommand};
@@ -79,9 +79,10 @@ impl Script {
         self.commands.get(place)
     }
 
-    /// Adds a command at the end.
+    /// Adds a command at the end. An `Err` changes nothing.
     pub fn push(&mut self, command: Command) -> Result<(), Memory>
-        ensures { OnOk result (self.new ≡ self.old ++ command ∷ []) }
+        ensures ok { OnOk result (self.new ≡ self.old ++ command ∷ []) }
+        ensures err { OnErr result (self.new ≡ self.old) }
     {
         self.commands.push(command)?;
         Ok(())

@@ -137,3 +137,16 @@ fn a_line_ends_at_20_000_bytes(rt: HostRuntime) -> Result<(), Fail> {
     comment.resize(MOST_BYTES + 1, b'x')?;
     expect_bad(&rt, rt.alloc(), &comment, 1)
 }
+
+#[test]
+fn a_script_can_be_made_command_by_command(rt: HostRuntime) -> Result<(), Fail> {
+    let mut script = Script::new(rt.alloc());
+    assert_eq!(rt; script.len(), 0);
+    script.push(Command::Show)?;
+    script.push(Command::Close)?;
+    assert_eq!(rt; script.len(), 2);
+    assert!(rt; matches!(script.get(0), Some(Command::Show)));
+    assert!(rt; matches!(script.get(1), Some(Command::Close)));
+    assert!(rt; script.get(2).is_none());
+    Ok(())
+}
