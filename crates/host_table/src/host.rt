@@ -10,11 +10,12 @@ ghost use Rattle.host_table.specs.Start.{first_seats, first_pass, AreHanded, IsB
 ghost use Rattle.host_table.specs.Close.{IsWhole, Ends};
 ghost use Rattle.host_table.specs.Calls.{Calls, Looks};
 
-use crate::closing::{Room, end_host};
+use crate::closing::end_host;
 use crate::held::Held;
 use crate::journal::Journal;
 use crate::opening::{hand_back, lock_all, open_all};
 use crate::pass::Pass;
+use crate::rooms::{CloseRoom, SplitRoom};
 use crate::rows::split_all;
 use crate::whole::{are_numbered, weigh_whole};
 use host_core::{CallFault, Receipt, StartFault};
@@ -180,22 +181,36 @@ impl<F: Folder> Host<F> {
         ensures memory { OnErr result ((pass.new ≡ pass.old) × (self.new ≡ self.old)) }
         ensures of_host { IsPassOf self.new pass.new × IfOk result (IsPassOf self.new) }
     {
-        let Ok(mut seats) = Vec::with_capacity(self.alloc, SHARDS) else {
-            return Err(Memory);
-        };
+        match SplitRoom::new(self.alloc) {
+            Err(Memory) => return Err(Memory),
+            Ok(room) => return Ok(self.split_into(rt, pass, room)),
+        }
+    }
+
+    /// The same in room that was taken ahead, so that it wants no memory.
+    pub fn split_into<R: Wait>(&mut self, rt: &R, pass: &mut Pass<F>, room: SplitRoom<F>) -> Pass<F>
+        requires of_host { IsPassOf self.old pass.old }
+        requires weight { 2 ≤ pass.old.weight }
+        requires made { self.old.made < 4294967295 }
+        ensures given { result ≡ given_pass self.old.made pass.old }
+        ensures kept { pass.new ≡ kept_pass pass.old }
+        ensures made { self.new ≡ record self.old { made = self.old.made + 1 } }
+        ensures of_host { IsPassOf self.new pass.new × IsPassOf self.new result }
+    {
+        let mut seats = room.seats;
         let half = pass.weight / 2;
         split_all(rt, &self.locks, &mut pass.seats, &mut seats);
         pass.weight -= half;
         let number = self.made;
         self.made += 1;
-        Ok(Pass {
+        Pass {
             number,
             last: pass.last,
             weight: half,
             opened: pass.opened,
             capacity: pass.capacity,
             seats,
-        })
+        }
     }
 
     /// One step of the call's shard at a moment, in milliseconds, in a turn that the pass waits for. The entry's
@@ -247,9 +262,19 @@ impl<F: Folder> Host<F> {
         ensures ends { IfOk result (λ ended. Ends F.files F.faults self passes.items ended.0 ended.1.items) }
         ensures memory { IfErr result (λ fault. fault ≡ CloseFault.Memory self passes) }
     {
-        match Room::new(self.alloc, self.capacity) {
-            Err(_) => return Err(CloseFault::Memory(self, passes)),
-            Ok(room) => return Ok(end_host(self, passes, room)),
+        match CloseRoom::new(self.alloc, self.capacity) {
+            Err(Memory) => return Err(CloseFault::Memory(self, passes)),
+            Ok(room) => return Ok(self.close_into(passes, room)),
         }
+    }
+
+    /// The same in room that was taken ahead, so that it wants no memory.
+    pub fn close_into(self, passes: Vec<Pass<F>>, room: CloseRoom<F>) -> (Journal<F>, Vec<F>)
+        requires of_host { AllByRecursion (IsPassOf self) passes.items }
+        requires whole { IsWhole self.made passes.items }
+        requires room { self.capacity ≤ room.capacity }
+        ensures { Ends F.files F.faults self passes.items result.0 result.1.items }
+    {
+        end_host(self, passes, room.room)
     }
 }

@@ -2,7 +2,7 @@ use Rattle.std.proofs.Common.{◌≡◌, ◌+◌, ◌-◌, ◌/◌, ◌≤◌, s
 use Rattle.host_table.specs.Views.{pass_of, host_of}
 use Rattle.host_table.specs.Passes.{Place, PassView, HostView, IsPass, IsPassOf}
 use Rattle.host_table.proofs.Splitting.{can_split, pass_given, pass_kept, given_of, kept_of}
-use Rattle.host_table.proofs.host.Host.split.Goals as goal
+use Rattle.host_table.proofs.host.Host.split_into.Goals as goal
 
 pub split_all-requires-clause-free : goal.split_all-requires-clause-free
 split_all-requires-clause-free g c =

@@ -1,0 +1,48 @@
+//! Memory that is taken ahead, so that what uses it wants none.
+ghost use Rattle.std.specs.Prelude.{◌≡◌, ◌*◌, ◌≤◌, [], IfOk, vec_capacity};
+
+use crate::closing::Room;
+use crate::held::Held;
+use crate::host::SHARDS;
+use outside::Folder;
+use std::alloc::Global;
+use turn_lock::Seat;
+use wopi_text::Memory;
+
+/// The memory that splitting a pass takes.
+#[derive(Drop)]
+pub struct SplitRoom<F: Folder> {
+    pub(crate) seats: Vec<Seat<Held<F>>>,
+    ghost none: { seats.items ≡ [] },
+    ghost wide: { 16 ≤ vec_capacity seats },
+}
+
+impl<F: Folder> SplitRoom<F> {
+    /// Room for one pass.
+    pub fn new(alloc: Global) -> Result<SplitRoom<F>, Memory> {
+        let seats = Vec::with_capacity(alloc, SHARDS)?;
+        Ok(SplitRoom { seats })
+    }
+}
+
+/// The memory that ending a host takes.
+#[derive(Drop)]
+pub struct CloseRoom<F: Folder> {
+    /// The most entries of a shard.
+    pub capacity: u32,
+    pub(crate) room: Room<F>,
+    ghost shards: { (room.shards.items ≡ []) × (16 ≤ vec_capacity room.shards) },
+    ghost folders: { (room.folders.items ≡ []) × (16 ≤ vec_capacity room.folders) },
+    ghost pasts: { (room.pasts.items ≡ []) × (16 ≤ vec_capacity room.pasts) },
+    ghost spots: { (room.spots.items ≡ []) × (16 * capacity ≤ vec_capacity room.spots) },
+}
+
+impl<F: Folder> CloseRoom<F> {
+    /// Room for a host whose shards have that capacity.
+    pub fn new(alloc: Global, capacity: u32) -> Result<CloseRoom<F>, Memory>
+        ensures { IfOk result (λ room. room.capacity ≡ capacity) }
+    {
+        let room = Room::new(alloc, capacity)?;
+        Ok(CloseRoom { capacity, room })
+    }
+}
