@@ -22,7 +22,7 @@ use Rattle.host_table.specs.Passes.{Place, PassView, HostView, Own, stamp_of, ow
 use Rattle.host_table.specs.Rows.{CanClose, AreEnds}
 use Rattle.host_table.specs.Journal.{order_of, all_spots, merge_of, AreFound, openings, AreParts}
 use Rattle.host_table.specs.Close.{number_of, capacity_of, AreFree, IsWhole, IsBasedOn, IsJoinOf, AreSeen, AreTaken, IsEnded, AreEnded, Ends}
-use Rattle.host_core.proofs.Timing.{entries-history, legal-untimed}
+use Rattle.host_core.proofs.Timing.{entries-history}
 use Rattle.host_table.proofs.Stamps.{prefix_get, get_inside}
 use Rattle.host_table.proofs.Owned.{has_own}
 use Rattle.host_table.proofs.Order.{Has, all_at, all_of, has_filter, filter_has, filter_none, has_map, map_has, filter_map_is, AreOrdered, ordered_filter, one_order, rises_ordered}

@@ -1,5 +1,5 @@
 -- Folders that are opened and handed back, one after another.
-use Rattle.std.proofs.Common.{◌≡◌, ℕ, ◌+◌, Option, None, Some, List, [], ◌∷◌, ◌++◌, map, length, refl, ap, sym, subst, ◌∙◌, append_assoc, arith}
+use Rattle.std.proofs.Common.{◌≡◌, ℕ, ◌+◌, Option, Some, List, [], ◌∷◌, ◌++◌, map, length, refl, ap, sym, subst, ◌∙◌, append_assoc, arith}
 use Rattle.outside.specs.Folder.{Files}
 use Rattle.outside.specs.Faults.{Rose}
 use Rattle.host_core.specs.declared.opening.StartFault.{StartFault}

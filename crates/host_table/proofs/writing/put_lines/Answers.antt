@@ -1,8 +1,7 @@
-use Rattle.std.proofs.Common.{◌≡◌, ◌++◌, List, ℕ, sym, ap, ◌∙◌, subst, Option}
+use Rattle.std.proofs.Common.{◌++◌, ap, ◌∙◌}
 use Rattle.std.specs.List.{flat_map}
-use Rattle.host_core.specs.Value.{Left}
 use Rattle.host_table.specs.Journal.{JournalView, openings}
-use Rattle.host_table.specs.Text.{first_line, file_line, entry_line, last_line, journal_text}
+use Rattle.host_table.specs.Text.{first_line, file_line, entry_line, last_line}
 use Rattle.host_table.proofs.WritingLemmas.{gathers_then, cut_longer, cut_after}
 use Rattle.host_table.proofs.writing.put_lines.Goals as goal
 
