@@ -12,3 +12,5 @@ pub mod Members
 pub mod Exchanges
 pub mod Sessions
 pub mod Wires
+pub mod Grammar
+pub mod RowKinds

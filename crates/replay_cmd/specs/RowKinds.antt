@@ -1,0 +1,37 @@
+-- The kinds of a schedule's lines, as they are read. (Own.)
+use Rattle.std.specs.Prelude.{⊤, ⊥, ◌≡◌, ℕ, List, ◌∷◌, [], codes, Option, Some, None}
+use Rattle.wopi_headers.specs.declared.ask.Op.{Op}
+use Rattle.wopi_headers.specs.declared.ask.Op.TheVariants as op
+use Rattle.replay_cmd.specs.declared.schedule.Wish.{Wish}
+use Rattle.replay_cmd.specs.declared.schedule.Wish.TheVariants as wish
+use Rattle.replay_cmd.specs.declared.schedule.EventLine.{EventLine}
+use Rattle.replay_cmd.specs.declared.schedule.EventLine.TheVariants as line
+
+-- an event that a line tells by a word and a session
+abbrev pub IsNamed : EventLine → Type 0
+IsNamed (line.Asks s (wish.Save contents)) = ⊥
+IsNamed (line.Asks s wish) = ⊤
+IsNamed (line.Lose s) = ⊤
+IsNamed _ = ⊥
+
+-- an event that a line tells by a word and numbers
+abbrev pub IsTimed : EventLine → Type 0
+IsTimed (line.Deliver request moment) = ⊤
+IsTimed (line.Answer reply) = ⊤
+IsTimed (line.Ticks moment) = ⊤
+IsTimed _ = ⊥
+
+-- the word asks for this operation, with nothing behind the file
+abbrev pub IsBare : List ℕ → Op → Type 0
+IsBare word op.Info = word ≡ codes "info"
+IsBare word (op.Get most) = (most ≡ None) × (word ≡ codes "get")
+IsBare word op.GetLock = word ≡ codes "getlock"
+IsBare word op.Delete = word ≡ codes "delete"
+IsBare word _ = ⊥
+
+-- the word asks for this operation under just that lock
+abbrev pub IsLocked : List ℕ → List ℕ → Op → Type 0
+IsLocked word given (op.Lock id) = (word ≡ codes "lock") × (id ≡ given)
+IsLocked word given (op.Refresh id) = (word ≡ codes "refresh") × (id ≡ given)
+IsLocked word given (op.Unlock id) = (word ≡ codes "unlock") × (id ≡ given)
+IsLocked word given _ = ⊥

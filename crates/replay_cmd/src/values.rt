@@ -1,0 +1,124 @@
+//! What the words of a schedule's lines say.
+ghost use Rattle.std.specs.Prelude.{◌≡◌, ◌≢◌, ◌↔◌, ◌≤◌, All, ℕ, List, ◌∷◌, decimal, Some, Ok, IsTrue, IfOk, IfSome, IfNone, IsSome};
+ghost use Rattle.hex.specs.Hex.{decode_of};
+ghost use Rattle.replay_cmd.specs.Grammar.{IsContents, IsCounted, IsLockWord, IsReference, reference_word};
+ghost use Rattle.replay_cmd.specs.declared.schedule.Reference.{Reference};
+ghost use Rattle.replay_cmd.specs.Trace.{hex_text};
+
+use crate::Reference;
+use hex::FromHexError;
+use std::alloc::Global;
+use wopi_text::{Bytes, LockId, Memory, decimal_read};
+
+/// Twice the most bytes that a word writes.
+const MOST_DIGITS: usize = 16_384;
+
+/// Whether the words are the same.
+pub(crate) fn is_word(word: &[u8], other: &[u8]) -> bool
+    ensures { IsTrue result ↔ (word.now ≡ other.now) }
+{
+    word == other
+}
+
+/// What hex digits of either case write, if they are such digits.
+fn decoded(alloc: Global, word: &[u8]) -> Result<Option<Vec<u8>>, Memory>
+    ensures some { IfOk result (λ read. IfSome read (λ bytes. decode_of word.now ≡ Ok bytes.items)) }
+    ensures none { IfOk result (λ read. IfNone read ((bytes : List ℕ) → decode_of word.now ≢ Ok bytes)) }
+{
+    match hex::decode(alloc, word) {
+        Ok(contents) => Ok(Some(contents)),
+        Err(error) => {
+            if error == FromHexError::OutOfMemory {
+                Err(Memory)
+            } else {
+                Ok(None)
+            }
+        }
+    }
+}
+
+/// The contents that a word writes in lower-case hex, `-` for none.
+pub(crate) fn hex_read(alloc: Global, word: &[u8]) -> Result<Option<Bytes>, Memory>
+    ensures some { IfOk result (λ read. IfSome read (λ contents. IsContents contents × (word.now ≡ hex_text contents))) }
+    ensures none { IfOk result (λ read. IfNone read ((contents : List ℕ) → IsContents contents → word.now ≢ hex_text contents)) }
+{
+    if is_word(word, b"-".as_slice()) {
+        return Ok(Some(Bytes::from_vec(Vec::new(alloc))));
+    }
+    if word.is_empty() {
+        return Ok(None);
+    }
+    if word.len() > MOST_DIGITS {
+        return Ok(None);
+    }
+    let Some(contents) = decoded(alloc, word)? else {
+        return Ok(None);
+    };
+    let text = hex::encode(alloc, contents.as_slice())?;
+    if is_word(text.as_bytes(), word) {
+        Ok(Some(Bytes::from_vec(contents)))
+    } else {
+        Ok(None)
+    }
+}
+
+/// The number from 1 that a word is.
+pub(crate) fn counted_read(word: &[u8]) -> Option<u64>
+    ensures { (n : ℕ) → (result ≡ Some n) ↔ (IsCounted n × (word.now ≡ decimal n)) }
+{
+    let Some(number) = decimal_read(word) else {
+        return None;
+    };
+    if number == 0 {
+        return None;
+    }
+    Some(number)
+}
+
+/// The number from 1 behind a `^`.
+fn last_read(word: &[u8]) -> Option<u64>
+    ensures { (n : ℕ) → (result ≡ Some n) ↔ (IsCounted n × (word.now ≡ 94 ∷ decimal n)) }
+{
+    if word.is_empty() {
+        return None;
+    }
+    if word[0] != b'^' {
+        return None;
+    }
+    counted_read(&word[1..])
+}
+
+/// The number of a request or of a reply that a word is.
+pub(crate) fn reference_read(word: &[u8]) -> Option<Reference>
+    ensures some { IfSome result (λ reference. IsReference reference × (word.now ≡ reference_word reference)) }
+    ensures none { IfNone result ((reference : Reference) → IsReference reference → word.now ≢ reference_word reference) }
+{
+    if let Some(number) = counted_read(word) {
+        return Some(Reference::Number(number));
+    }
+    let Some(number) = last_read(word) else {
+        return None;
+    };
+    Some(Reference::Last(number))
+}
+
+/// Whether the word has visible bytes alone.
+fn is_visible(word: &[u8]) -> bool
+    ensures { IsTrue result ↔ All (λ byte. (33 ≤ byte) × (byte ≤ 126)) word.now }
+{
+    word.iter().all(|byte| (b'!'..=b'~').contains(byte))
+}
+
+/// The lock id that a word is: visible bytes, and not just a dash.
+pub(crate) fn lock_read(word: &[u8]) -> Option<LockId>
+    ensures exact { IsSome result ↔ IsLockWord word.now }
+    ensures value { IfSome result (λ id. id ≡ word.now) }
+{
+    if is_word(word, b"-".as_slice()) {
+        return None;
+    }
+    if !is_visible(word) {
+        return None;
+    }
+    LockId::read(word)
+}
