@@ -14,3 +14,13 @@ pub mod FirstWorld
 pub mod WorkedRows
 pub mod Generated
 mod CarriedLemmas
+mod Splits
+mod Endings
+mod WordValues
+mod RowForms
+mod Growing
+mod SameRows
+mod LastRow
+mod ReadSteps
+mod FittingLines
+mod OneReading

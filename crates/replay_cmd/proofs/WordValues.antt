@@ -1,5 +1,5 @@
 -- What the words of a line say.
-use Rattle.std.proofs.Common.{All, ◌≡◌, ◌≢◌, ◌↔◌, ◌==◌, ℕ, Bool, true, ◌<◌, ◌≤◌, ◌-◌, ◌*◌, List, [], ◌∷◌, length, get_or, drop, Ok, Option, None, Some, IsSome, refl, sym, ap, ◌∙◌, subst, arith}
+use Rattle.std.proofs.Common.{All, ◌≡◌, ◌≢◌, ◌↔◌, ◌==◌, ℕ, Bool, true, ◌<◌, ◌≤◌, ◌+◌, ◌-◌, List, [], ◌∷◌, length, get_or, drop, Ok, Option, None, Some, IsSome, refl, sym, ap, ◌∙◌, subst, arith}
 use Rattle.std.specs.Prelude.{codes, slice_index, decimal}
 use Rattle.std.proofs.lemmas.Bool.{eqb-true}
 use Rattle.hex.specs.Hex.{decode_of, encode_lower, lower_digits}
@@ -90,3 +90,20 @@ lock_word_is id no_dash visible = (
     last = λ is. let some = word.some in let seen = visible (length id - 1) 0 (omega (arith, some)) in absurd (omega (arith, is, seen.0));
   },
 )
+
+-- a session is named by its number from 1
+pub place_found : (word : List ℕ) (number : ℕ) (o : Option ℕ) → o ≡ Some number → ((n : ℕ) → (o ≡ Some n) ↔ (IsCounted n × (word ≡ decimal n)))
+    → (s : ℕ) → (Some (number - 1) ≡ Some s) ↔ (IsCounted (s + 1) × (word ≡ decimal (s + 1)))
+place_found word number o is each s =
+    let own = (each number).0 is in
+    let some = own.0.counted in (
+      λ e.
+          let less : number - 1 ≡ s = cc e in
+          let same : number ≡ s + 1 = omega (arith, less, some) in
+          subst (λ (n : ℕ). IsCounted n × (word ≡ decimal n)) same own,
+      λ form.
+          let both : Some number ≡ Some (s + 1) = sym is ∙ (each (s + 1)).1 form in
+          let same : number ≡ s + 1 = cc both in
+          let less : number - 1 ≡ s = omega (arith, same) in
+          ap (λ n. Some n) less,
+    )

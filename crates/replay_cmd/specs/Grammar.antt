@@ -1,5 +1,5 @@
 -- How a schedule is written: each line has one spelling. (Own.)
-use Rattle.std.specs.Prelude.{◌≡◌, All, ⊤, ⊥, ℕ, ◌+◌, ◌-◌, ◌<◌, ◌≤◌, ◌^◌, Bool, false, not, List, [], ◌∷◌, ◌++◌, length, filter, take, codes, decimal, Option, None, Some, ◌==◌, if◌then◌else◌}
+use Rattle.std.specs.Prelude.{◌≡◌, All, ⊤, ℕ, ◌+◌, ◌-◌, ◌<◌, ◌≤◌, ◌^◌, Bool, false, not, List, [], ◌∷◌, ◌++◌, length, filter, take, codes, decimal, Option, None, Some, ◌==◌, if◌then◌else◌}
 use Rattle.std.specs.List.{AllByRecursion, slice_split}
 use Rattle.hex.specs.Hex.{IsBytes}
 use Rattle.wopi_text.specs.Ids.{id_of}

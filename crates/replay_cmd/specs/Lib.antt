@@ -14,3 +14,4 @@ pub mod Sessions
 pub mod Wires
 pub mod Grammar
 pub mod RowKinds
+pub mod Readings

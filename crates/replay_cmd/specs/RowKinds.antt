@@ -1,5 +1,5 @@
 -- The kinds of a schedule's lines, as they are read. (Own.)
-use Rattle.std.specs.Prelude.{⊤, ⊥, ◌≡◌, ℕ, List, ◌∷◌, [], codes, Option, Some, None}
+use Rattle.std.specs.Prelude.{⊤, ◌≡◌, ℕ, List, ◌∷◌, [], codes, Option, Some, None}
 use Rattle.wopi_headers.specs.declared.ask.Op.{Op}
 use Rattle.wopi_headers.specs.declared.ask.Op.TheVariants as op
 use Rattle.replay_cmd.specs.declared.schedule.Wish.{Wish}
@@ -35,3 +35,28 @@ IsLocked word given (op.Lock id) = (word ≡ codes "lock") × (id ≡ given)
 IsLocked word given (op.Refresh id) = (word ≡ codes "refresh") × (id ≡ given)
 IsLocked word given (op.Unlock id) = (word ≡ codes "unlock") × (id ≡ given)
 IsLocked word given _ = ⊥
+
+abbrev pub IsBareOp : Op → Type 0
+IsBareOp op.Info = ⊤
+IsBareOp (op.Get most) = ⊤
+IsBareOp op.GetLock = ⊤
+IsBareOp op.Delete = ⊤
+IsBareOp _ = ⊥
+
+abbrev pub IsLockedOp : Op → Type 0
+IsLockedOp (op.Lock id) = ⊤
+IsLockedOp (op.Refresh id) = ⊤
+IsLockedOp (op.Unlock id) = ⊤
+IsLockedOp _ = ⊥
+
+abbrev pub IsPut : Op → Type 0
+IsPut (op.Put lock) = ⊤
+IsPut _ = ⊥
+
+abbrev pub IsRelock : Op → Type 0
+IsRelock (op.Relock old id) = ⊤
+IsRelock _ = ⊥
+
+abbrev pub IsCopy : Op → Type 0
+IsCopy (op.PutRelative target) = ⊤
+IsCopy _ = ⊥

@@ -1,31 +1,41 @@
 //! Runs of schedules: some sessions, a host over files in memory, and what happens between them.
 //!
 //! A [`Schedule`] has the files and the sessions at the opening, and the events in their order;
-//! [`generate`] makes a large one from two numbers. [`World::run`] runs it. Each request goes to the
-//! host as the bytes that a client writes, and the host's reader takes it from them; each reply that
-//! a session takes goes back as bytes in the same way. Between the two ends lies a [`Wire`]. Over one
-//! that gives back what it is given, the run shows the world of wopi_world to which the schedule
-//! leads, and that world is safe.
+//! [`Schedule::read`] reads one from a text, or names the first bad line, and [`generate`] makes a
+//! large one from two numbers. [`World::run`] runs it. Each request goes to the host as the bytes
+//! that a client writes, and the host's reader takes it from them; each reply that a session takes
+//! goes back as bytes in the same way. Between the two ends lies a [`Wire`]. Over one that gives back
+//! what it is given, the run shows the world of wopi_world to which the schedule leads, and that
+//! world is safe.
 //!
-//! No command uses this crate yet: no text is read as a schedule, and nothing is written of a run.
+//! No command uses this crate yet, and nothing is written of a run.
 #![tactic(auto)]
 
 mod acting;
 mod carrying;
 mod delivering;
 mod drawing;
+mod event_rows;
 mod exchanging;
+mod fitting;
 mod foreign;
+mod foreign_rows;
 mod generating;
 mod history;
 mod lookups;
 mod member;
+mod one_line;
+mod opening_rows;
+mod reading;
+mod reading_laws;
 mod replies;
 mod running;
 mod schedule;
 mod sessions;
+mod splitting;
 mod stage;
 mod starting;
+mod values;
 mod watched;
 mod wire;
 mod world;
@@ -35,6 +45,8 @@ pub use exchanging::exchange;
 pub use generating::generate;
 pub use history::Item;
 pub use member::{Did, Member, Request, Told};
+pub use reading::ScheduleFault;
+pub use reading_laws::{a_schedule_has_no_bad_line, a_text_has_one_bad_line};
 pub use replies::Reply;
 pub use schedule::{EventLine, FileLine, ForeignAsk, Reference, Schedule, SessionLine, Wish};
 pub use stage::Stage;

@@ -1,7 +1,7 @@
 //! What the words of a schedule's lines say.
-ghost use Rattle.std.specs.Prelude.{◌≡◌, ◌≢◌, ◌↔◌, ◌≤◌, All, ℕ, List, ◌∷◌, decimal, Some, Ok, IsTrue, IfOk, IfSome, IfNone, IsSome};
+ghost use Rattle.std.specs.Prelude.{◌≡◌, ◌≢◌, ◌↔◌, ◌≤◌, ◌+◌, All, Bool, Option, ℕ, List, ◌∷◌, decimal, Some, Ok, IsTrue, IfOk, IfSome, IfNone, IsSome};
 ghost use Rattle.hex.specs.Hex.{decode_of};
-ghost use Rattle.replay_cmd.specs.Grammar.{IsContents, IsCounted, IsLockWord, IsReference, reference_word};
+ghost use Rattle.replay_cmd.specs.Grammar.{IsContents, IsCounted, IsLockOrNone, IsLockWord, IsReference, lock_word, reference_word, yes_or_no};
 ghost use Rattle.replay_cmd.specs.declared.schedule.Reference.{Reference};
 ghost use Rattle.replay_cmd.specs.Trace.{hex_text};
 
@@ -121,4 +121,42 @@ pub(crate) fn lock_read(word: &[u8]) -> Option<LockId>
         return None;
     }
     LockId::read(word)
+}
+
+/// The session, counted from 0, that a word names by its number from 1.
+pub(crate) fn place_read(word: &[u8]) -> Option<u64>
+    ensures { (s : ℕ) → (result ≡ Some s) ↔ (IsCounted (s + 1) × (word.now ≡ decimal (s + 1))) }
+{
+    let Some(number) = counted_read(word) else {
+        return None;
+    };
+    Some(number - 1)
+}
+
+/// The lock of a PutFile: `-` says that there is none.
+pub(crate) fn lock_or_none_read(word: &[u8]) -> Option<Option<LockId>>
+    ensures some { IfSome result (λ lock. IsLockOrNone lock × (word.now ≡ lock_word lock)) }
+    ensures none { IfNone result ((lock : Option (List ℕ)) → IsLockOrNone lock → word.now ≢ lock_word lock) }
+{
+    if is_word(word, b"-".as_slice()) {
+        return Some(None);
+    }
+    let Some(id) = lock_read(word) else {
+        return None;
+    };
+    Some(Some(id))
+}
+
+/// Whether a copy may replace a file.
+pub(crate) fn overwrite_read(word: &[u8]) -> Option<bool>
+    ensures some { IfSome result (λ overwrite. word.now ≡ yes_or_no overwrite) }
+    ensures none { IfNone result ((overwrite : Bool) → word.now ≢ yes_or_no overwrite) }
+{
+    if is_word(word, b"yes".as_slice()) {
+        return Some(true);
+    }
+    if is_word(word, b"no".as_slice()) {
+        return Some(false);
+    }
+    None
 }

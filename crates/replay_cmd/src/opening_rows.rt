@@ -1,0 +1,60 @@
+//! The lines of the files and of the sessions.
+ghost use Rattle.std.specs.Prelude.{◌≡◌, IfOk, IfSome, IfNone};
+ghost use Rattle.replay_cmd.specs.declared.schedule.FileLine.{FileLine};
+ghost use Rattle.replay_cmd.specs.declared.schedule.SessionLine.{SessionLine};
+ghost use Rattle.replay_cmd.specs.Grammar.{IsFileRow, IsSessionRow};
+
+use crate::schedule::{FileLine, SessionLine};
+use crate::splitting::{four_words, three_words};
+use crate::values::{hex_read, is_word};
+use access_tokens::moment_read;
+use save_session::Nonce;
+use std::alloc::Global;
+use wopi_text::{Memory, id_read};
+
+/// The file that a line tells of, if it is such a line.
+pub(crate) fn file_read(alloc: Global, row: &[u8]) -> Result<Option<FileLine>, Memory>
+    ensures some { IfOk result (λ read. IfSome read (IsFileRow row.now)) }
+    ensures none { IfOk result (λ read. IfNone read ((file : FileLine) → IsFileRow row.now file → ⊥)) }
+{
+    let Some((kind, id, digits)) = three_words(row) else {
+        return Ok(None);
+    };
+    if !is_word(kind, b"file".as_slice()) {
+        return Ok(None);
+    }
+    let Ok(name) = id_read(id) else {
+        return Ok(None);
+    };
+    let Some(contents) = hex_read(alloc, digits)? else {
+        return Ok(None);
+    };
+    Ok(Some(FileLine { name, contents }))
+}
+
+/// The session that a line tells of, if it is such a line. It takes no memory.
+pub(crate) fn session_read(row: &[u8]) -> Option<SessionLine>
+    ensures some { IfSome result (IsSessionRow row.now) }
+    ensures none { IfNone result ((session : SessionLine) → IsSessionRow row.now session → ⊥) }
+{
+    let Some((kind, id, nonce, expires)) = four_words(row) else {
+        return None;
+    };
+    if !is_word(kind, b"session".as_slice()) {
+        return None;
+    }
+    let Ok(file) = id_read(id) else {
+        return None;
+    };
+    let Some(nonce) = Nonce::read(nonce) else {
+        return None;
+    };
+    let Some(expires) = moment_read(expires) else {
+        return None;
+    };
+    Some(SessionLine {
+        file,
+        nonce,
+        expires,
+    })
+}

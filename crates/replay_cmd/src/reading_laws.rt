@@ -1,0 +1,14 @@
+//! What holds of the texts of schedules.
+ghost use Rattle.std.specs.Prelude.{◌≡◌, ℕ, List};
+ghost use Rattle.replay_cmd.specs.Grammar.{IsBadLine, IsText};
+ghost use Rattle.replay_cmd.specs.Schedules.{Lines};
+
+/// No text is a schedule and has a bad line.
+pub fn a_schedule_has_no_bad_line()
+    ensures { (text : List ℕ) (lines : Lines) (number : ℕ) → IsText text lines → IsBadLine text number → ⊥ }
+{}
+
+/// A text has one first bad line at most.
+pub fn a_text_has_one_bad_line()
+    ensures { (text : List ℕ) (number other : ℕ) → IsBadLine text number → IsBadLine text other → number ≡ other }
+{}
