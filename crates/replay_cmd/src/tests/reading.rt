@@ -8,7 +8,7 @@ use std::test::Fail;
 const OPENING: &[u8] = b"file 612e637376 312c320a\nfile 62 -\nsession 612e637376 n 9000000\n\
 session 62 m2 253402300799999\n";
 
-/// The first eight lines of most of the worked rows.
+/// The first nine lines of most of the worked schedules.
 const OPENED: &[u8] = b"file 612e637376 312c320a\nsession 612e637376 n 9000000\nopen 1\n\
 deliver 1 0\nanswer 1\ndeliver 2 0\nanswer 2\ndeliver 3 0\nanswer 3\n";
 
@@ -95,13 +95,17 @@ fn the_worked_schedules_are_read(rt: HostRuntime) -> Result<(), Fail> {
     let late = b"save 1 41\nlose 1\nlose 1\nlose 1\nsave 1 42\ndeliver 7 10\nanswer 4\n\
 deliver 8 11\nanswer 5\ndeliver 4 12\n";
     assert_eq!(rt; events_behind(alloc, OPENED, late)?, 17);
-    let closed = b"close 1\ndeliver 9 13\nanswer 7\ndeliver 2 14\ndeliver 4 15\n";
-    assert_eq!(rt; events_behind(alloc, OPENED, closed)?, 12);
+    let mut closed = late.to_vec(alloc)?;
+    closed.extend_from_slice(b"close 1\ndeliver 9 13\nanswer 7\ndeliver 2 14\ndeliver 4 15\n")?;
+    assert_eq!(rt; events_behind(alloc, OPENED, &closed)?, 22);
     let again = b"save 1 41\ndeliver 4 1\nanswer 4\nsave 1 42\ndeliver 5 2\nlose 1\ndeliver 6 3\n\
 answer 6\ndeliver 7 4\nanswer 7\n";
     assert_eq!(rt; events_behind(alloc, OPENED, again)?, 17);
     let emptied = b"save 1 -\ndeliver 4 1\nanswer 4\ndeliver 4 1800000\n";
     assert_eq!(rt; events_behind(alloc, OPENED, emptied)?, 11);
+    let copied = b"file 652e637376 -\nforeign 0 9000000 put 652e637376 - 41\n\
+foreign 1 9000000 relative 652e637376 612e637376 no 78\nforeign 2 9000000 delete 652e637376\n";
+    assert_eq!(rt; events_behind(alloc, b"", copied)?, 3);
     Ok(())
 }
 
