@@ -3,12 +3,9 @@ use Rattle.std.specs.Prelude.{ℕ, zero, suc, ◌^◌, ◌-◌, Bool, List, [], 
 use Rattle.std.specs.List.{list_all}
 use Rattle.std.specs.Char.{is_ascii_digit}
 use Rattle.std.specs.Str.Parse.{digits_value}
+use Rattle.wopi_text.specs.Decimals.{are_digits}
 use Rattle.grid_formulas.specs.declared.value.Value.{Value}
 use Rattle.grid_formulas.specs.declared.value.Value.TheVariants as value
-
--- one or more digits
-abbrev pub are_digits : List ℕ → Bool
-are_digits digits = nat_lt 0 (length digits) && list_all is_ascii_digit digits
 
 -- digits, the first of which is no zero unless it is the only one
 abbrev pub is_canonical : List ℕ → Bool

@@ -3,27 +3,16 @@ ghost use Rattle.std.specs.Prelude.{true, ◌≡◌, ◌^◌, ◌-◌, ◌<◌, 
 ghost use Rattle.std.specs.List.{list_all};
 ghost use Rattle.std.specs.Char.{is_ascii_digit};
 ghost use Rattle.std.specs.Str.Parse.{digits_value};
-ghost use Rattle.grid_formulas.specs.Numbers.{are_digits, is_canonical, below_zero_of, from_zero_of, integer_of, natural_of, plain_value};
+ghost use Rattle.grid_formulas.specs.Numbers.{is_canonical, below_zero_of, from_zero_of, integer_of, natural_of, plain_value};
 
 use crate::Value;
+use wopi_text::are_digits;
 
 /// The magnitude of the least `i128`.
 const MOST_BELOW: u128 = 170_141_183_460_469_231_731_687_303_715_884_105_728;
 
 /// The greatest `i128`.
 const MOST_ABOVE: u128 = 170_141_183_460_469_231_731_687_303_715_884_105_727;
-
-fn all_digits(bytes: &[u8]) -> bool
-    ensures { result ≡ list_all is_ascii_digit bytes.now }
-{
-    bytes.iter().all(|b| b.is_ascii_digit())
-}
-
-fn are_digits(bytes: &[u8]) -> bool
-    ensures { result ≡ are_digits bytes.now }
-{
-    !bytes.is_empty() && all_digits(bytes)
-}
 
 fn is_canonical(bytes: &[u8]) -> bool
     ensures { result ≡ is_canonical bytes.now }
