@@ -1,3 +1,4 @@
+pub mod Calm
 pub mod Changes
 pub mod Folds
 pub mod Gathered

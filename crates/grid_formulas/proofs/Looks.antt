@@ -1,5 +1,5 @@
 -- What one look at a cell does, and what many do.
-use Rattle.std.proofs.Common.{◌≡◌, ◌≢◌, ℕ, zero, suc, ◌+◌, ◌*◌, ◌/◌, ◌%◌, ◌<◌, ◌≤◌, Bool, true, false, List, [], ◌∷◌, ◌++◌, Option, Some, None, option_map, unwrap_or, length, get_or, slice_index_or, ◌-◌, cond, map, ◌&&◌, ◌||◌, nat_le, nat_lt, refl, sym, ◌∙◌, ap, subst, arith, inl, inr, ◌⊎◌}
+use Rattle.std.proofs.Common.{◌≡◌, ◌≢◌, ℕ, zero, suc, ◌+◌, ◌*◌, ◌/◌, ◌%◌, ◌<◌, ◌≤◌, Bool, true, false, List, [], ◌∷◌, ◌++◌, Option, Some, None, option_map, unwrap_or, length, get_or, slice_index_or, ◌-◌, cond, map, ◌&&◌, ◌||◌, nat_le, nat_lt, refl, sym, ◌∙◌, ap, subst, arith, inl, inr, ◌⊎◌, length-append}
 use Rattle.std.proofs.lemmas.Bool.{cases_eq, cases_lt}
 use Rattle.std.proofs.lemmas.Bool.Decides.{nat_tests}
 use Rattle.std.proofs.lemmas.List.Folds.{list_any-append}
@@ -7,19 +7,21 @@ use Rattle.std.proofs.lemmas.List.FromFn.{map-range_with_len_more}
 use Rattle.std.specs.List.{list_any, range_with_len}
 use Rattle.std.specs.Option.{is_some, option_or}
 use Rattle.std.specs.Prelude.{slice_index}
+use Rattle.std.specs.BTreeMap.{is_at}
 use Rattle.std.specs.Ordering.{is_eq, nat_cmp}
 use Rattle.std.proofs.lemmas.Grind.{common_steps}
 use Rattle.grid_sheet.specs.Rows.{IsGrid, Rows, row_at}
 use Rattle.grid_formulas.specs.Cells.{most_places, reads, reads_if}
 use Rattle.grid_formulas.specs.Numbers.{plain_value}
-use Rattle.grid_formulas.specs.Places.{cells_named, places_of, reads_of, text_at}
+use Rattle.grid_formulas.specs.Places.{cells_named, has, places_of, reads_of, text_at}
 use Rattle.grid_formulas.specs.Reading.{formula_of, is_formula}
-use Rattle.grid_formulas.specs.Sheets.{AreSettled, IsStuckAt, LooksAt, Rests, Sweeps, any_cycle, is_cycle, is_in, kept_values, values_over, waits}
+use Rattle.grid_formulas.specs.Sheets.{AreSettled, IsStuckAt, LooksAt, Rests, Sweeps, any_cycle, has_cycle, is_cycle, is_in, kept_values, values_over, waits}
 use Rattle.grid_formulas.specs.Values.{value_of_formula}
 use Rattle.grid_formulas.specs.declared.cells.Node.{Node}
 use Rattle.grid_formulas.specs.declared.formula.Step.{Step}
 use Rattle.grid_formulas.specs.declared.value.Value.{Value}
 use Rattle.grid_formulas.specs.declared.value.Value.TheVariants as value
+use Rattle.grid_formulas.proofs.Calm.{no_cycle_value}
 use Rattle.grid_formulas.proofs.Valued.{settle_one}
 use Rattle.grid_formulas.proofs.Walks.{Within, true_false}
 
@@ -85,11 +87,28 @@ waiting : (o : Option Value) → waits o ≡ true → (v : Value) × (o ≡ Some
 waiting None e = absurd (true_false (sym e))
 waiting (Some v) e = (v, refl, e)
 
-pub looked_true : (rows : Rows) (nodes : ℕ → Option Node) (before after : ℕ → Option Value) (place : ℕ) (v : Value) (f : Option (List Step)) → IsGrid rows → is_formula (text_at rows place) ≡ true → waits (before place) ≡ true → f ≡ formula_of (text_at rows place) → any_cycle (values_over rows nodes before) (reads_if f) ≡ false → v ≡ value_of_formula (values_over rows nodes before) f → after place ≡ Some v → ((q : ℕ) → q ≢ place → after q ≡ before q) → LooksAt rows nodes before after true place
+-- another key, as a map compares
+pub apart_at : (q place : ℕ) → q ≢ place → is_eq (nat_cmp place q) ≡ false
+apart_at q place ne = grind (arith, common_steps)
+
+pub and_false : (b : Bool) → (b && false) ≡ false
+and_false true = refl
+and_false false = refl
+
+or_only : (b : Bool) → (b || false) ≡ true → b ≡ true
+or_only true e = refl
+or_only false e = e
+
+-- the cell at a place that has this value, and is looked at anew
+has_cycle_at : (rows : Rows) (after : ℕ → Option Value) (place : ℕ) (v : Value) → after place ≡ Some v → is_cycle v ≡ false → has_cycle (text_at rows) after place ≡ false
+has_cycle_at rows after place v here quiet = ap (λ o. is_formula (text_at rows place) && waits o) here ∙ ap (λ b. is_formula (text_at rows place) && b) quiet ∙ and_false (is_formula (text_at rows place))
+
+pub looked_settled : (rows : Rows) (nodes : ℕ → Option Node) (before after : ℕ → Option Value) (place : ℕ) (v : Value) (f : Option (List Step)) → IsGrid rows → is_formula (text_at rows place) ≡ true → waits (before place) ≡ true → f ≡ formula_of (text_at rows place) → any_cycle (values_over rows nodes before) (reads_if f) ≡ false → v ≡ value_of_formula (values_over rows nodes before) f → after place ≡ Some v → ((q : ℕ) → q ≢ place → after q ≡ before q) → LooksAt rows nodes before after false place
 unfolding reads
-looked_true rows nodes before after place v f g is wait formula none follows here apart =
+looked_settled rows nodes before after place v f g is wait formula none follows here apart =
     let w = waiting (before place) wait in
     let values = values_over rows nodes before in
+    let calm : is_cycle v ≡ false = ap is_cycle follows ∙ no_cycle_value values f none in
     record {
       keys = λ q. elim (cases_eq q place) as (λ _. is_in after q ≡ is_in before q) [
         | inl at ↦ ap (λ z. is_some (after z)) at ∙ ap is_some here ∙ sym (ap is_some w.1) ∙ sym (ap (λ z. is_some (before z)) at)
@@ -100,65 +119,167 @@ looked_true rows nodes before after place v f g is wait formula none follows her
           (ap (λ z. any_cycle values (reads_if z)) (sym formula) ∙ none)
           (λ q not_at. values_same rows nodes before after q (apart q not_at))
           (value_here rows nodes after place v is here ∙ follows ∙ ap (value_of_formula values) formula);
-      idle = λ e. absurd (true_false e);
-      stuck = λ e _. absurd (true_false e);
+      quiet = λ q e. elim (cases_eq q place) as (λ _. has_cycle (text_at rows) after q ≡ false) [
+        | inl at ↦ ap (has_cycle (text_at rows) after) at ∙ has_cycle_at rows after place v here calm
+        | inr not_at ↦ ap (λ o. is_formula (text_at rows q) && waits o) (apart q not_at) ∙ e
+      ];
+      done = λ _. has_cycle_at rows after place v here calm;
+      idle = λ e. absurd (true_false (sym e));
+      stuck = λ e. absurd (true_false (sym e));
     }
 
--- a look that changes nothing
-pub looked_false : (rows : Rows) (nodes : ℕ → Option Node) (before : ℕ → Option Value) (place : ℕ) → (is_in before place ≡ true → IsStuckAt (text_at rows) (values_over rows nodes before) place) → LooksAt rows nodes before before false place
-looked_false rows nodes before place stuck = record {
+-- a look at a cell without Cycle
+pub looked_quiet : (rows : Rows) (nodes : ℕ → Option Node) (before : ℕ → Option Value) (place : ℕ) → has_cycle (text_at rows) before place ≡ false → LooksAt rows nodes before before false place
+looked_quiet rows nodes before place quiet = record {
   keys = λ q. refl;
   kept = λ s. s;
-  idle = λ e. refl;
-  stuck = λ e i. stuck i;
+  quiet = λ q e. e;
+  done = λ _. quiet;
+  idle = λ e. absurd (true_false (sym e));
+  stuck = λ e. absurd (true_false (sym e));
 }
 
 -- a cell that reads one with Cycle
-pub looked_stuck : (rows : Rows) (nodes : ℕ → Option Node) (before : ℕ → Option Value) (place : ℕ) (f : Option (List Step)) → f ≡ formula_of (text_at rows place) → any_cycle (values_over rows nodes before) (reads_if f) ≡ true → LooksAt rows nodes before before false place
+pub looked_stuck : (rows : Rows) (nodes : ℕ → Option Node) (before : ℕ → Option Value) (place : ℕ) (f : Option (List Step)) → f ≡ formula_of (text_at rows place) → any_cycle (values_over rows nodes before) (reads_if f) ≡ true → LooksAt rows nodes before before true place
 unfolding reads
-looked_stuck rows nodes before place f formula some =
-    looked_false rows nodes before place (λ _ _ _. ap (λ z. any_cycle (values_over rows nodes before) (reads_if z)) (sym formula) ∙ some)
+looked_stuck rows nodes before place f formula some = record {
+  keys = λ q. refl;
+  kept = λ s. s;
+  quiet = λ q e. e;
+  done = λ e. absurd (true_false e);
+  idle = λ _. refl;
+  stuck = λ _ _ _. ap (λ z. any_cycle (values_over rows nodes before) (reads_if z)) (sym formula) ∙ some;
+}
 
 -- ---- many looks
-
-or_false_left : (a b : Bool) → (a || b) ≡ false → a ≡ false
-or_false_left true b e = absurd (true_false e)
-or_false_left false b e = refl
-
-or_false_right : (a b : Bool) → (a || b) ≡ false → b ≡ false
-or_false_right true b e = absurd (true_false e)
-or_false_right false b e = e
 
 nat_cases : (x m : ℕ) → x < m + 1 → (x < m) ⊎ (x ≡ m)
 nat_cases x m lt = elim (cases_lt x m) as (λ _. (x < m) ⊎ (x ≡ m)) [ inl below ↦ inl below | inr above ↦ inr (omega arith) ]
 
-pub sweeps_more : (rows : Rows) (nodes : ℕ → Option Node) (order : List ℕ) (n : ℕ) (before mid after : ℕ → Option Value) (moved settled : Bool) → Sweeps rows nodes order n before mid moved → LooksAt rows nodes mid after settled (slice_index order n) → Sweeps rows nodes order (n + 1) before after (moved || settled)
-sweeps_more rows nodes order n before mid after moved settled s l = record {
-  keys = λ q. l.keys q ∙ s.keys q;
-  kept = λ h. l.kept (s.kept h);
-  idle = λ e. l.idle (or_false_right moved settled e) ∙ s.idle (or_false_left moved settled e);
-  stuck = λ e k lt i.
-      let still : moved ≡ false = or_false_left moved settled e in
-      elim (nat_cases k n lt) as (λ _. IsStuckAt (text_at rows) (values_over rows nodes before) (slice_index order k)) [
-        | inl below ↦ s.stuck still k below i
-        | inr same ↦
-            let at : slice_index order k ≡ slice_index order n = ap (slice_index order) same in
-            let inside : is_in mid (slice_index order n) ≡ true = s.keys (slice_index order n) ∙ sym (ap (is_in before) at) ∙ i in
-            let there : IsStuckAt (text_at rows) (values_over rows nodes mid) (slice_index order n) = l.stuck (or_false_right moved settled e) inside in
-            let here : IsStuckAt (text_at rows) (values_over rows nodes before) (slice_index order n) = subst (λ z. IsStuckAt (text_at rows) (values_over rows nodes z) (slice_index order n)) (s.idle still) there in
-            subst (λ z. IsStuckAt (text_at rows) (values_over rows nodes before) z) (sym at) here
-      ];
-}
+pub quiet_or : (b : Bool) (P : Type 0) → (b ≡ false → P) → (b ≡ true → P) → P
+quiet_or true P f g = g refl
+quiet_or false P f g = f refl
 
--- after a sweep in which nothing moved
-pub rests : (rows : Rows) (nodes : ℕ → Option Node) (order : List ℕ) (first before after : ℕ → Option Value) (moved : Bool) → ((q : ℕ) → is_in before q ≡ is_in first q) → (AreSettled (text_at rows) (values_over rows nodes first) → AreSettled (text_at rows) (values_over rows nodes before)) → Sweeps rows nodes order (length order) before after moved → moved ≡ false → Rests rows nodes order first after
-rests rows nodes order first before after moved keys kept s still = record {
-  keys = λ q. s.keys q ∙ keys q;
-  kept = λ h. s.kept (kept h);
-  stuck = λ k lt i.
-      subst (λ z. IsStuckAt (text_at rows) (values_over rows nodes z) (slice_index order k)) (sym (s.idle still)) (s.stuck still k lt (sym (s.keys (slice_index order k)) ∙ i));
-}
+-- ---- lists of places
 
--- another key, as a map compares
-pub apart_at : (q place : ℕ) → q ≢ place → is_eq (nat_cmp place q) ≡ false
-apart_at q place ne = grind (arith, common_steps)
+pub has_append : (xs ys : List ℕ) (q : ℕ) → has (xs ++ ys) q ≡ (has xs q || has ys q)
+has_append xs ys q = list_any-append (is_at (nat_cmp q)) xs ys
+
+pub same_place : (q : ℕ) → is_at (nat_cmp q) q ≡ true
+same_place q = grind (arith, common_steps)
+
+pub place_is : (q x : ℕ) → is_at (nat_cmp q) x ≡ true → x ≡ q
+place_is q x e = elim (cases_eq x q) as (λ _. x ≡ q) [ inl same ↦ same | inr ne ↦ absurd (true_false (sym e ∙ apart_at x q ne)) ]
+
+or_left : (a b : Bool) → a ≡ true → (a || b) ≡ true
+or_left true b e = refl
+or_left false b e = absurd (true_false (sym e))
+
+pub or_right : (a b : Bool) → b ≡ true → (a || b) ≡ true
+or_right true b e = refl
+or_right false b e = e
+
+pub has_more : (xs : List ℕ) (x q : ℕ) → has xs q ≡ true → has (xs ++ x ∷ []) q ≡ true
+has_more xs x q e = has_append xs (x ∷ []) q ∙ or_left (has xs q) (has (x ∷ []) q) e
+
+pub has_last : (xs : List ℕ) (x : ℕ) → has (xs ++ x ∷ []) x ≡ true
+has_last xs x = has_append xs (x ∷ []) x ∙ or_right (has xs x) (has (x ∷ []) x) (ap (λ b. b || false) (same_place x))
+
+pub has_cases : (xs : List ℕ) (x q : ℕ) → has (xs ++ x ∷ []) q ≡ true → (has xs q ≡ true) ⊎ (x ≡ q)
+has_cases xs x q e =
+    quiet_or (has xs q) ((has xs q ≡ true) ⊎ (x ≡ q))
+    (λ no. inr (place_is q x (or_only (is_at (nat_cmp q) x) (sym (ap (λ b. b || has (x ∷ []) q) no) ∙ sym (has_append xs (x ∷ []) q) ∙ e))))
+    (λ yes. inl yes)
+
+-- the cell stays
+pub sweeps_stay : (rows : Rows) (nodes : ℕ → Option Node) (order : List ℕ) (n : ℕ) (before mid after : ℕ → Option Value) (left : List ℕ) → Sweeps rows nodes order n before mid left → LooksAt rows nodes mid after true (slice_index order n) → Sweeps rows nodes order (n + 1) before after (left ++ slice_index order n ∷ [])
+sweeps_stay rows nodes order n before mid after left s l =
+    let more = length-append left (slice_index order n ∷ []) in
+    let full : length (left ++ slice_index order n ∷ []) ≡ n + 1 → length left ≡ n = λ e. omega (arith, more, e) in
+    record {
+      keys = λ q. l.keys q ∙ s.keys q;
+      kept = λ h. l.kept (s.kept h);
+      quiet = λ q e. l.quiet q (s.quiet q e);
+      fewer = omega (arith, more, s.fewer);
+      among = λ k lt e.
+          elim (nat_cases k n lt) as (λ _. has (left ++ slice_index order n ∷ []) (slice_index order k) ≡ true) [
+            | inl below ↦ has_more left (slice_index order n) (slice_index order k) (s.among k below (ap (λ a. has_cycle (text_at rows) a (slice_index order k)) (sym (l.idle refl)) ∙ e))
+            | inr same ↦ ap (λ z. has (left ++ slice_index order n ∷ []) (slice_index order z)) same ∙ has_last left (slice_index order n)
+          ];
+      idle = λ e. l.idle refl ∙ s.idle (full e);
+      stuck = λ e q h.
+          elim (has_cases left (slice_index order n) q h) as (λ _. IsStuckAt (text_at rows) (values_over rows nodes before) q) [
+            | inl earlier ↦ s.stuck (full e) q earlier
+            | inr last ↦
+                subst (λ z. IsStuckAt (text_at rows) (values_over rows nodes before) z) last
+                (subst (λ z. IsStuckAt (text_at rows) (values_over rows nodes z) (slice_index order n)) (s.idle (full e)) (l.stuck refl))
+          ];
+    }
+
+-- the cell leaves the list
+pub sweeps_leave : (rows : Rows) (nodes : ℕ → Option Node) (order : List ℕ) (n : ℕ) (before mid after : ℕ → Option Value) (left : List ℕ) → Sweeps rows nodes order n before mid left → LooksAt rows nodes mid after false (slice_index order n) → Sweeps rows nodes order (n + 1) before after left
+sweeps_leave rows nodes order n before mid after left s l =
+    let short : length left ≡ n + 1 → ⊥ = λ e. absurd (omega (arith, s.fewer, e)) in
+    record {
+      keys = λ q. l.keys q ∙ s.keys q;
+      kept = λ h. l.kept (s.kept h);
+      quiet = λ q e. l.quiet q (s.quiet q e);
+      fewer = omega (arith, s.fewer);
+      among = λ k lt e.
+          elim (nat_cases k n lt) as (λ _. has left (slice_index order k) ≡ true) [
+            | inl below ↦
+                quiet_or (has_cycle (text_at rows) mid (slice_index order k)) (has left (slice_index order k) ≡ true)
+                (λ no. absurd (true_false (sym e ∙ l.quiet (slice_index order k) no)))
+                (λ yes. s.among k below yes)
+            | inr same ↦ absurd (true_false (sym e ∙ ap (λ z. has_cycle (text_at rows) after (slice_index order z)) same ∙ l.done refl))
+          ];
+      idle = λ e. absurd (short e);
+      stuck = λ e. absurd (short e);
+    }
+
+-- ---- until nothing moves
+
+-- what sweeps have done: the cells with Cycle are among those left; where the last sweep left all that it looked at, they are stuck
+abbrev pub Sweeping : Rows → (ℕ → Option Node) → List ℕ → (ℕ → Option Value) → (ℕ → Option Value) → ℕ → List ℕ → Type 0
+Sweeping rows nodes order first after looked left =
+    ((q : ℕ) → is_in after q ≡ is_in first q)
+    × (AreSettled (text_at rows) (values_over rows nodes first) → AreSettled (text_at rows) (values_over rows nodes after))
+    × (length left ≤ looked)
+    × ((k : ℕ) → k < length order → has_cycle (text_at rows) after (slice_index order k) ≡ true → has left (slice_index order k) ≡ true)
+    × (length left ≡ looked → (q : ℕ) → has left q ≡ true → IsStuckAt (text_at rows) (values_over rows nodes after) q)
+
+stuck_after : (rows : Rows) (nodes : ℕ → Option Node) (order : List ℕ) (before after : ℕ → Option Value) (left : List ℕ) → Sweeps rows nodes order (length order) before after left → length left ≡ length order → (q : ℕ) → has left q ≡ true → IsStuckAt (text_at rows) (values_over rows nodes after) q
+stuck_after rows nodes order before after left s e q h =
+    subst (λ z. IsStuckAt (text_at rows) (values_over rows nodes z) q) (sym (s.idle e)) (s.stuck e q h)
+
+pub first_sweep : (rows : Rows) (nodes : ℕ → Option Node) (order : List ℕ) (before after : ℕ → Option Value) (left : List ℕ) → Sweeps rows nodes order (length order) before after left → Sweeping rows nodes order before after (length order) left
+first_sweep rows nodes order before after left s = (s.keys, s.kept, s.fewer, s.among, stuck_after rows nodes order before after left s)
+
+-- a place of a list stands at an index
+pub place_index : (xs : List ℕ) (q : ℕ) → has xs q ≡ true → (k : ℕ) × (k < length xs) × (slice_index xs k ≡ q)
+place_index [] q e = absurd (true_false (sym e))
+place_index (x ∷ xs) q e =
+    quiet_or (is_at (nat_cmp q) x) ((k : ℕ) × (k < length (x ∷ xs)) × (slice_index (x ∷ xs) k ≡ q))
+    (λ no. let rest = place_index xs q (sym (ap (λ b. b || has xs q) no) ∙ e) in (suc rest.0, omega (arith, rest.1), rest.2))
+    (λ yes. (0, omega arith, place_is q x yes))
+
+pub next_sweep : (rows : Rows) (nodes : ℕ → Option Node) (order : List ℕ) (first before after : ℕ → Option Value) (looked : ℕ) (waiting left : List ℕ) → Sweeping rows nodes order first before looked waiting → Sweeps rows nodes waiting (length waiting) before after left → Sweeping rows nodes order first after (length waiting) left
+next_sweep rows nodes order first before after looked waiting left w s =
+    (λ q. s.keys q ∙ w.0 q, λ h. s.kept (w.1 h), s.fewer,
+    λ k lt e.
+    quiet_or (has_cycle (text_at rows) before (slice_index order k)) (has left (slice_index order k) ≡ true)
+    (λ no. absurd (true_false (sym e ∙ s.quiet (slice_index order k) no)))
+    (λ yes.
+    let at = place_index waiting (slice_index order k) (w.3 k lt yes) in
+    ap (has left) (sym at.2) ∙ s.among at.0 at.1 (ap (has_cycle (text_at rows) after) at.2 ∙ e)),
+    stuck_after rows nodes waiting before after left s)
+
+-- after a sweep that left all that it looked at
+pub rests : (rows : Rows) (nodes : ℕ → Option Node) (order : List ℕ) (first after : ℕ → Option Value) (looked : ℕ) (left : List ℕ) → Sweeping rows nodes order first after looked left → looked ≤ length left → Rests rows nodes order first after
+rests rows nodes order first after looked left w le = record {
+  keys = w.0;
+  kept = w.1;
+  stuck = λ k lt e.
+      let all : length left ≡ looked = omega (arith, w.2, le) in
+      w.4 all (slice_index order k) (w.3 k lt e);
+}

@@ -1,5 +1,5 @@
 -- How a sheet comes to its values.
-use Rattle.std.proofs.Common.{◌≡◌, ℕ, zero, suc, ◌+◌, ◌<◌, Bool, true, false, List, [], ◌∷◌, Option, Some, None, unwrap_or, length, cond, refl, sym, ◌∙◌, ap, subst, arith, inl, inr, ◌≢◌}
+use Rattle.std.proofs.Common.{◌≡◌, ℕ, zero, suc, ◌+◌, ◌<◌, Bool, true, false, List, [], ◌∷◌, Option, Some, None, unwrap_or, length, cond, ◌&&◌, refl, sym, ◌∙◌, ap, subst, arith, inl, inr, ◌≢◌}
 use Rattle.std.proofs.lemmas.Bool.{cases_eq, cases_lt}
 use Rattle.std.specs.BTreeMap.{BTreeMap, get, keys}
 use Rattle.std.specs.List.{Contains}
@@ -15,7 +15,7 @@ use Rattle.grid_formulas.specs.Cells.{reads}
 use Rattle.grid_formulas.specs.Numbers.{plain_value}
 use Rattle.grid_formulas.specs.Places.{text_at}
 use Rattle.grid_formulas.specs.Reading.{is_formula}
-use Rattle.grid_formulas.specs.Sheets.{AreSettled, AreStuck, IsStuckAt, KnowsFormulas, Rests, StartsOver, is_cycle, is_in, kept_values, values_over}
+use Rattle.grid_formulas.specs.Sheets.{AreSettled, AreStuck, IsStuckAt, KnowsFormulas, Rests, StartsOver, has_cycle, is_cycle, is_in, kept_values, values_over, waits}
 use Rattle.grid_formulas.specs.declared.cells.Node.{Node}
 use Rattle.grid_formulas.specs.declared.value.Value.{Value}
 use Rattle.grid_formulas.specs.declared.value.Value.TheVariants as value
@@ -38,13 +38,24 @@ starts_settled rows nodes after known starts = record {
       absurd (true_false (sym (ap is_cycle (value_here rows (get nat_cmp nodes) after p value.Cycle is cycle)) ∙ quiet));
 }
 
+in_some : (o : Option Value) → is_some o ≡ true → (v : Value) × (o ≡ Some v)
+in_some None e = absurd (true_false (sym e))
+in_some (Some v) e = (v, refl)
+
+-- a formula cell that is looked at anew, and whose value is Cycle
+pub cycle_has : (rows : Rows) (nodes : ℕ → Option Node) (after : ℕ → Option Value) (p : ℕ) → is_formula (text_at rows p) ≡ true → is_in after p ≡ true → is_cycle (values_over rows nodes after p) ≡ true → has_cycle (text_at rows) after p ≡ true
+cycle_has rows nodes after p is inside cycle =
+    let v = in_some (after p) inside in
+    ap (λ b. b && waits (after p)) is ∙ ap waits v.1 ∙ ap is_cycle (sym (value_here rows nodes after p v.0 is v.1)) ∙ cycle
+
 pub ends_stuck : (rows : Rows) (nodes : BTreeMap ℕ Node) (first before after : ℕ → Option Value) → KnowsFormulas (text_at rows) (get nat_cmp nodes) → StartsOver (keys nodes) first → ((q : ℕ) → is_in before q ≡ is_in first q) → Rests rows (get nat_cmp nodes) (keys nodes) before after → AreStuck (text_at rows) (values_over rows (get nat_cmp nodes) after)
 ends_stuck rows nodes first before after known starts same rests p is cycle =
     let at = index_of nodes p (known.there p is) in
-    let inside : is_in after (slice_index (keys nodes) at.0) ≡ true =
-    rests.keys (slice_index (keys nodes) at.0) ∙ same (slice_index (keys nodes) at.0) ∙ ap is_some (starts at.0 at.1) in
+    let inside : is_in after p ≡ true = rests.keys p ∙ same p ∙ ap (is_in first) (sym at.2) ∙ ap is_some (starts at.0 at.1) in
+    let here : has_cycle (text_at rows) after (slice_index (keys nodes) at.0) ≡ true =
+    ap (has_cycle (text_at rows) after) at.2 ∙ cycle_has rows (get nat_cmp nodes) after p is inside cycle in
     let stuck : IsStuckAt (text_at rows) (values_over rows (get nat_cmp nodes) after) p =
-    subst (λ z. IsStuckAt (text_at rows) (values_over rows (get nat_cmp nodes) after) z) at.2 (rests.stuck at.0 at.1 inside) in
+    subst (λ z. IsStuckAt (text_at rows) (values_over rows (get nat_cmp nodes) after) z) at.2 (rests.stuck at.0 at.1 here) in
     stuck is cycle
 
 -- one more place has Cycle

@@ -17,11 +17,11 @@ use Rattle.grid_formulas.specs.declared.value.Value.TheVariants as value
 use Rattle.grid_formulas.proofs.Walks.{Within, any_false_mono, any_mono, any_same, endless, same_walks, true_false, walk_ends, walk_formula, walk_much_shorter, walk_shorter}
 
 -- both parts of a test that fails
-or_false_left : (a b : Bool) → (a || b) ≡ false → a ≡ false
+pub or_false_left : (a b : Bool) → (a || b) ≡ false → a ≡ false
 or_false_left true b e = absurd (true_false e)
 or_false_left false b e = refl
 
-or_false_right : (a b : Bool) → (a || b) ≡ false → b ≡ false
+pub or_false_right : (a b : Bool) → (a || b) ≡ false → b ≡ false
 or_false_right true b e = absurd (true_false e)
 or_false_right false b e = e
 
@@ -33,7 +33,7 @@ fold_same v w bad same total (p ∷ ps) e =
     ap (λ x. fold (λ t q. with_cell t (v q)) (with_cell total x) ps) (same p (or_false_left (bad p) (list_any bad ps) e))
     ∙ fold_same v w bad same (with_cell total (w p)) ps (or_false_right (bad p) (list_any bad ps) e)
 
-first_named : (place : ℕ) → place + 1024 * (0 / (0 + 1)) + 0 % (0 + 1) ≡ place
+pub first_named : (place : ℕ) → place + 1024 * (0 / (0 + 1)) + 0 % (0 + 1) ≡ place
 first_named place = omega arith
 
 step_same : (v w : ℕ → Value) (bad : ℕ → Bool) → ((x : ℕ) → bad x ≡ false → v x ≡ w x) → (stack : List Value) (s : Step) → list_any bad (places_of (cells_named s)) ≡ false → after_step v stack s ≡ after_step w stack s

@@ -1,6 +1,8 @@
 -- Cells by number, and the cells that a formula names. (Own: a grid has at most 1,024 columns.)
-use Rattle.std.specs.Prelude.{ℕ, ◌+◌, ◌*◌, ◌-◌, ◌/◌, ◌%◌, List, [], ◌∷◌, unwrap_or, map}
-use Rattle.std.specs.List.{range_with_len, flat_map}
+use Rattle.std.specs.Prelude.{ℕ, Bool, ◌+◌, ◌*◌, ◌-◌, ◌/◌, ◌%◌, List, [], ◌∷◌, unwrap_or, map}
+use Rattle.std.specs.BTreeMap.{is_at}
+use Rattle.std.specs.List.{range_with_len, flat_map, list_any}
+use Rattle.std.specs.Ordering.{nat_cmp}
 use Rattle.grid_sheet.specs.Rows.{Rows, cell_at}
 use Rattle.grid_formulas.specs.declared.formula.Span.{Span}
 use Rattle.grid_formulas.specs.declared.formula.Step.{Step}
@@ -31,3 +33,7 @@ cells_named _ = record { first = 0; last_column = 0; size = 0 }
 -- the places that a formula names, each as often as it is named
 abbrev pub reads_of : List Step → List ℕ
 reads_of steps = flat_map (λ s. places_of (cells_named s)) steps
+
+-- the place is in the list
+abbrev pub has : List ℕ → ℕ → Bool
+has places place = list_any (is_at (nat_cmp place)) places

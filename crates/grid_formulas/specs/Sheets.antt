@@ -1,5 +1,5 @@
 -- What a sheet keeps of its cells, and facts of single cells from which the values of all follow.
-use Rattle.std.specs.Prelude.{ℕ, ◌≡◌, Bool, true, false, List, Option, Some, None, option_map, unwrap_or, IsSome, is_some, length, slice_index, ◌+◌, ◌<◌, ◌≤◌, ⊤, if◌then◌else◌}
+use Rattle.std.specs.Prelude.{ℕ, ◌≡◌, Bool, true, false, List, Option, Some, None, option_map, unwrap_or, IsSome, is_some, length, slice_index, ◌+◌, ◌<◌, ◌≤◌, ⊤, ◌&&◌, if◌then◌else◌}
 use Rattle.std.specs.List.{list_any}
 use Rattle.std.specs.Option.{option_or}
 use Rattle.grid_formulas.specs.declared.cells.Node.{Node}
@@ -10,7 +10,7 @@ use Rattle.grid_formulas.specs.declared.value.Value.{Value}
 use Rattle.grid_formulas.specs.declared.value.Value.TheVariants as value
 use Rattle.grid_formulas.specs.Cells.{formula_count, has_walk, link_count, reads, sum_below}
 use Rattle.grid_sheet.specs.Rows.{IsGrid, Rows}
-use Rattle.grid_formulas.specs.Places.{text_at}
+use Rattle.grid_formulas.specs.Places.{has, text_at}
 use Rattle.grid_formulas.specs.Numbers.{plain_value}
 use Rattle.grid_formulas.specs.Reading.{formula_of, is_formula}
 use Rattle.grid_formulas.specs.Values.{value_of_formula}
@@ -100,25 +100,34 @@ abbrev pub waits : Option Value → Bool
 waits None = false
 waits (Some v) = is_cycle v
 
--- what one look at a cell does: it settles the cell, or changes nothing
-pub record LooksAt (rows : Rows) (nodes : ℕ → Option Node) (before after : ℕ → Option Value) (settled : Bool) (place : ℕ) : Type 0 where
-  pub keys : (q : ℕ) → is_in after q ≡ is_in before q
-  pub kept : AreSettled (text_at rows) (values_over rows nodes before) → AreSettled (text_at rows) (values_over rows nodes after)
-  pub idle : settled ≡ false → after ≡ before
-  pub stuck : settled ≡ false → is_in before place ≡ true → IsStuckAt (text_at rows) (values_over rows nodes before) place
+-- the cell is a formula that is looked at anew and has Cycle still
+abbrev pub has_cycle : (ℕ → List ℕ) → (ℕ → Option Value) → ℕ → Bool
+has_cycle text after place = is_formula (text place) && waits (after place)
 
--- what a look at the first n cells of a list does
-pub record Sweeps (rows : Rows) (nodes : ℕ → Option Node) (order : List ℕ) (n : ℕ) (before after : ℕ → Option Value) (moved : Bool) : Type 0 where
+-- what one look at a cell does: it settles the cell, or changes nothing; the cell stays if it reads one with Cycle
+pub record LooksAt (rows : Rows) (nodes : ℕ → Option Node) (before after : ℕ → Option Value) (stays : Bool) (place : ℕ) : Type 0 where
   pub keys : (q : ℕ) → is_in after q ≡ is_in before q
   pub kept : AreSettled (text_at rows) (values_over rows nodes before) → AreSettled (text_at rows) (values_over rows nodes after)
-  pub idle : moved ≡ false → after ≡ before
-  pub stuck : moved ≡ false → (k : ℕ) → k < n → is_in before (slice_index order k) ≡ true → IsStuckAt (text_at rows) (values_over rows nodes before) (slice_index order k)
+  pub quiet : (q : ℕ) → has_cycle (text_at rows) before q ≡ false → has_cycle (text_at rows) after q ≡ false
+  pub done : stays ≡ false → has_cycle (text_at rows) after place ≡ false
+  pub idle : stays ≡ true → after ≡ before
+  pub stuck : stays ≡ true → IsStuckAt (text_at rows) (values_over rows nodes before) place
+
+-- what a look at the first n cells of a list does, and which are left with Cycle
+pub record Sweeps (rows : Rows) (nodes : ℕ → Option Node) (order : List ℕ) (n : ℕ) (before after : ℕ → Option Value) (left : List ℕ) : Type 0 where
+  pub keys : (q : ℕ) → is_in after q ≡ is_in before q
+  pub kept : AreSettled (text_at rows) (values_over rows nodes before) → AreSettled (text_at rows) (values_over rows nodes after)
+  pub quiet : (q : ℕ) → has_cycle (text_at rows) before q ≡ false → has_cycle (text_at rows) after q ≡ false
+  pub fewer : length left ≤ n
+  pub among : (k : ℕ) → k < n → has_cycle (text_at rows) after (slice_index order k) ≡ true → has left (slice_index order k) ≡ true
+  pub idle : length left ≡ n → after ≡ before
+  pub stuck : length left ≡ n → (q : ℕ) → has left q ≡ true → IsStuckAt (text_at rows) (values_over rows nodes before) q
 
 -- what looking at the cells of a list does until nothing moves
 pub record Rests (rows : Rows) (nodes : ℕ → Option Node) (order : List ℕ) (before after : ℕ → Option Value) : Type 0 where
   pub keys : (q : ℕ) → is_in after q ≡ is_in before q
   pub kept : AreSettled (text_at rows) (values_over rows nodes before) → AreSettled (text_at rows) (values_over rows nodes after)
-  pub stuck : (k : ℕ) → k < length order → is_in after (slice_index order k) ≡ true → IsStuckAt (text_at rows) (values_over rows nodes after) (slice_index order k)
+  pub stuck : (k : ℕ) → k < length order → has_cycle (text_at rows) after (slice_index order k) ≡ true → IsStuckAt (text_at rows) (values_over rows nodes after) (slice_index order k)
 
 -- a sheet is of a grid with few enough links, knows its formulas, and all its values are settled or stuck
 pub record IsSheet (rows : Rows) (nodes : ℕ → Option Node) (after : ℕ → Option Value) : Type 0 where

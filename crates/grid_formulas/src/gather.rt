@@ -15,7 +15,7 @@ use std::alloc::Global;
 use std::collections::BTreeMap;
 
 /// The most cells that the formulas of a sheet may name together.
-const MOST_LINKS: usize = 1_000_000;
+pub const MOST_LINKS: usize = 1_000_000;
 
 // How many cells the steps name, or the greatest usize where it is as great.
 fn count_named(steps: &[Step]) -> usize

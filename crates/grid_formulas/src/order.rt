@@ -2,10 +2,15 @@
 //! It decides about time alone, and so nothing is promised of it.
 
 use crate::cells::Node;
-use crate::{SheetFault, Step};
+use crate::gather::MOST_LINKS;
+use crate::Step;
+use grid_sheet::{MOST_CELLS, MOST_ROWS};
 use std::alloc::Global;
 use std::collections::{BTreeMap, BTreeSet};
 use wopi_text::Memory;
+
+// Each pass of a walk follows a link for the first time, or ends a cell.
+const MOST_PASSES: usize = MOST_LINKS + MOST_ROWS * MOST_CELLS;
 
 // A cell whose reads are being followed: the next of its steps, and of the cells that this names.
 #[derive(Clone, Copy)]
@@ -51,8 +56,7 @@ fn follow(
 ) -> Result<(), Memory> {
     let mut visits = Vec::new(alloc);
     visits.push(Visit::of(place))?;
-    // Each link is followed once, so that the bound is never met.
-    for _ in 0..u64::MAX {
+    for _ in 0..MOST_PASSES {
         let Some(visit) = visits.pop() else {
             return Ok(());
         };
@@ -66,7 +70,7 @@ fn follow(
             }
         }
     }
-    Err(Memory)
+    Ok(())
 }
 
 // The next cell that is read, and the visit behind it.

@@ -1,7 +1,7 @@
 //! The values of cells that are looked at anew. Each formula cell among them has Cycle at first. A
 //! cell that reads no Cycle gets its formula's value, again and again until none is left that
 //! does. The order in which cells are looked at decides about time alone.
-ghost use Rattle.std.specs.Prelude.{◌≡◌, ◌||◌, IfOk, OnOk, option_map, length};
+ghost use Rattle.std.specs.Prelude.{◌≡◌, IfOk, OnOk, option_map, length};
 ghost use Rattle.std.specs.Ordering.{nat_cmp};
 ghost use Rattle.std.specs.BTreeMap.{get};
 ghost use Rattle.std.specs.List.{list_any};
@@ -84,7 +84,8 @@ fn reads_cycle(
     }
 }
 
-// Gives the cell its formula's value, if it has Cycle and reads none. Says whether it did.
+// Gives the cell its formula's value, if it has Cycle and reads none. Says whether it stays with
+// Cycle.
 fn look_at(
     alloc: Global,
     grid: &Grid,
@@ -94,7 +95,7 @@ fn look_at(
 ) -> Result<bool, Memory>
     requires grid { IsGrid grid.now }
     requires known { KnowsFormulas (text_at grid.now) (get nat_cmp nodes.now) }
-    ensures { IfOk result (λ settled. LooksAt grid.now (get nat_cmp nodes.now) (get nat_cmp after.old) (get nat_cmp after.new) settled place) }
+    ensures { IfOk result (λ stays. LooksAt grid.now (get nat_cmp nodes.now) (get nat_cmp after.old) (get nat_cmp after.new) stays place) }
 {
     if !is_formula(text_at(grid, place)) {
         return Ok(false);
@@ -106,41 +107,37 @@ fn look_at(
         return Ok(false);
     };
     if reads_cycle(grid, nodes, after, &node.formula) {
-        return Ok(false);
+        return Ok(true);
     }
     let value = value_of_formula(alloc, grid, nodes, after, &node.formula)?;
     after.insert(place, value)?;
-    Ok(true)
+    Ok(false)
 }
 
-fn either(a: bool, b: bool) -> bool
-    ensures { result ≡ (a || b) }
-{
-    a || b
-}
-
-// Looks at each cell of the list once. Says whether one was settled.
+// Looks at each cell of the list once. Gives those that stay with Cycle.
 pub fn sweep(
     alloc: Global,
     grid: &Grid,
     nodes: &BTreeMap<usize, Node>,
     order: &[usize],
     after: &mut BTreeMap<usize, Value>,
-) -> Result<bool, Memory>
+) -> Result<Vec<usize>, Memory>
     requires grid { IsGrid grid.now }
     requires known { KnowsFormulas (text_at grid.now) (get nat_cmp nodes.now) }
-    ensures { IfOk result (λ moved. Sweeps grid.now (get nat_cmp nodes.now) order.now (length order.now) (get nat_cmp after.old) (get nat_cmp after.new) moved) }
+    ensures { IfOk result (λ left. Sweeps grid.now (get nat_cmp nodes.now) order.now (length order.now) (get nat_cmp after.old) (get nat_cmp after.new) left.items) }
 {
-    let mut moved = false;
+    let mut left = Vec::new(alloc);
     'places: for place in order {
-        let settled = look_at(alloc, grid, nodes, after, *place)?;
-        moved = either(moved, settled);
+        let stays = look_at(alloc, grid, nodes, after, *place)?;
+        if stays {
+            left.push(*place)?;
+        }
     }
-    Ok(moved)
+    Ok(left)
 }
 
 /// Gives their values to the cells of the list that are in `after`, all of which have Cycle. Where
-/// each cell stands behind those that it reads, the second sweep finds nothing more.
+/// each cell stands behind those that it reads, the first sweep settles all that can be settled.
 pub fn settle(
     alloc: Global,
     grid: &Grid,
@@ -152,11 +149,11 @@ pub fn settle(
     requires known { KnowsFormulas (text_at grid.now) (get nat_cmp nodes.now) }
     ensures { OnOk result (Rests grid.now (get nat_cmp nodes.now) order.now (get nat_cmp after.old) (get nat_cmp after.new)) }
 {
-    // Each sweep but the last settles a cell, so that the bound is never met.
-    'sweeps: for _ in 0..u64::MAX {
-        if !sweep(alloc, grid, nodes, order, after)? {
-            return Ok(());
-        }
+    let mut looked = order.len();
+    let mut left = sweep(alloc, grid, nodes, order, after)?;
+    'sweeps: while left.len() < looked {
+        looked = left.len();
+        left = sweep(alloc, grid, nodes, &left, after)?;
     }
-    Err(Memory)
+    Ok(())
 }

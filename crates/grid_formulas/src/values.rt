@@ -45,7 +45,7 @@ pub fn values_of(
     let places = places_of(alloc, nodes)?;
     let mut values = start_over(alloc, &places)?;
     let order = order_of(alloc, nodes, &places)?;
-    let _moved = sweep(alloc, grid, nodes, &order, &mut values)?;
+    let _left = sweep(alloc, grid, nodes, &order, &mut values)?;
     settle(alloc, grid, nodes, &places, &mut values)?;
     Ok(values)
 }

@@ -10,7 +10,7 @@ returns-clause-settled c =
     let nodes = c.args.nodes.now in
     let first = get nat_cmp c.in_ok-values.values in
     let starts : StartsOver (keys nodes) first = subst (λ (l : List ℕ). StartsOver l first) (c.deref.ensures.value ∙ c.in_ok-places.ensures) c.in_ok-values.ensures in
-    c.in_ok-settle.ensures.kept (c.in_ok-_moved.ensures.kept (starts_settled c.args.grid.now nodes first c.requires.known starts))
+    c.in_ok-settle.ensures.kept (c.in_ok-_left.ensures.kept (starts_settled c.args.grid.now nodes first c.requires.known starts))
 
 pub returns-clause-stuck : goal.returns-clause-stuck
 returns-clause-stuck c =
@@ -18,4 +18,4 @@ returns-clause-stuck c =
     let first = get nat_cmp c.in_ok-values.values in
     let starts : StartsOver (keys nodes) first = subst (λ (l : List ℕ). StartsOver l first) (c.deref.ensures.value ∙ c.in_ok-places.ensures) c.in_ok-values.ensures in
     let rests = subst (λ (l : List ℕ). Rests c.args.grid.now (get nat_cmp nodes) l (get nat_cmp c.sweep.new.after) (get nat_cmp c.settle.new.after)) (c.deref-4.ensures.value ∙ c.in_ok-places.ensures) c.in_ok-settle.ensures in
-    ends_stuck c.args.grid.now nodes first (get nat_cmp c.sweep.new.after) (get nat_cmp c.settle.new.after) c.requires.known starts c.in_ok-_moved.ensures.keys rests
+    ends_stuck c.args.grid.now nodes first (get nat_cmp c.sweep.new.after) (get nat_cmp c.settle.new.after) c.requires.known starts c.in_ok-_left.ensures.keys rests
