@@ -1,18 +1,17 @@
 -- A formula that reads nothing with Cycle has another value.
-use Rattle.std.proofs.Common.{◌≡◌, ℕ, zero, suc, ◌+◌, ◌-◌, Bool, true, false, List, [], ◌∷◌, ◌++◌, Option, Some, None, length, take, slice_index_or, cond, ◌||◌, refl, sym, ◌∙◌, ap, ℤ, pos}
+use Rattle.std.proofs.Common.{◌≡◌, ℕ, zero, suc, ◌-◌, Bool, true, false, List, [], ◌∷◌, ◌++◌, Option, Some, None, length, take, slice_index_or, cond, ◌||◌, refl, sym, ◌∙◌, ap, ℤ, pos}
 use Rattle.std.specs.Prelude.{neg_ℤ}
 use Rattle.std.specs.List.{list_any, fold}
 use Rattle.std.proofs.lemmas.List.Folds.{list_any-append}
 use Rattle.grid_formulas.specs.Cells.{reads_if}
 use Rattle.grid_formulas.specs.Places.{cells_named, places_of, reads_of}
 use Rattle.grid_formulas.specs.Sheets.{any_cycle, is_cycle}
-use Rattle.grid_formulas.specs.Values.{after_step, as_number, fits, fitted, operated, operation_of, popped, sum_of, top, value_of_formula, with_cell, with_operation, with_right}
+use Rattle.grid_formulas.specs.Values.{after_step, as_number, fits, operated, operation_of, popped, sum_of, top, value_of_formula, with_cell, with_operation, with_right}
 use Rattle.grid_formulas.specs.declared.formula.Step.{Step}
 use Rattle.grid_formulas.specs.declared.formula.Step.TheVariants as step
 use Rattle.grid_formulas.specs.declared.value.Value.{Value}
 use Rattle.grid_formulas.specs.declared.value.Value.TheVariants as value
 use Rattle.grid_formulas.proofs.Valued.{first_named, or_false_left, or_false_right}
-use Rattle.grid_formulas.proofs.Walks.{true_false}
 
 -- ---- single values
 

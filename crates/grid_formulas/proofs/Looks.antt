@@ -1,5 +1,5 @@
 -- What one look at a cell does, and what many do.
-use Rattle.std.proofs.Common.{◌≡◌, ◌≢◌, ℕ, zero, suc, ◌+◌, ◌*◌, ◌/◌, ◌%◌, ◌<◌, ◌≤◌, Bool, true, false, List, [], ◌∷◌, ◌++◌, Option, Some, None, option_map, unwrap_or, length, get_or, slice_index_or, ◌-◌, cond, map, ◌&&◌, ◌||◌, nat_le, nat_lt, refl, sym, ◌∙◌, ap, subst, arith, inl, inr, ◌⊎◌, length-append}
+use Rattle.std.proofs.Common.{◌≡◌, ◌≢◌, ℕ, zero, suc, ◌+◌, ◌/◌, ◌%◌, ◌<◌, ◌≤◌, Bool, true, false, List, [], ◌∷◌, ◌++◌, Option, Some, None, unwrap_or, length, get_or, slice_index_or, ◌-◌, cond, map, ◌&&◌, ◌||◌, nat_le, refl, sym, ◌∙◌, ap, subst, arith, inl, inr, ◌⊎◌, length-append}
 use Rattle.std.proofs.lemmas.Bool.{cases_eq, cases_lt}
 use Rattle.std.proofs.lemmas.Bool.Decides.{nat_tests}
 use Rattle.std.proofs.lemmas.List.Folds.{list_any-append}
@@ -264,15 +264,18 @@ place_index (x ∷ xs) q e =
     (λ yes. (0, omega arith, place_is q x yes))
 
 pub next_sweep : (rows : Rows) (nodes : ℕ → Option Node) (order : List ℕ) (first before after : ℕ → Option Value) (looked : ℕ) (waiting left : List ℕ) → Sweeping rows nodes order first before looked waiting → Sweeps rows nodes waiting (length waiting) before after left → Sweeping rows nodes order first after (length waiting) left
-next_sweep rows nodes order first before after looked waiting left w s =
-    (λ q. s.keys q ∙ w.0 q, λ h. s.kept (w.1 h), s.fewer,
-    λ k lt e.
-    quiet_or (has_cycle (text_at rows) before (slice_index order k)) (has left (slice_index order k) ≡ true)
-    (λ no. absurd (true_false (sym e ∙ s.quiet (slice_index order k) no)))
-    (λ yes.
-    let at = place_index waiting (slice_index order k) (w.3 k lt yes) in
-    ap (has left) (sym at.2) ∙ s.among at.0 at.1 (ap (has_cycle (text_at rows) after) at.2 ∙ e)),
-    stuck_after rows nodes waiting before after left s)
+next_sweep rows nodes order first before after looked waiting left w s = (
+  λ q. s.keys q ∙ w.0 q,
+  λ h. s.kept (w.1 h),
+  s.fewer,
+  λ k lt e.
+      quiet_or (has_cycle (text_at rows) before (slice_index order k)) (has left (slice_index order k) ≡ true)
+      (λ no. absurd (true_false (sym e ∙ s.quiet (slice_index order k) no)))
+      (λ yes.
+      let at = place_index waiting (slice_index order k) (w.3 k lt yes) in
+      ap (has left) (sym at.2) ∙ s.among at.0 at.1 (ap (has_cycle (text_at rows) after) at.2 ∙ e)),
+  stuck_after rows nodes waiting before after left s,
+)
 
 -- after a sweep that left all that it looked at
 pub rests : (rows : Rows) (nodes : ℕ → Option Node) (order : List ℕ) (first after : ℕ → Option Value) (looked : ℕ) (left : List ℕ) → Sweeping rows nodes order first after looked left → looked ≤ length left → Rests rows nodes order first after

@@ -1,5 +1,5 @@
 -- Reading on behind operators, and what a reader adds.
-use Rattle.std.proofs.Common.{◌≡◌, ℕ, zero, suc, ◌+◌, ◌-◌, ◌<◌, List, [], ◌∷◌, ◌++◌, Option, Some, None, refl, sym, ◌∙◌, ap, arith, append_assoc, sub-one}
+use Rattle.std.proofs.Common.{◌≡◌, ℕ, zero, suc, ◌+◌, ◌-◌, ◌<◌, List, [], ◌∷◌, ◌++◌, Option, Some, None, refl, ◌∙◌, ap, arith, append_assoc, sub-one}
 use Rattle.grid_formulas.specs.declared.formula.Step.{Step}
 use Rattle.grid_formulas.specs.Reading.{Adds, Found, Reader, behind, more, more_from, negative_at, parentheses_at, plain_at, unary_at}
 

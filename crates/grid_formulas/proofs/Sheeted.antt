@@ -1,8 +1,7 @@
 -- How a sheet comes to its values.
-use Rattle.std.proofs.Common.{◌≡◌, ℕ, zero, suc, ◌+◌, ◌<◌, Bool, true, false, List, [], ◌∷◌, Option, Some, None, unwrap_or, length, cond, ◌&&◌, refl, sym, ◌∙◌, ap, subst, arith, inl, inr, ◌≢◌}
+use Rattle.std.proofs.Common.{◌≡◌, ℕ, ◌+◌, ◌<◌, true, List, Option, Some, None, unwrap_or, length, cond, ◌&&◌, refl, sym, ◌∙◌, ap, subst, arith, inl, inr, ◌≢◌}
 use Rattle.std.proofs.lemmas.Bool.{cases_eq, cases_lt}
 use Rattle.std.specs.BTreeMap.{BTreeMap, get, keys}
-use Rattle.std.specs.List.{Contains}
 use Rattle.std.specs.Option.{IsSome, is_some, option_or}
 use Rattle.std.specs.Ordering.{nat_cmp}
 use Rattle.std.specs.Prelude.{slice_index}
@@ -10,8 +9,7 @@ use Rattle.std.proofs.lemmas.List.Elements.{at_from_Contains}
 use Rattle.std.proofs.lemmas.Cmp.{nat_cmp_total}
 use Rattle.std.proofs.lemmas.Map.Lookups.{exact_unsigned}
 use Rattle.std.proofs.lemmas.Map.Views.{btree_map_contains_key_iff}
-use Rattle.grid_sheet.specs.Rows.{IsGrid, Rows}
-use Rattle.grid_formulas.specs.Cells.{reads}
+use Rattle.grid_sheet.specs.Rows.{Rows}
 use Rattle.grid_formulas.specs.Numbers.{plain_value}
 use Rattle.grid_formulas.specs.Places.{text_at}
 use Rattle.grid_formulas.specs.Reading.{is_formula}

@@ -1,20 +1,19 @@
 -- How the values of all cells follow from facts of each, and how those facts are kept.
-use Rattle.std.proofs.Common.{◌≡◌, ◌≢◌, ℕ, zero, suc, ◌+◌, ◌*◌, ◌/◌, ◌%◌, Bool, true, false, List, [], ◌∷◌, ◌++◌, Option, Some, None, cond, map, ◌&&◌, ◌||◌, refl, sym, ◌∙◌, ap, subst, arith, inl, inr, ◌⊎◌, ℤ, pos}
+use Rattle.std.proofs.Common.{◌≡◌, ◌≢◌, ℕ, zero, suc, ◌+◌, ◌*◌, ◌/◌, ◌%◌, Bool, true, false, List, [], ◌∷◌, ◌++◌, Option, Some, None, cond, ◌&&◌, ◌||◌, refl, sym, ◌∙◌, ap, subst, arith, inl, inr, ℤ, pos}
 use Rattle.std.proofs.lemmas.Bool.{cases_eq}
 use Rattle.std.proofs.lemmas.List.Folds.{list_any-append}
-use Rattle.std.proofs.lemmas.List.Concat.{flat_map-cons}
-use Rattle.std.specs.List.{list_any, fold, flat_map, range_with_len}
-use Rattle.grid_formulas.specs.Cells.{formula_count, has_walk, most_places, reads, reads_if, value_of, value_within}
+use Rattle.std.specs.List.{list_any, fold}
+use Rattle.grid_formulas.specs.Cells.{formula_count, has_walk, reads, reads_if, value_of, value_within}
 use Rattle.grid_formulas.specs.Numbers.{integer_of, number_or_text, plain_value}
-use Rattle.grid_formulas.specs.Places.{cells_named, nth_of, places_of, reads_of}
+use Rattle.grid_formulas.specs.Places.{cells_named, places_of, reads_of}
 use Rattle.grid_formulas.specs.Reading.{formula_of, is_formula}
 use Rattle.grid_formulas.specs.Sheets.{AreSettled, AreStuck, IsSettled, any_cycle, is_cycle}
-use Rattle.grid_formulas.specs.Values.{after_step, as_number, sum_of, top, value_of_formula, with_cell}
+use Rattle.grid_formulas.specs.Values.{after_step, as_number, top, value_of_formula, with_cell}
 use Rattle.grid_formulas.specs.declared.formula.Step.{Step}
 use Rattle.grid_formulas.specs.declared.formula.Step.TheVariants as step
 use Rattle.grid_formulas.specs.declared.value.Value.{Value}
 use Rattle.grid_formulas.specs.declared.value.Value.TheVariants as value
-use Rattle.grid_formulas.proofs.Walks.{Within, any_false_mono, any_mono, any_same, endless, same_walks, true_false, walk_ends, walk_formula, walk_much_shorter, walk_shorter}
+use Rattle.grid_formulas.proofs.Walks.{Within, any_false_mono, any_mono, any_same, same_walks, true_false, walk_ends, walk_formula}
 
 -- both parts of a test that fails
 pub or_false_left : (a b : Bool) → (a || b) ≡ false → a ≡ false

@@ -1,13 +1,9 @@
 -- Walks from cell to cell, and how the values of all cells follow from facts of each.
-use Rattle.std.proofs.Common.{◌≡◌, ℕ, zero, suc, ◌+◌, ◌-◌, ◌<◌, ◌≤◌, Bool, true, false, List, [], ◌∷◌, ◌++◌, Option, Some, None, length, cond, ◌&&◌, ◌||◌, refl, sym, ◌∙◌, ap, subst, arith, inl, inr, ◌⊎◌, add-one, zero-add}
+use Rattle.std.proofs.Common.{◌≡◌, ℕ, zero, suc, ◌+◌, ◌<◌, ◌≤◌, Bool, true, false, List, [], ◌∷◌, cond, ◌&&◌, ◌||◌, refl, sym, ◌∙◌, ap, subst, arith, inl, inr, ◌⊎◌, zero-add}
 use Rattle.std.proofs.lemmas.Bool.{cases_lt}
 use Rattle.std.specs.List.{list_any}
-use Rattle.grid_formulas.specs.Cells.{formula_count, has_walk, most_places, reads, sum_below, value_of, value_within}
-use Rattle.grid_formulas.specs.Numbers.{plain_value}
-use Rattle.grid_formulas.specs.Reading.{formula_of, is_formula}
-use Rattle.grid_formulas.specs.Values.{value_of_formula}
-use Rattle.grid_formulas.specs.declared.value.Value.{Value}
-use Rattle.grid_formulas.specs.declared.value.Value.TheVariants as value
+use Rattle.grid_formulas.specs.Cells.{formula_count, has_walk, most_places, reads, sum_below}
+use Rattle.grid_formulas.specs.Reading.{is_formula}
 
 pub true_false : true ≡ false → ⊥
 true_false e = cc

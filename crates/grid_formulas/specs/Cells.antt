@@ -1,5 +1,5 @@
 -- The values of all cells. (Own.)
-use Rattle.std.specs.Prelude.{ℕ, zero, suc, ◌+◌, ◌≡◌, Bool, true, false, List, [], Option, Some, None, length, nat_lt, nat_le, ◌<◌, ⊤, ◌&&◌, if◌then◌else◌}
+use Rattle.std.specs.Prelude.{ℕ, zero, suc, ◌+◌, Bool, List, [], Option, Some, None, length, nat_lt, nat_le, ◌<◌, ⊤, ◌&&◌, if◌then◌else◌}
 use Rattle.std.specs.List.{list_any}
 use Rattle.grid_sheet.specs.Rows.{Rows, is_column, most_rows}
 use Rattle.grid_formulas.specs.declared.fault.SheetFault.{SheetFault}

@@ -1,8 +1,11 @@
 pub mod Cells
 pub mod Changes
+pub mod Marks
 pub mod Numbers
 pub mod Places
+pub mod Readers
 pub mod Reading
 pub mod Sheets
 pub mod Texts
+pub mod Turns
 pub mod Values

@@ -1,7 +1,5 @@
 -- Whole numbers in decimal digits, and the value of a cell that is no formula. (Own: one text for each number.)
-use Rattle.std.specs.Prelude.{ℕ, zero, suc, ◌^◌, ◌-◌, Bool, List, [], ◌∷◌, length, drop, slice_index, Option, Some, None, nat_lt, nat_le, not, ℤ, pos, negsuc, ◌==◌, ◌&&◌, ◌||◌, if◌then◌else◌, option_map}
-use Rattle.std.specs.List.{list_all}
-use Rattle.std.specs.Char.{is_ascii_digit}
+use Rattle.std.specs.Prelude.{ℕ, zero, suc, ◌^◌, ◌-◌, Bool, List, [], ◌∷◌, length, drop, slice_index, Option, Some, None, nat_le, not, ℤ, pos, negsuc, ◌==◌, ◌&&◌, ◌||◌, if◌then◌else◌, option_map}
 use Rattle.std.specs.Str.Parse.{digits_value}
 use Rattle.wopi_text.specs.Decimals.{are_digits}
 use Rattle.grid_formulas.specs.declared.value.Value.{Value}

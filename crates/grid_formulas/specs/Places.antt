@@ -1,5 +1,5 @@
 -- Cells by number, and the cells that a formula names. (Own: a grid has at most 1,024 columns.)
-use Rattle.std.specs.Prelude.{ℕ, Bool, ◌+◌, ◌*◌, ◌-◌, ◌/◌, ◌%◌, List, [], ◌∷◌, unwrap_or, map}
+use Rattle.std.specs.Prelude.{ℕ, Bool, ◌+◌, ◌*◌, ◌-◌, ◌/◌, ◌%◌, List, [], unwrap_or, map}
 use Rattle.std.specs.BTreeMap.{is_at}
 use Rattle.std.specs.List.{range_with_len, flat_map, list_any}
 use Rattle.std.specs.Ordering.{nat_cmp}

@@ -2,7 +2,7 @@
 -- (Own grammar: a formula is `=` and a sum. A sum is a product, then any number of products, each behind `+` or `-`.
 -- A product is a unary, then any number of unaries, each behind `*`. A unary is `-` and a unary, or an atom. An atom is
 -- digits, a cell, a range in `SUM(..)`, or a sum in parentheses.)
-use Rattle.std.specs.Prelude.{ℕ, ◌≡◌, zero, suc, ◌+◌, ◌*◌, ◌-◌, ◌^◌, Bool, true, false, List, [], ◌∷◌, ◌++◌, length, take, drop, slice_index, Option, Some, None, nat_lt, nat_le, pos, ◌==◌, ◌&&◌, ◌||◌, if◌then◌else◌, option_map}
+use Rattle.std.specs.Prelude.{ℕ, ◌≡◌, zero, suc, ◌+◌, ◌*◌, ◌-◌, ◌^◌, Bool, List, [], ◌∷◌, ◌++◌, length, take, drop, slice_index, Option, Some, None, nat_lt, nat_le, pos, ◌==◌, ◌&&◌, if◌then◌else◌, option_map}
 use Rattle.std.specs.List.{prefix_len}
 use Rattle.std.specs.Option.{option_and_then}
 use Rattle.std.specs.Char.{is_ascii_digit, is_ascii_uppercase}

@@ -1,5 +1,6 @@
 -- What a sheet keeps of its cells, and facts of single cells from which the values of all follow.
-use Rattle.std.specs.Prelude.{ℕ, ◌≡◌, Bool, true, false, List, Option, Some, None, option_map, unwrap_or, IsSome, is_some, length, slice_index, ◌+◌, ◌<◌, ◌≤◌, ⊤, ◌&&◌, if◌then◌else◌}
+use Rattle.std.specs.Prelude.{ℕ, ◌≡◌, Bool, true, false, List, Option, Some, None, option_map, unwrap_or, IsSome, is_some, length, slice_index, ◌<◌, ◌≤◌, ⊤, ◌&&◌, if◌then◌else◌}
+use Rattle.std.specs.BTreeSet.{BTreeSet}
 use Rattle.std.specs.List.{list_any}
 use Rattle.std.specs.Option.{option_or}
 use Rattle.grid_formulas.specs.declared.cells.Node.{Node}
@@ -12,6 +13,7 @@ use Rattle.grid_formulas.specs.Cells.{formula_count, has_walk, link_count, reads
 use Rattle.grid_sheet.specs.Rows.{IsGrid, Rows}
 use Rattle.grid_formulas.specs.Places.{has, text_at}
 use Rattle.grid_formulas.specs.Numbers.{plain_value}
+use Rattle.grid_formulas.specs.Readers.{IsIndexed}
 use Rattle.grid_formulas.specs.Reading.{formula_of, is_formula}
 use Rattle.grid_formulas.specs.Values.{value_of_formula}
 
@@ -129,13 +131,15 @@ pub record Rests (rows : Rows) (nodes : ℕ → Option Node) (order : List ℕ) 
   pub kept : AreSettled (text_at rows) (values_over rows nodes before) → AreSettled (text_at rows) (values_over rows nodes after)
   pub stuck : (k : ℕ) → k < length order → has_cycle (text_at rows) after (slice_index order k) ≡ true → IsStuckAt (text_at rows) (values_over rows nodes after) (slice_index order k)
 
--- a sheet is of a grid with few enough links, knows its formulas, and all its values are settled or stuck
-pub record IsSheet (rows : Rows) (nodes : ℕ → Option Node) (after : ℕ → Option Value) : Type 0 where
+-- a sheet is of a grid with few enough links, knows its formulas and who reads a cell, and all its values are settled or stuck
+pub record IsSheet (rows : Rows) (nodes : ℕ → Option Node) (readers : ℕ → Option (BTreeSet ℕ)) (links : ℕ) : Type 0 where
   pub grid : IsGrid rows
+  pub counts : links ≡ link_count (text_at rows)
   pub few : link_count (text_at rows) ≤ most_links
   pub known : KnowsFormulas (text_at rows) nodes
-  pub settled : AreSettled (text_at rows) (values_over rows nodes after)
-  pub stuck : AreStuck (text_at rows) (values_over rows nodes after)
+  pub indexed : IsIndexed (text_at rows) readers
+  pub settled : AreSettled (text_at rows) (stored (text_at rows) (kept_values nodes))
+  pub stuck : AreStuck (text_at rows) (stored (text_at rows) (kept_values nodes))
 
 -- each of these places has Cycle at first
 abbrev pub StartsOver : List ℕ → (ℕ → Option Value) → Type 0

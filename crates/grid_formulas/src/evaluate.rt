@@ -5,7 +5,7 @@ ghost use Rattle.std.specs.BTreeMap.{get};
 ghost use Rattle.std.specs.List.{fold};
 ghost use Rattle.grid_formulas.specs.Places.{places_of, text_at};
 ghost use Rattle.grid_formulas.specs.Reading.{is_formula};
-ghost use Rattle.grid_formulas.specs.Sheets.{kept_value, values_over};
+ghost use Rattle.grid_formulas.specs.Sheets.{kept_value, kept_values, stored, values_over};
 ghost use Rattle.grid_formulas.specs.Values.{after_step, as_number, fitted, operated, number_or_fault, operation_of, popped, sum_of, top, value_of_formula, with_cell, with_operation, with_right};
 
 use crate::cells::{Node, text_at};
@@ -35,7 +35,19 @@ pub fn value_at(
     }
 }
 
-fn kept_value(nodes: &BTreeMap<usize, Node>, place: usize) -> Value
+/// The value of the cell at a place, as it is kept.
+pub fn value_now(grid: &Grid, nodes: &BTreeMap<usize, Node>, place: usize) -> Value
+    ensures { result ≡ stored (text_at grid.now) (kept_values (get nat_cmp nodes.now)) place }
+{
+    let text = text_at(grid, place);
+    if !is_formula(text) {
+        return plain_value(text);
+    }
+    kept_value(nodes, place)
+}
+
+/// The value that is kept of the formula cell at a place.
+pub fn kept_value(nodes: &BTreeMap<usize, Node>, place: usize) -> Value
     ensures { result ≡ kept_value (get nat_cmp nodes.now) place }
 {
     match nodes.get(&place) {

@@ -1,6 +1,7 @@
 //! Formulas, in postfix order: each operation stands behind its operands.
-ghost use Rattle.std.specs.Prelude.{◌≡◌, ◌<◌, ◌*◌, ◌+◌};
+ghost use Rattle.std.specs.Prelude.{◌≡◌, ◌<◌, ◌≤◌, ◌*◌, ◌+◌, ◌^◌};
 ghost use Rattle.grid_formulas.specs.Places.{cells_named, nth_of, place_of};
+ghost use Rattle.grid_formulas.specs.Readers.{last_of};
 
 /// Cells of consecutive rows and columns. A place is the number of a cell, counted from 0 along
 /// the rows, 1,024 to a row.
@@ -62,5 +63,17 @@ impl Span {
         let columns = self.last_column as usize + 1;
         let n = n as usize;
         self.first as usize + 1024 * (n / columns) + n % columns
+    }
+
+    /// The last place, or one behind it where the rows are not whole.
+    pub fn last(&self) -> usize
+        requires { 0 < self.now.size }
+        ensures value { result ≡ last_of self.now }
+        ensures order { self.now.first ≤ result }
+        ensures small { result < 2 ^ 44 }
+    {
+        let columns = self.last_column as usize + 1;
+        let rows = (self.size as usize - 1) / columns;
+        self.first as usize + 1024 * rows + self.last_column as usize
     }
 }

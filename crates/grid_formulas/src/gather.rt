@@ -1,5 +1,5 @@
 //! The formula cells of a grid, read.
-ghost use Rattle.std.specs.Prelude.{◌≡◌, ◌≤◌, ◌<◌, ◌+◌, ◌*◌, ◌-◌, ◌^◌, IfOk, IfErr, length, min, option_map};
+ghost use Rattle.std.specs.Prelude.{◌≡◌, ◌≤◌, ◌<◌, ◌+◌, ◌*◌, ◌-◌, ◌^◌, IfOk, IfErr, OnOk, length, min, option_map};
 ghost use Rattle.std.specs.Ordering.{nat_cmp};
 ghost use Rattle.std.specs.BTreeMap.{get};
 ghost use Rattle.grid_sheet.specs.Rows.{IsGrid};
@@ -28,7 +28,8 @@ fn count_named(steps: &[Step]) -> usize
     total
 }
 
-fn count_reads(formula: &Option<Vec<Step>>) -> usize
+/// How many cells the formula names, or the greatest usize where it is as great.
+pub fn count_reads(formula: &Option<Vec<Step>>) -> usize
     ensures { result ≡ min (length (reads_if (option_map (λ steps. steps.items) formula.now))) (2 ^ 64 - 1) }
 {
     match formula {
@@ -92,20 +93,24 @@ fn gather_row(
     Ok(count)
 }
 
-/// The formula cells of a grid.
-pub fn gather(alloc: Global, grid: &Grid) -> Result<BTreeMap<usize, Node>, SheetFault>
+/// Adds the formula cells of a grid. Gives how many cells the formulas name together.
+pub fn gather(
+    alloc: Global,
+    grid: &Grid,
+    nodes: &mut BTreeMap<usize, Node>,
+) -> Result<usize, SheetFault>
     requires { IsGrid grid.now }
-    ensures known { IfOk result (λ nodes. KnowsFormulas (text_at grid.now) (get nat_cmp nodes)) }
+    ensures known { OnOk result (KnowsFormulas (text_at grid.now) (get nat_cmp nodes.new)) }
+    ensures counts { IfOk result (λ links. links ≡ link_count (text_at grid.now)) }
     ensures few { IfOk result (λ _. link_count (text_at grid.now) ≤ 1000000) }
     ensures refused { IfErr result (IsSheetFault grid.now) }
 {
-    let mut nodes = BTreeMap::new(alloc);
     let mut count = 0;
     'rows: for row in 0..grid.rows() {
-        match gather_row(alloc, grid, &mut nodes, count, row) {
+        match gather_row(alloc, grid, nodes, count, row) {
             Ok(more) => count = more,
             Err(fault) => return Err(fault),
         }
     }
-    Ok(nodes)
+    Ok(count)
 }

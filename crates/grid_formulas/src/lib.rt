@@ -15,21 +15,30 @@
 //! so that one sweep settles all and a second finds nothing more. Nothing is promised of the order:
 //! a worse one would take more sweeps and give the same values.
 //!
-//! A sheet keeps a copy of its grid. To set a cell works all values out anew.
+//! A sheet keeps a copy of its grid and, for each cell, where the formulas that may read it are kept.
+//! To set a cell looks at that cell, at those that read it, at those that read one of them, and so
+//! on, and at no other.
 #![tactic(auto)]
 
 mod cells;
+mod change;
+mod changes;
+mod dependents;
 mod evaluate;
 mod fault;
 mod formula;
 mod gather;
+mod links;
+mod nodes;
 mod number;
 mod order;
 mod reader;
+mod readers;
 mod reference;
 mod settle;
 mod sheet;
 mod text;
+mod turn;
 mod value;
 mod values;
 

@@ -1,9 +1,10 @@
 //! An order in which to look at formula cells, so that one sweep settles all that can be settled.
 //! It decides about time alone, and so nothing is promised of it.
+ghost use Rattle.std.specs.Prelude.{◌<◌, IfSome};
 
 use crate::cells::Node;
 use crate::gather::MOST_LINKS;
-use crate::Step;
+use crate::{Span, Value};
 use grid_sheet::{MOST_CELLS, MOST_ROWS};
 use std::alloc::Global;
 use std::collections::{BTreeMap, BTreeSet};
@@ -30,17 +31,19 @@ impl Visit {
     }
 }
 
-/// The formula cells, each behind those that it reads, save for cells that wait for themselves.
+/// The cells of the list that are in `values`, each behind those of them that it reads, save for cells
+/// that wait for themselves.
 pub fn order_of(
     alloc: Global,
     nodes: &BTreeMap<usize, Node>,
+    values: &BTreeMap<usize, Value>,
     places: &[usize],
 ) -> Result<Vec<usize>, Memory> {
     let mut order = Vec::new(alloc);
     let mut met = BTreeSet::new(alloc);
     for place in places {
         if met.insert(*place)? {
-            follow(alloc, nodes, *place, &mut met, &mut order)?;
+            follow(alloc, nodes, values, *place, &mut met, &mut order)?;
         }
     }
     Ok(order)
@@ -50,6 +53,7 @@ pub fn order_of(
 fn follow(
     alloc: Global,
     nodes: &BTreeMap<usize, Node>,
+    values: &BTreeMap<usize, Value>,
     place: usize,
     met: &mut BTreeSet<usize>,
     order: &mut Vec<usize>,
@@ -60,11 +64,11 @@ fn follow(
         let Some(visit) = visits.pop() else {
             return Ok(());
         };
-        match next_read(nodes, &visit) {
+        match next_read(nodes, values, &visit) {
             None => order.push(visit.place)?,
             Some((read, next)) => {
                 visits.push(next)?;
-                if nodes.contains_key(&read) && met.insert(read)? {
+                if met.insert(read)? {
                     visits.push(Visit::of(read))?;
                 }
             }
@@ -73,8 +77,24 @@ fn follow(
     Ok(())
 }
 
-// The next cell that is read, and the visit behind it.
-fn next_read(nodes: &BTreeMap<usize, Node>, visit: &Visit) -> Option<(usize, Visit)> {
+// The number of the next cell of the span that is in `values`, from this number on.
+fn next_in(values: &BTreeMap<usize, Value>, cells: &Span, first: u32) -> Option<u32>
+    ensures { IfSome result (λ cell. cell < cells.now.size) }
+{
+    for cell in first..cells.size {
+        if values.contains_key(&cells.nth(cell)) {
+            return Some(cell);
+        }
+    }
+    None
+}
+
+// The next cell of `values` that is read, and the visit behind it.
+fn next_read(
+    nodes: &BTreeMap<usize, Node>,
+    values: &BTreeMap<usize, Value>,
+    visit: &Visit,
+) -> Option<(usize, Visit)> {
     let steps = match nodes.get(&visit.place) {
         Some(
             Node {
@@ -86,8 +106,8 @@ fn next_read(nodes: &BTreeMap<usize, Node>, visit: &Visit) -> Option<(usize, Vis
     };
     for step in visit.step..steps.len() {
         let cells = steps[step].cells();
-        let cell = if step == visit.step { visit.cell } else { 0 };
-        if cell < cells.size {
+        let first = if step == visit.step { visit.cell } else { 0 };
+        if let Some(cell) = next_in(values, &cells, first) {
             let next = Visit {
                 place: visit.place,
                 step,

@@ -7,18 +7,21 @@ ghost use Rattle.grid_sheet.specs.Rows.{IsGrid};
 ghost use Rattle.grid_sheet.specs.Text.{write_of};
 ghost use Rattle.grid_formulas.specs.Texts.{shown_rows};
 ghost use Rattle.grid_formulas.specs.Cells.{IsSheetFault, cell_value, link_count, value_of};
-ghost use Rattle.grid_formulas.specs.Changes.{changed_cells, same_value};
+ghost use Rattle.grid_formulas.specs.Changes.{changed_cells};
 ghost use Rattle.grid_formulas.specs.Places.{text_at};
-ghost use Rattle.grid_formulas.specs.Sheets.{IsSheet};
+ghost use Rattle.grid_formulas.specs.Sheets.{AreSettled, AreStuck, kept_values, stored};
 
 use crate::cells::Node;
-use crate::evaluate::value_at;
+use crate::change::set_cell;
+use crate::evaluate::value_now;
 use crate::gather::gather;
-use crate::values::values_of;
+use crate::nodes::{readers_of, take_over};
+use crate::turn::places_of_values;
+use crate::values::{places_of, values_of};
 use crate::{SheetFault, Value, text};
 use grid_sheet::{Grid, MOST_CELLS, MOST_ROWS};
 use std::alloc::Global;
-use std::collections::BTreeMap;
+use std::collections::{BTreeMap, BTreeSet};
 use std::marker::Model;
 use wopi_text::{Bytes, Memory};
 
@@ -45,46 +48,14 @@ impl Changed {
     }
 }
 
-fn is_same(a: Value, b: Value) -> bool
-    ensures { result ≡ same_value a b }
-{
-    match (a, b) {
-        (Value::Empty, Value::Empty) => true,
-        (Value::Text, Value::Text) => true,
-        (Value::Number(a), Value::Number(b)) => a == b,
-        (Value::NameFault, Value::NameFault) => true,
-        (Value::KindFault, Value::KindFault) => true,
-        (Value::NumberFault, Value::NumberFault) => true,
-        (Value::Cycle, Value::Cycle) => true,
-        _ => false,
-    }
-}
-
-// The cells that have another value in the second sheet than in the first.
-fn changes(alloc: Global, old: &Sheet, new: &Sheet) -> Result<Vec<(usize, usize)>, Memory>
-    ensures { IfOk result (λ cells. cells.items ≡ changed_cells old.now new.now) }
-{
-    let rows = old.rows().max(new.rows());
-    let mut cells = Vec::new(alloc);
-    'places: for place in 0..rows * MOST_CELLS {
-        if !is_same(old.at(place), new.at(place)) {
-            cells.push((place / MOST_CELLS + 1, place % MOST_CELLS + 1))?;
-        }
-    }
-    Ok(cells)
-}
-
 // The value of the cell at a place.
-fn value_in(
-    grid: &Grid,
-    nodes: &BTreeMap<usize, Node>,
-    values: &BTreeMap<usize, Value>,
-    place: usize,
-) -> Value
-    requires { IsSheet grid.now (get nat_cmp nodes.now) (get nat_cmp values.now) }
+fn value_in(grid: &Grid, nodes: &BTreeMap<usize, Node>, place: usize) -> Value
+    requires grid { IsGrid grid.now }
+    requires settled { AreSettled (text_at grid.now) (stored (text_at grid.now) (kept_values (get nat_cmp nodes.now))) }
+    requires stuck { AreStuck (text_at grid.now) (stored (text_at grid.now) (kept_values (get nat_cmp nodes.now))) }
     ensures { result ≡ value_of (text_at grid.now) place }
 {
-    value_at(grid, nodes, values, place)
+    value_now(grid, nodes, place)
 }
 
 /// A grid and the values of its cells.
@@ -93,7 +64,8 @@ pub struct Sheet {
     alloc: Global,
     grid: Grid,
     nodes: BTreeMap<usize, Node>,
-    values: BTreeMap<usize, Value>,
+    readers: BTreeMap<usize, BTreeSet<usize>>,
+    links: usize,
 }
 
 impl Model for Sheet {
@@ -106,7 +78,7 @@ impl Model for Sheet {
 
     ghost view = { λ s. s.grid };
 
-    ghost invariant = { λ s. IsSheet s.grid (get nat_cmp s.nodes) (get nat_cmp s.values) };
+    ghost invariant = { λ s. IsSheet s.grid (get nat_cmp s.nodes) (get nat_cmp s.readers) s.links };
 }
 
 impl Sheet {
@@ -117,14 +89,23 @@ impl Sheet {
         ensures refused { IfErr result (IsSheetFault grid.now) }
     {
         let _rows = grid.rows();
-        let nodes = gather(alloc, grid)?;
+        let mut nodes = BTreeMap::new(alloc);
+        let links = match gather(alloc, grid, &mut nodes) {
+            Ok(links) => links,
+            Err(fault) => return Err(fault),
+        };
+        let formulas = places_of(alloc, &nodes)?;
+        let readers = readers_of(alloc, &nodes, &formulas)?;
         let values = values_of(alloc, grid, &nodes)?;
+        let places = places_of_values(alloc, &values)?;
+        take_over(&mut nodes, &values, &places);
         let grid = grid.try_copy()?;
         Ok(Sheet {
             alloc,
             grid,
             nodes,
-            values,
+            readers,
+            links,
         })
     }
 
@@ -140,8 +121,6 @@ impl Sheet {
 
     /// The same for the grid after a set of this cell. Gives the cells whose value is another than
     /// before, a text taken for the same as any text.
-    //
-    // This works out all values anew, in time that grows with the whole sheet.
     pub fn set(&mut self, grid: &Grid, row: usize, column: usize) -> Result<Changed, SheetFault>
         requires { (text : List ℕ) × (after_set self.old row column text ≡ Ok grid.now) }
         ensures grid { OnOk result (self.new ≡ grid.now) }
@@ -150,11 +129,20 @@ impl Sheet {
         ensures refused { IfErr result (IsSheetFault grid.now) }
         ensures kept { OnErr result (self.new ≡ self.old) }
     {
-        let _ = (row, column);
-        let sheet = Sheet::new(self.alloc, grid)?;
-        let cells = changes(self.alloc, self, &sheet)?;
-        *self = sheet;
-        Ok(Changed { cells })
+        let set = set_cell(
+            self.alloc,
+            &mut self.grid,
+            &mut self.nodes,
+            &mut self.readers,
+            &mut self.links,
+            grid,
+            row,
+            column,
+        );
+        match set {
+            Ok(cells) => Ok(Changed { cells }),
+            Err(fault) => Err(fault),
+        }
     }
 
     /// The text of the grid, with each formula cell's value in its place.
@@ -181,6 +169,6 @@ impl Sheet {
     pub(crate) fn at(&self, place: usize) -> Value
         ensures { result ≡ value_of (text_at self.now) place }
     {
-        value_in(&self.grid, &self.nodes, &self.values, place)
+        value_in(&self.grid, &self.nodes, place)
     }
 }

@@ -15,7 +15,8 @@ use std::alloc::{AllocError, Global};
 use std::collections::BTreeMap;
 use wopi_text::Memory;
 
-fn places_of(alloc: Global, nodes: &BTreeMap<usize, Node>) -> Result<Vec<usize>, AllocError>
+/// The places of the formula cells.
+pub fn places_of(alloc: Global, nodes: &BTreeMap<usize, Node>) -> Result<Vec<usize>, AllocError>
     ensures { IfOk result (λ places. places.items ≡ keys nodes.now) }
 {
     nodes.keys().copied().collect(alloc)
@@ -44,7 +45,7 @@ pub fn values_of(
 {
     let places = places_of(alloc, nodes)?;
     let mut values = start_over(alloc, &places)?;
-    let order = order_of(alloc, nodes, &places)?;
+    let order = order_of(alloc, nodes, &values, &places)?;
     let _left = sweep(alloc, grid, nodes, &order, &mut values)?;
     settle(alloc, grid, nodes, &places, &mut values)?;
     Ok(values)

@@ -1,4 +1,4 @@
-use Rattle.std.proofs.Common.{◌≡◌, ℕ, ◌+◌, ◌<◌, length, take, min, get_or, sym, ◌∙◌, ap, arith}
+use Rattle.std.proofs.Common.{◌≡◌, ℕ, ◌+◌, ◌<◌, length, take, min, sym, ◌∙◌, ap, arith}
 use Rattle.grid_formulas.specs.Places.{reads_of}
 use Rattle.grid_formulas.specs.declared.formula.Span.{Span}
 use Rattle.grid_formulas.proofs.Gathered.{reads_more}

@@ -1,14 +1,19 @@
-use Rattle.std.proofs.Common.{◌≡◌, ◌*◌, ◌+◌, ◌≤◌, length, sym, ◌∙◌, ap, subst, arith}
+use Rattle.std.proofs.Common.{◌≡◌, ◌*◌, length, ◌∙◌, ap, subst, arith}
 use Rattle.std.specs.BTreeMap.{get}
 use Rattle.std.specs.Ordering.{nat_cmp}
 use Rattle.grid_formulas.specs.Cells.{link_count, reads, sum_below}
 use Rattle.grid_formulas.specs.Places.{text_at}
 use Rattle.grid_formulas.specs.Sheets.{Gathers}
-use Rattle.grid_formulas.proofs.Gathered.{all_links, gathers_none, knows_all, sheet_fault}
+use Rattle.grid_formulas.proofs.Gathered.{all_links, gathers_none, knows_all}
 use Rattle.grid_formulas.proofs.gather.gather.Goals as goal
 
 pub rows-init : goal.rows-init
-rows-init c = gathers_none (text_at c.args.grid.now) (get nat_cmp c.new-nodes.result)
+rows-init c = gathers_none (text_at c.args.grid.now) (get nat_cmp c.args.nodes.now)
+
+pub returns-clause-counts : goal.returns-clause-counts
+returns-clause-counts c =
+    let at_end : c.rows.row * 1024 ≡ length c.args.grid.now * 1024 = omega arith in
+    c.rows.invariant.counts ∙ ap (sum_below (λ q. length (reads (text_at c.args.grid.now q)))) at_end ∙ all_links c.args.grid.now c.requires
 
 pub returns-clause-few : goal.returns-clause-few
 returns-clause-few c =

@@ -1,5 +1,5 @@
-use Rattle.std.proofs.Common.{◌≡◌, ℕ, ◌+◌, ◌-◌, ◌<◌, List, [], ◌∷◌, ◌++◌, length, Some, None, option_map, refl, sym, ◌∙◌, ap, arith, rules}
-use Rattle.grid_formulas.specs.Reading.{behind, product_at, sign_at, star_at, sum_at, unary_at}
+use Rattle.std.proofs.Common.{◌≡◌, ◌-◌, ◌<◌, [], ◌∷◌, ◌++◌, length, Some, None, option_map, sym, ◌∙◌, ap, arith}
+use Rattle.grid_formulas.specs.Reading.{behind, product_at, sign_at, star_at, unary_at}
 use Rattle.grid_formulas.proofs.ReaderLemmas.{adds_if_none, adds_if_some, adds_none, adds_some, more_ended, more_fails, more_goes_on, more_none, regroup, unary_negative, unary_parentheses, unary_plain}
 use Rattle.grid_formulas.proofs.reader.+readers.Goals as goal
 

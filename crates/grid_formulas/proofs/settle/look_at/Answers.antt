@@ -1,12 +1,10 @@
-use Rattle.std.proofs.Common.{◌≡◌, ◌≢◌, ℕ, false, true, Some, option_map, refl, sym, ◌∙◌, ap, ◌&&◌}
+use Rattle.std.proofs.Common.{◌≡◌, false, true, option_map, sym, ◌∙◌, ap, ◌&&◌}
 use Rattle.std.specs.BTreeMap.{get}
-use Rattle.std.specs.Option.{is_some}
 use Rattle.std.specs.Ordering.{nat_cmp}
 use Rattle.grid_formulas.specs.Places.{text_at}
 use Rattle.grid_formulas.specs.Reading.{formula_of, is_formula}
 use Rattle.grid_formulas.specs.Sheets.{formula_in, waits}
 use Rattle.grid_formulas.proofs.Looks.{and_false, apart_at, looked_quiet, looked_settled, looked_stuck}
-use Rattle.grid_formulas.proofs.Walks.{true_false}
 use Rattle.grid_formulas.proofs.settle.look_at.Goals as goal
 
 pub returns-then-not-is_formula : goal.returns-then-not-is_formula

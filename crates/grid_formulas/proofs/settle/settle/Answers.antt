@@ -1,4 +1,4 @@
-use Rattle.std.proofs.Common.{List, ℕ, ◌≡◌, length, sym, subst, arith}
+use Rattle.std.proofs.Common.{List, ℕ, ◌≡◌, length, subst, arith}
 use Rattle.std.specs.BTreeMap.{get}
 use Rattle.std.specs.Ordering.{nat_cmp}
 use Rattle.grid_formulas.specs.Sheets.{Sweeps}

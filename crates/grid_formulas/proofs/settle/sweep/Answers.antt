@@ -1,4 +1,4 @@
-use Rattle.std.proofs.Common.{false, true, List, ℕ, sym, subst, ◌∙◌, ap, ◌+◌, ◌++◌, ◌∷◌, []}
+use Rattle.std.proofs.Common.{List, ℕ, sym, subst, ◌∙◌, ap, ◌+◌}
 use Rattle.std.specs.BTreeMap.{get}
 use Rattle.std.specs.Ordering.{nat_cmp}
 use Rattle.std.specs.Prelude.{slice_index}

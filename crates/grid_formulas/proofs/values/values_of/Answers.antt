@@ -1,4 +1,4 @@
-use Rattle.std.proofs.Common.{sym, ◌∙◌, subst, List, ℕ}
+use Rattle.std.proofs.Common.{◌∙◌, subst, List, ℕ}
 use Rattle.std.specs.BTreeMap.{get, keys}
 use Rattle.std.specs.Ordering.{nat_cmp}
 use Rattle.grid_formulas.specs.Sheets.{Rests, StartsOver}
