@@ -1,4 +1,6 @@
-use crate::{Sheet, SheetFault, Value};
+ghost use Rattle.std.specs.Prelude.{◌≡◌, OnOk};
+
+use crate::{Changed, Sheet, SheetFault, Value};
 use grid_sheet::Grid;
 use std::alloc::Global;
 use std::process::Abort;
@@ -217,5 +219,63 @@ fn a_million_links_are_the_most(rt: HostRuntime) -> Result<(), Fail> {
         Ok(_) => assert!(rt; false),
         Err(fault) => assert_eq!(rt; fault, SheetFault::TooManyLinks),
     }
+    Ok(())
+}
+
+// Sets the cell in both, and gives the cells whose value is another.
+fn change(
+    alloc: Global,
+    grid: &mut Grid,
+    sheet: &mut Sheet,
+    row: usize,
+    column: usize,
+    cell: &str,
+) -> Result<Changed, Fail>
+    requires { sheet.old ≡ grid.old }
+    ensures { OnOk result (sheet.new ≡ grid.new) }
+{
+    grid.set(row, column, Bytes::from_slice(alloc, cell.as_bytes())?)?;
+    Ok(sheet.set(grid, row, column)?)
+}
+
+#[test]
+fn who_reads_a_cell_follows_its_formulas(rt: HostRuntime) -> Result<(), Fail> {
+    let alloc = rt.alloc();
+    let mut grid = Grid::read(alloc, b"=B1,2,3,=SUM(A2:C3)\n1,1,1\n1,1,1\n")?;
+    let mut sheet = Sheet::new(alloc, &grid)?;
+    let changed = change(alloc, &mut grid, &mut sheet, 3, 2, "7")?;
+    assert_eq!(rt; changed.as_slice(), [(1, 4), (3, 2)].as_slice());
+    assert_eq!(rt; sheet.value(1, 4), Value::Number(12));
+    let changed = change(alloc, &mut grid, &mut sheet, 1, 1, "=C1")?;
+    assert_eq!(rt; changed.as_slice(), [(1, 1)].as_slice());
+    let changed = change(alloc, &mut grid, &mut sheet, 1, 2, "9")?;
+    assert_eq!(rt; changed.as_slice(), [(1, 2)].as_slice());
+    let changed = change(alloc, &mut grid, &mut sheet, 1, 3, "4")?;
+    assert_eq!(rt; changed.as_slice(), [(1, 1), (1, 3)].as_slice());
+    let changed = change(alloc, &mut grid, &mut sheet, 1, 2, "=A1")?;
+    assert_eq!(rt; changed.as_slice(), [(1, 2)].as_slice());
+    let changed = change(alloc, &mut grid, &mut sheet, 1, 1, "=B1")?;
+    assert_eq!(rt; changed.as_slice(), [(1, 1), (1, 2)].as_slice());
+    assert_eq!(rt; sheet.value(1, 2), Value::Cycle);
+    let changed = change(alloc, &mut grid, &mut sheet, 1, 1, "x")?;
+    assert_eq!(rt; changed.as_slice(), [(1, 1), (1, 2)].as_slice());
+    assert_eq!(rt; sheet.value(1, 2), Value::KindFault);
+    Ok(())
+}
+
+#[test]
+fn a_set_under_100_000_formulas(rt: HostRuntime) -> Result<(), Fail> {
+    let alloc = rt.alloc();
+    let mut text = String::new(alloc);
+    text.push_str("1,=A1,=B1,=C1,=D1,=E1,=F1,=G1,=H1,=I1,=SUM(A1:J1)\n")?;
+    for row in 2..99_992u32 {
+        text.push_str(&format!(in alloc; "=B{row}+1\n")?)?;
+    }
+    let mut grid = Grid::read(alloc, text.as_bytes())?;
+    let mut sheet = Sheet::new(alloc, &grid)?;
+    let changed = change(alloc, &mut grid, &mut sheet, 1, 1, "5")?;
+    assert_eq!(rt; changed.as_slice().len(), 11);
+    assert_eq!(rt; sheet.value(1, 11), Value::Number(50));
+    assert_eq!(rt; sheet.value(99_991, 1), Value::Number(1));
     Ok(())
 }
