@@ -62,6 +62,7 @@ fn parts_of(words: &[String]) -> Parts
         },
         Some(Command::Serve) => parts_of_serve(words),
         Some(Command::Edit) => NONE,
+        Some(Command::Replay) => NONE,
         Some(Command::Token) => NONE,
         Some(Command::Help) => NONE,
         Some(Command::Version) => NONE,
