@@ -2,7 +2,7 @@
 //!
 //! The program can't hear a signal. Whoever wants it to end makes a file at a path that it was told
 //! when it began, and then connects to it once for each worker, so that each accept returns.
-ghost use Rattle.std.specs.Prelude.{◌≡◌, ◌≤◌, ◌-◌, ◌↔◌, false, IfOk, IsErr, None, Ok, vec_len};
+ghost use Rattle.std.specs.Prelude.{◌≡◌, ◌≤◌, ◌-◌, ◌↔◌, true, false, IfOk, IsErr, IsErrOf, None, Ok, map, vec_len};
 
 use outside::{Accepted, Listener, OutFault};
 use std::alloc::Global;
@@ -69,6 +69,9 @@ impl<'a, R: Files, N: Listener> StopListener<'a, R, N> {
 }
 
 impl<'a, R: Files, N: Listener> Listener for StopListener<'a, R, N> {
+    ghost use Rattle.outside.specs.Faults.{Rose};
+    ghost use Rattle.outside.specs.Listener.{Accepts, AcceptsNumber};
+
     type Link = N::Link;
 
     ghost links_left = { λ _. None };
@@ -83,7 +86,20 @@ impl<'a, R: Files, N: Listener> Listener for StopListener<'a, R, N> {
 
     ghost in_hand = { λ l. l.in_hand };
 
-    fn accept(&mut self) -> Result<Accepted<N::Link>, OutFault> {
+    fn accept(&mut self) -> Result<Accepted<N::Link>, OutFault>
+        ensures number { AcceptsNumber (N.accepted self.old.listener - self.old.turned_away) (N.accepted self.new.listener - self.new.turned_away) result }
+        ensures finished { N.finished self.new.listener - self.new.turned_away ≡ N.finished self.old.listener - self.old.turned_away }
+        ensures never_falls { N.faults self.old.listener ≤ N.faults self.new.listener }
+        ensures failed { IsErrOf result OutFault.Failed → Rose (N.faults self.old.listener) (N.faults self.new.listener) }
+
+        // While it stays open it answers what its listener answers.
+        ensures open { self.new.is_closed ≡ false → Accepts (N.links_left self.old.listener) (N.links_left self.new.listener) result }
+
+        // It closes by turning a link away, and then stays closed and asks nothing.
+        ensures closed { self.new.is_closed ≡ true → result ≡ Ok Accepted.Closed }
+        ensures closes { self.old.is_closed ≡ false → self.new.is_closed ≡ true → self.new.turned_away ≡ 1 }
+        ensures stays { self.old.is_closed ≡ true → self.new ≡ self.old }
+    {
         if self.is_closed {
             return Ok(Accepted::Closed);
         }
@@ -122,7 +138,8 @@ pub(crate) fn until_stopped<'a, R: Files, N: Listener>(
     path: Option<&'a str>,
     listeners: Vec<N>,
 ) -> Result<Vec<StopListener<'a, R, N>>, Memory>
-    ensures { IfOk result (λ all. vec_len all ≡ vec_len listeners) }
+    ensures count { IfOk result (λ all. vec_len all ≡ vec_len listeners) }
+    ensures listeners { IfOk result (λ all. map (λ one. one.listener) all.items ≡ listeners.items) }
 {
     let mut all = Vec::with_capacity(alloc, listeners.len())?;
     for listener in listeners {
