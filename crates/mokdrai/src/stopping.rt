@@ -14,7 +14,7 @@ use wopi_text::Memory;
 const STOP: &str = "MOKDRAI_STOP";
 
 /// What a variable comes to that could not be read: no path, or want of memory.
-fn no_path(error: VarError) -> Result<Option<String>, Memory>
+pub(crate) fn no_path(error: VarError) -> Result<Option<String>, Memory>
     ensures exact { IsErr result ↔ (error ≡ VarError.OutOfMemory) }
     ensures none { result ≡ Ok None ↔ ¬ (error ≡ VarError.OutOfMemory) }
 {
