@@ -1,11 +1,11 @@
 #!/usr/bin/env bash
-# Shows that SIGTERM and SIGINT end a `serve` in order: scripts/stop.sh [PROGRAM]
+# Shows that a signal ends a `serve` in order: scripts/stop.sh [PROGRAM]
 #
 # Starts PROGRAM (./mokdrai where it is left out) over a folder and a port of its own, with a connection that is in
 # the middle of a save when the signal comes, and finishes that save. The reply has to come, the save has to stand in
 # the folder and in the journal, no other connection may be served, and the status has to be 0. SIGTERM goes to the
 # script alone and to its group, as supervisors send it, SIGINT to the group, as a terminal sends it, and each also
-# twice. It is no part of the gate.
+# twice; SIGHUP and SIGQUIT go once. At last signals come before or as the host begins. It is no part of the gate.
 set -um
 top=$(cd "$(dirname "$(readlink -f "${BASH_SOURCE[0]}")")/.." && pwd)
 program=$(readlink -f "${1:-$top/mokdrai}")
@@ -38,6 +38,7 @@ begin_host() {
   find_port
   "$program" serve "$room/files" "$port" "$key" "http://localhost:$port" 2 >"$room/journal" 2>"$room/notes" &
   host=$!
+  [ "${1:-}" = early ] && return
   for _ in $(seq 200); do
     is_open && return
     sleep 0.1
@@ -103,11 +104,28 @@ run() {
   check 'the notes' '' "$(cat "$room/notes")"
 }
 
+# A signal so many seconds after the start. It ends the host in order, or the script before it has begun one.
+run_early() {
+  local ended
+  begin_host early
+  sleep "$1"
+  kill -s TERM "$host"
+  wait "$host" 2>/dev/null
+  ended="$? $(tail -n 1 "$room/journal")"
+  [ "$ended" = '143 ' ] || check "the status and the journal's end" '0 end' "$ended"
+}
+
 token=$("$program" token "$key" ann a.csv w 1 253402300000000 253402300799999) || exit 1
 run 'SIGTERM to the script' TERM:script
 run 'SIGTERM to the group' TERM:group
 run 'SIGINT to the group' INT:group
+run 'SIGHUP to the script' HUP:script
+run 'SIGQUIT to the group' QUIT:group
 run 'SIGTERM to the script, twice' TERM:script TERM:script
 run 'SIGINT to the group, twice' INT:group INT:group
+echo 'SIGTERM within half a second'
+for seconds in 0.05 0.1 0.15 0.2 0.25 0.3 0.35 0.4 0.45 0.5; do
+  run_early "$seconds"
+done
 echo "$faults faults"
 [ "$faults" -eq 0 ]
