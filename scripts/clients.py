@@ -6,9 +6,10 @@
 Starts PROGRAM (./mokdrai where it is left out) over a folder and a port of its own for each try: Python's http.client
 over one kept connection and with chunked bodies, pipelined requests, curl with `Expect: 100-continue`, a head that
 comes byte by byte, a client that goes away in the middle of a body, one that closes before it reads, a silent client
-beside another, nginx as a reverse proxy that keeps its connections, a restart at the same port, a port that is taken,
-and a folder of FILES files (10,000 where it is left out). It asks for curl and nginx where it finds them. Each host is
-ended by SIGTERM, and has to end with status 0 and a whole journal. It is no part of the gate.
+beside another, nginx as a reverse proxy that keeps its connections, a restart at the same port, an end while eight
+clients go on, a port that is taken, and a folder of FILES files (10,000 where it is left out). It asks for curl and
+nginx where it finds them. Each host is ended by SIGTERM, and has to end with status 0 and a whole journal. It is no
+part of the gate.
 """
 import hashlib
 import hmac
@@ -20,6 +21,7 @@ import socket
 import subprocess
 import sys
 import tempfile
+import threading
 import time
 
 KEY = "4a656665"
@@ -319,6 +321,31 @@ def restarted(program, room):
     return "three times"
 
 
+def ended_under_load(program, room):
+    host, counts = Host(program, room, 4), [0] * 8
+    connect(host.port).close()
+
+    def go_on(place):
+        for _ in range(400):
+            link = http.client.HTTPConnection("127.0.0.1", host.port, timeout=30)
+            try:
+                counts[place] += ask(link, None, None, "/contents", "GET") == b"1,2\n"
+            except (OSError, http.client.HTTPException):
+                return
+            finally:
+                link.close()
+
+    clients = [threading.Thread(target=go_on, args=(place,)) for place in range(len(counts))]
+    for client in clients:
+        client.start()
+    time.sleep(0.3)
+    acts = host.end()
+    for client in clients:
+        client.join()
+    must(len(acts) == sum(counts), f"{len(acts)} entries and {sum(counts)} replies")
+    return f"{len(acts)} replies of eight clients, and as many entries"
+
+
 def taken(program, room):
     host = Host(program, room, 1)
     connect(host.port).close()
@@ -363,6 +390,7 @@ TRIES = {
     "beside a silent client": silent,
     "through nginx": through_nginx,
     "a restart at the same port": restarted,
+    "ended under load": ended_under_load,
     "a port that is taken": taken,
     "many files": many_files,
 }
