@@ -4,12 +4,17 @@ pub mod Watching
 pub mod AskLemmas
 pub mod Turning
 pub mod Calling
+pub mod Rulings
 pub mod OneReply
 pub mod Delivered
+pub mod Shown
 pub mod Taken
+pub mod Counted
+pub mod Ended
 pub mod Copying
 pub mod Validity
 pub mod Lines
+pub mod Joining
 pub mod FirstWorld
 pub mod WorkedRows
 pub mod Generated

@@ -11,7 +11,7 @@ use Rattle.wopi_headers.specs.declared.ask.Op.TheVariants as op
 use Rattle.replay_cmd.specs.declared.schedule.ForeignAsk.{ForeignAsk}
 use Rattle.replay_cmd.specs.Grammar.{AreAsked, IsAsked, IsLockWord, yes_or_no}
 use Rattle.wopi_headers.specs.declared.ask.Target.TheVariants.{Suggested, Relative}
-use Rattle.replay_cmd.specs.Trace.{hex_text}
+use Rattle.replay_cmd.specs.Words.{hex_text}
 use Rattle.replay_cmd.specs.RowKinds.{IsBare, IsBareOp, IsCopy, IsLocked, IsLockedOp}
 
 -- ---- words that are equal

@@ -10,7 +10,7 @@ use Rattle.wopi_text.proofs.Decimals.{decimal_of-some, decimal_of-decimal}
 use Rattle.replay_cmd.specs.declared.schedule.Reference.{Reference}
 use Rattle.replay_cmd.specs.declared.schedule.Reference.TheVariants.{Number, Last}
 use Rattle.replay_cmd.specs.Grammar.{IsContents, IsCounted, IsLockWord, IsReference, reference_word}
-use Rattle.replay_cmd.specs.Trace.{hex_text}
+use Rattle.replay_cmd.specs.Words.{hex_text}
 
 -- ---- contents
 

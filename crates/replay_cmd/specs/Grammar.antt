@@ -20,7 +20,7 @@ use Rattle.replay_cmd.specs.declared.schedule.ForeignAsk.{ForeignAsk}
 use Rattle.replay_cmd.specs.declared.schedule.EventLine.{EventLine}
 use Rattle.replay_cmd.specs.declared.schedule.EventLine.TheVariants as line
 use Rattle.replay_cmd.specs.Schedules.{HasBody, HasTarget, Lines, IsSchedule, carried, most_contents}
-use Rattle.replay_cmd.specs.Trace.{hex_text}
+use Rattle.replay_cmd.specs.Words.{hex_text}
 
 -- the words of a line, which single spaces separate
 abbrev pub words_of : List ℕ → List (List ℕ)

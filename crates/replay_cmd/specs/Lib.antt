@@ -4,7 +4,11 @@ pub mod Hosts
 pub mod Stages
 pub mod Starts
 pub mod Steps
+pub mod Words
+pub mod Replying
 pub mod Trace
+pub mod Worlds
+pub mod Ends
 pub mod Generator
 pub mod Answers
 pub mod Histories

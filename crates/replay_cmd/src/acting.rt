@@ -1,35 +1,26 @@
 //! What comes to the sessions, and the time that goes on.
-ghost use Rattle.std.specs.Prelude.{◌≡◌, ◌≤◌, max, true, IfOk, IfSome, Some};
+ghost use Rattle.std.specs.Prelude.{◌≡◌, ◌≤◌, ◌∷◌, [], max, true, codes, decimal, IfOk, IfSome, Some};
+ghost use Rattle.save_session.specs.declared.input.Input.TheVariants.{NoAnswer};
 ghost use Rattle.wopi_model.specs.Moment.{IsMoment};
 ghost use Rattle.wopi_world.specs.Requests.{input_of};
 ghost use Rattle.wopi_world.specs.World as event;
 ghost use Rattle.replay_cmd.specs.Runs.{wish_of};
 ghost use Rattle.replay_cmd.specs.Sessions.{given_as};
-ghost use Rattle.replay_cmd.specs.Stages.{Follows};
+ghost use Rattle.replay_cmd.specs.Steps.{Follows};
+ghost use Rattle.replay_cmd.specs.Trace.{session_shown, answer_shown, now_shown};
 
 use crate::carrying::carry_answer;
 use crate::history::Item;
 use crate::lookups::{member_at, reply_at, request_at, waits_for};
-use crate::member::Did;
 use crate::schedule::Wish;
 use crate::sessions::step_at;
 use crate::stage::Stage;
 use crate::wire::Wire;
+use crate::words::{numbered_words, words_of};
 use save_session::Input;
 use std::alloc::Global;
 use wopi_headers::Answer;
-use wopi_text::Memory;
-
-/// What became of a reply.
-#[derive(Clone, Copy, Debug, PartialEq, Eq)]
-pub enum Handed {
-    /// There is no such reply.
-    Absent,
-    /// Nobody waits for it.
-    Late,
-    /// The session took it.
-    Taken { session: u64, did: Did },
-}
+use wopi_text::{Bytes, Memory};
 
 /// What a session makes of an answer, or of none.
 fn input_of(answer: Option<Answer>) -> Input
@@ -53,81 +44,110 @@ fn wished(alloc: Global, wish: &Wish) -> Result<Input, Memory>
     }
 }
 
+/// What is asked for isn't there.
+pub fn absent_words(alloc: Global) -> Result<Vec<Bytes>, Memory>
+    ensures { IfOk result (λ words. words.items ≡ codes "none" ∷ []) }
+{
+    words_of(alloc, &[b"none".as_slice()])
+}
+
+/// Nobody waits for a reply.
+fn late_words(alloc: Global) -> Result<Vec<Bytes>, Memory>
+    ensures { IfOk result (λ words. words.items ≡ codes "late" ∷ []) }
+{
+    words_of(alloc, &[b"late".as_slice()])
+}
+
+fn now_words(alloc: Global, now: u64) -> Result<Vec<Bytes>, Memory>
+    ensures { IfOk result (λ words. words.items ≡ codes "now" ∷ decimal now ∷ []) }
+{
+    numbered_words(alloc, b"now", now, Vec::new(alloc))
+}
+
 impl Stage {
-    /// Asks a session for something, and says what it did, if it is there.
-    pub fn ask(&mut self, session: u64, wish: &Wish) -> Result<Option<Did>, Memory>
-        ensures { IfOk result (λ _. Follows (event.Asks session (wish_of wish.now)) self.old self.new) }
+    /// Asks a session for something. The words of its line say what it did, or that it isn't there.
+    pub fn ask(&mut self, session: u64, wish: &Wish) -> Result<Vec<Bytes>, Memory>
+        ensures { IfOk result (λ words. Follows (event.Asks session (wish_of wish.now)) (session_shown session (input_of (wish_of wish.now))) self.old self.new words.items) }
     {
         let Some(_) = member_at(&self.members, session) else {
-            return Ok(None);
+            let absent = absent_words(self.alloc)?;
+            return Ok(absent);
         };
         let given = wished(self.alloc, wish)?;
-        let did = step_at(
+        let words = step_at(
             self.alloc,
             &mut self.members,
             &mut self.requests,
             session as usize,
             given,
         )?;
-        Ok(Some(did))
+        Ok(words)
     }
 
-    /// No answer comes to a session.
-    pub fn lose(&mut self, session: u64) -> Result<Option<Did>, Memory>
-        ensures { IfOk result (λ _. Follows (event.Lose session) self.old self.new) }
+    /// No answer comes to a session. The words of its line say what it did, or that it isn't there.
+    pub fn lose(&mut self, session: u64) -> Result<Vec<Bytes>, Memory>
+        ensures { IfOk result (λ words. Follows (event.Lose session) (session_shown session NoAnswer) self.old self.new words.items) }
     {
         let Some(_) = member_at(&self.members, session) else {
-            return Ok(None);
+            let absent = absent_words(self.alloc)?;
+            return Ok(absent);
         };
-        let did = step_at(
+        let words = step_at(
             self.alloc,
             &mut self.members,
             &mut self.requests,
             session as usize,
             Input::NoAnswer,
         )?;
-        Ok(Some(did))
+        Ok(words)
     }
 
-    /// Hands the reply at a place to the session that waits for it.
-    pub fn answer<W: Wire>(&mut self, wire: &mut W, place: u64) -> Result<Handed, Memory>
-        ensures follows { W.is_straight wire.old ≡ true → IfOk result (λ _. Follows (event.Answer place) self.old self.new) }
+    /// Hands the reply at a place to the session that waits for it. The words of its line say what the
+    /// session did, that nobody waits for the reply, or that there is none.
+    pub fn answer<W: Wire>(&mut self, wire: &mut W, place: u64) -> Result<Vec<Bytes>, Memory>
+        ensures follows { W.is_straight wire.old ≡ true → IfOk result (λ words. Follows (event.Answer place) (answer_shown place) self.old self.new words.items) }
         ensures straight { W.is_straight wire.old ≡ true → W.is_straight wire.new ≡ true }
     {
         let Some(reply) = reply_at(&self.replies, place) else {
-            return Ok(Handed::Absent);
+            let absent = absent_words(self.alloc)?;
+            return Ok(absent);
         };
         let Some(asked) = reply.request else {
-            return Ok(Handed::Late);
+            let late = late_words(self.alloc)?;
+            return Ok(late);
         };
         let Some(request) = request_at(&self.requests, asked) else {
-            return Ok(Handed::Late);
+            let late = late_words(self.alloc)?;
+            return Ok(late);
         };
         let session = request.sender;
         let Some(member) = member_at(&self.members, session) else {
-            return Ok(Handed::Late);
+            let late = late_words(self.alloc)?;
+            return Ok(late);
         };
         if !waits_for(member, asked) {
-            return Ok(Handed::Late);
+            let late = late_words(self.alloc)?;
+            return Ok(late);
         }
         let given = input_of(carry_answer(self.alloc, wire, &reply.answer)?);
-        let did = step_at(
+        let words = step_at(
             self.alloc,
             &mut self.members,
             &mut self.requests,
             session as usize,
             given,
         )?;
-        Ok(Handed::Taken { session, did })
+        Ok(words)
     }
 
-    /// Time goes on to a moment, and it tells the time then.
-    pub fn tick(&mut self, moment: u64) -> Result<u64, Memory>
+    /// Time goes on to a moment. The words of its line tell the time then.
+    pub fn tick(&mut self, moment: u64) -> Result<Vec<Bytes>, Memory>
         requires { IsMoment moment }
-        ensures { IfOk result (λ _. Follows (event.Ticks moment) self.old self.new) }
+        ensures { IfOk result (λ words. Follows (event.Ticks moment) (now_shown moment) self.old self.new words.items) }
     {
         let now = self.host.settle_to(moment);
         self.history.push(Item::Tick { moment })?;
-        Ok(now)
+        let words = now_words(self.alloc, now)?;
+        Ok(words)
     }
 }

@@ -6,13 +6,13 @@
 //! that a client writes, and the host's reader takes it from them; each reply that a session takes
 //! goes back as bytes in the same way. Between the two ends lies a [`Wire`]. Over one that gives back
 //! what it is given, the run shows the world of wopi_world to which the schedule leads, and that
-//! world is safe.
-//!
-//! No command uses this crate yet, and nothing is written of a run.
+//! world is safe. [`trace_text`] writes what each event showed and how the files were left,
+//! [`summary_text`] how much was sent, answered, refused and saved.
 #![tactic(auto)]
 
 mod acting;
 mod carrying;
+mod counting;
 mod delivering;
 mod drawing;
 mod event_rows;
@@ -32,24 +32,27 @@ mod replies;
 mod running;
 mod schedule;
 mod sessions;
+mod showing;
 mod splitting;
 mod stage;
 mod starting;
+mod tracing;
 mod values;
 mod watched;
 mod wire;
+mod words;
 mod world;
 
-pub use acting::Handed;
 pub use exchanging::exchange;
 pub use generating::generate;
 pub use history::Item;
-pub use member::{Did, Member, Request, Told};
+pub use member::{Member, Request, Told};
 pub use reading::ScheduleFault;
 pub use reading_laws::{a_schedule_has_no_bad_line, a_text_has_one_bad_line};
 pub use replies::Reply;
 pub use schedule::{EventLine, FileLine, ForeignAsk, Reference, Schedule, SessionLine, Wish};
 pub use stage::Stage;
+pub use tracing::{summary_text, trace_text};
 pub use watched::Watched;
 pub use wire::{ScriptWire, Straight, Wire};
 pub use world::World;

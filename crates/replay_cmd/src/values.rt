@@ -3,7 +3,7 @@ ghost use Rattle.std.specs.Prelude.{◌≡◌, ◌≢◌, ◌↔◌, ◌≤◌, 
 ghost use Rattle.hex.specs.Hex.{decode_of};
 ghost use Rattle.replay_cmd.specs.Grammar.{IsContents, IsCounted, IsLockOrNone, IsLockWord, IsReference, lock_word, reference_word, yes_or_no};
 ghost use Rattle.replay_cmd.specs.declared.schedule.Reference.{Reference};
-ghost use Rattle.replay_cmd.specs.Trace.{hex_text};
+ghost use Rattle.replay_cmd.specs.Words.{hex_text};
 
 use crate::Reference;
 use hex::FromHexError;

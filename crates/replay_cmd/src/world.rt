@@ -2,20 +2,21 @@
 ghost use Rattle.std.specs.Prelude.{◌≡◌, true, IfOk};
 ghost use Rattle.wopi_world.specs.Safe.{IsSafe};
 ghost use Rattle.replay_cmd.specs.Runs.{setting_of, world_of};
-ghost use Rattle.replay_cmd.specs.Stages.{IsStageOf};
+ghost use Rattle.replay_cmd.specs.Worlds.{IsRunOf};
 
 use crate::schedule::Schedule;
 use crate::stage::Stage;
 use crate::starting::start;
 use crate::wire::Wire;
 use std::alloc::Global;
-use wopi_text::Memory;
+use wopi_text::{Bytes, Memory};
 use wopi_world::laws::safe_always;
 
-/// The world after the last event of a schedule.
+/// The world after the last event of a schedule, and what its events showed, a line each.
 #[derive(Drop)]
 pub struct World {
     pub stage: Stage,
+    pub trace: Bytes,
 }
 
 impl World {
@@ -24,12 +25,12 @@ impl World {
     /// a session takes. Want of memory stands also for a store fault, for a full shard and for a
     /// message that wouldn't be read back as it was written; a schedule meets none of these.
     pub fn run<W: Wire>(alloc: Global, schedule: &Schedule, wire: &mut W) -> Result<World, Memory>
-        ensures runs { W.is_straight wire.old ≡ true → IfOk result (λ world. IsStageOf (setting_of schedule.now) world.stage (world_of schedule.now)) }
+        ensures runs { W.is_straight wire.old ≡ true → IfOk result (IsRunOf schedule.now) }
         ensures safe { IfOk result (λ _. IsSafe (setting_of schedule.now) (world_of schedule.now)) }
     {
         safe_always();
         let mut stage = start(alloc, schedule)?;
-        stage.lines(wire, schedule.events())?;
-        Ok(World { stage })
+        let trace = stage.lines(wire, schedule.events())?;
+        Ok(World { stage, trace })
     }
 }

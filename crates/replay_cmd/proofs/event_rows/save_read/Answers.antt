@@ -1,7 +1,7 @@
 use Rattle.std.proofs.Common.{◌≡◌, ◌∷◌, [], ◌+◌, rules}
 use Rattle.std.specs.Prelude.{codes, decimal}
 use Rattle.replay_cmd.specs.Grammar.{IsContents, words_of}
-use Rattle.replay_cmd.specs.Trace.{hex_text}
+use Rattle.replay_cmd.specs.Words.{hex_text}
 use Rattle.replay_cmd.proofs.event_rows.save_read.Goals as goal
 
 pub returns-clause-some : goal.returns-clause-some

@@ -2,7 +2,7 @@ use Rattle.std.specs.Prelude.{codes, ◌≡◌}
 use Rattle.std.proofs.Common.{length, sym, ap, ◌∙◌, rules}
 use Rattle.wopi_text.specs.FileName.{IsFileName}
 use Rattle.replay_cmd.specs.Grammar.{IsContents}
-use Rattle.replay_cmd.specs.Trace.{hex_text}
+use Rattle.replay_cmd.specs.Words.{hex_text}
 use Rattle.replay_cmd.proofs.RowForms.{three_same}
 use Rattle.replay_cmd.proofs.opening_rows.file_read.Goals as goal
 

@@ -11,7 +11,7 @@ returns-in_default-clause-follows g c =
     let stage = c.args.self.now in
     λ straight setting world shows.
     absent setting stage.desk.key stage.host.shard stage.history.items stage.requests.items stage.replies.items stage.members.items world shows c.args.place
-    (not_found c.deref.result.now stage.replies.items c.args.place c.deref.ensures.value c.in_default.ensures)
+    c.in_ok-absent.absent.items (not_found c.deref.result.now stage.replies.items c.args.place c.deref.ensures.value c.in_default.ensures) c.in_ok-absent.ensures
 
 pub returns-in_default-request-clause-follows : goal.returns-in_default-request-clause-follows
 returns-in_default-request-clause-follows g c =
@@ -19,7 +19,7 @@ returns-in_default-request-clause-follows g c =
     let reply = c.in-Some.reply.now in
     λ straight setting world shows.
     late_foreign setting stage.desk.key stage.host.shard stage.history.items stage.requests.items stage.replies.items stage.members.items world shows c.args.place
-    reply (looked_up c.deref.result.now stage.replies.items c.args.place reply c.deref.ensures.value c.in-Some.ensures) (is_none reply.request c.in_default-request.not-Some)
+    reply (looked_up c.deref.result.now stage.replies.items c.args.place reply c.deref.ensures.value c.in-Some.ensures) c.in_ok-late.late.items (is_none reply.request c.in_default-request.not-Some) c.in_ok-late.ensures
 
 pub returns-in_default-request_at-clause-follows : goal.returns-in_default-request_at-clause-follows
 returns-in_default-request_at-clause-follows g c =
@@ -29,7 +29,7 @@ returns-in_default-request_at-clause-follows g c =
     λ straight setting world shows.
     late_request setting stage.desk.key stage.host.shard stage.history.items stage.requests.items stage.replies.items stage.members.items world shows c.args.place
     reply (looked_up c.deref.result.now stage.replies.items c.args.place reply c.deref.ensures.value c.in-Some.ensures) asked c.in-Some-request.is
-    (not_found c.deref-2.result.now stage.requests.items asked c.deref-2.ensures.value c.in_default-request_at.ensures)
+    c.in_ok-late-2.late.items (not_found c.deref-2.result.now stage.requests.items asked c.deref-2.ensures.value c.in_default-request_at.ensures) c.in_ok-late-2.ensures
 
 pub returns-in_default-member_at-clause-follows : goal.returns-in_default-member_at-clause-follows
 returns-in_default-member_at-clause-follows g c =
@@ -41,7 +41,7 @@ returns-in_default-member_at-clause-follows g c =
     late_member setting stage.desk.key stage.host.shard stage.history.items stage.requests.items stage.replies.items stage.members.items world shows c.args.place
     reply (looked_up c.deref.result.now stage.replies.items c.args.place reply c.deref.ensures.value c.in-Some.ensures) asked c.in-Some-request.is
     request (looked_up c.deref-2.result.now stage.requests.items asked request c.deref-2.ensures.value c.in-Some-request_at.ensures)
-    (not_found c.deref-3.result.now stage.members.items request.sender c.deref-3.ensures.value c.in_default-member_at.ensures)
+    c.in_ok-late-3.late.items (not_found c.deref-3.result.now stage.members.items request.sender c.deref-3.ensures.value c.in_default-member_at.ensures) c.in_ok-late-3.ensures
 
 pub returns-then-not-waits_for-clause-follows : goal.returns-then-not-waits_for-clause-follows
 returns-then-not-waits_for-clause-follows g c =
@@ -54,7 +54,7 @@ returns-then-not-waits_for-clause-follows g c =
     late_waiting setting stage.desk.key stage.host.shard stage.history.items stage.requests.items stage.replies.items stage.members.items world shows c.args.place
     reply (looked_up c.deref.result.now stage.replies.items c.args.place reply c.deref.ensures.value c.in-Some.ensures) asked c.in-Some-request.is
     request (looked_up c.deref-2.result.now stage.requests.items asked request c.deref-2.ensures.value c.in-Some-request_at.ensures)
-    member (looked_up c.deref-3.result.now stage.members.items request.sender member c.deref-3.ensures.value c.in-Some-member_at.ensures) (sym c.if-not-waits_for.ensures)
+    member (looked_up c.deref-3.result.now stage.members.items request.sender member c.deref-3.ensures.value c.in-Some-member_at.ensures) c.in_ok-late-4.late.items (sym c.if-not-waits_for.ensures) c.in_ok-late-4.ensures
 
 pub step_at-requires : goal.step_at-requires
 step_at-requires g c =
@@ -77,5 +77,5 @@ returns-clause-follows g c =
     reply (looked_up c.deref.result.now stage.replies.items c.args.place reply c.deref.ensures.value c.in-Some.ensures) asked c.in-Some-request.is
     request (looked_up c.deref-2.result.now stage.requests.items asked request c.deref-2.ensures.value c.in-Some-request_at.ensures)
     member (looked_up c.deref-3.result.now stage.members.items request.sender member c.deref-3.ensures.value c.in-Some-member_at.ensures)
-    after.requests.items after.members.items c.in_ok-carry_answer.field-0 c.in_ok-did.did (sym c.if-not-waits_for.ensures) (c.in_ok-carry_answer.ensures.back straight)
-    (subst (λ (given : Input). StepsIn stage.members.items after.members.items stage.requests.items after.requests.items request.sender given c.in_ok-did.did) c.input_of-given.ensures c.in_ok-did.ensures)
+    after.requests.items after.members.items c.in_ok-carry_answer.field-0 c.in_ok-words.words.items (sym c.if-not-waits_for.ensures) (c.in_ok-carry_answer.ensures.back straight)
+    (subst (λ (given : Input). StepsIn stage.members.items after.members.items stage.requests.items after.requests.items request.sender given c.in_ok-words.words.items) c.input_of-given.ensures c.in_ok-words.ensures)
