@@ -1,3 +1,5 @@
 mod reading;
 mod runs;
+mod schedules;
+mod traces;
 mod wires;
