@@ -1,6 +1,6 @@
 -- A file that has contents has a version.
-use Rattle.std.proofs.Common.{◌≡◌, ◌==◌, ℕ, zero, suc, ◌+◌, ◌<◌, List, [], ◌∷◌, length, Option, None, Some, unwrap_or, refl, sym, arith}
-use Rattle.std.proofs.lemmas.Bool.{cond_both}
+use Rattle.std.proofs.Common.{◌≡◌, ◌==◌, ℕ, zero, suc, ◌+◌, ◌<◌, List, [], ◌∷◌, length, Option, None, Some, IsSome, is_some, unwrap_or, refl, sym, ap, ◌∙◌, arith}
+use Rattle.std.proofs.lemmas.Bool.{cond_both, false≢true}
 use Rattle.std.specs.Str.{bytes_eq}
 use Rattle.wopi_model.specs.declared.calls.Act.{Act}
 use Rattle.wopi_model.specs.declared.calls.Act.TheVariants as act
@@ -71,3 +71,7 @@ uncounted file h none = (by_version file.version none, by_contents file.contents
     by_contents : (contents : Option (List ℕ)) → ((bytes : List ℕ) → contents ≡ Some bytes → 0 < file.version) → 0 ≡ length (unwrap_or contents [])
     by_contents None h = refl
     by_contents (Some bytes) h = absurd (none (h bytes refl))
+
+-- what is there isn't absent
+pub not_there : {A : Type 0} (found : Option A) → found ≡ None → IsSome found → ⊥
+not_there found none there = false≢true (sym (ap is_some none) ∙ there)

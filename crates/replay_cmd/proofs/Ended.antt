@@ -2,7 +2,7 @@
 use Rattle.std.proofs.Common.{◌≡◌, ◌==◌, ℕ, zero, suc, ◌+◌, ◌≤◌, ◌<◌, Bool, true, false, cond, List, [], ◌∷◌, ◌++◌, length, map, filter, take, Option, None, Some, codes, decimal, refl, sym, ap, ◌∙◌, subst, arith}
 use Rattle.std.specs.Prelude.{sum_by}
 use Rattle.std.specs.List.{slice_get, flat_map}
-use Rattle.std.proofs.lemmas.List.{length-map}
+use Rattle.std.proofs.lemmas.List.{length-map, flat_map_more}
 use Rattle.std.proofs.Math.Seq.{take-length}
 use Rattle.std.proofs.lemmas.List.Sums.{sum_by-cons, sum_by-append}
 use Rattle.wopi_model.specs.Shard.{Shard, AreNames, at_moment}
@@ -20,6 +20,7 @@ use Rattle.replay_cmd.specs.declared.world.World.{World as KeptWorld}
 use Rattle.replay_cmd.specs.Schedules.{Lines}
 use Rattle.replay_cmd.specs.Runs.{clients_from, setting_of, world_of}
 use Rattle.replay_cmd.specs.Hosts.{StandsFor}
+use Rattle.replay_cmd.specs.Replying.{file_in}
 use Rattle.replay_cmd.specs.Answers.{AreReplies}
 use Rattle.replay_cmd.specs.Members.{told_kept, ShowsSessions, request_kept}
 use Rattle.replay_cmd.specs.Stages.{Shows}
@@ -71,6 +72,18 @@ take_next : {T : Type 0} (xs : List T) (n : ℕ) (x : T) → slice_get xs n ≡ 
 take_next [] n x e = cc
 take_next (y ∷ xs) zero x e = let same : y ≡ x = cc in ap (λ z. z ∷ []) same
 take_next (y ∷ xs) (suc n) x e = ap (λ l. y ∷ l) (take_next xs n x e)
+
+-- a file more
+pub ends_more : {F : Type 0} (book : Book F) (names : List (List ℕ)) (k : ℕ) (name : List ℕ) (old text text' : List ℕ) → Some name ≡ slice_get names k
+    → text ≡ old ++ ends_in book (take k names) → text' ≡ text ++ line_text (file_shown name (file_in book name)) → text' ≡ old ++ ends_in book (take (k + 1) names)
+ends_more book names k name old text text' at so_far grew =
+    let next : k + 1 ≡ suc k = omega arith in
+    let shown : List ℕ → List ℕ = λ one. line_text (file_shown one (file_in book one)) in
+    grew
+    ∙ ap (λ (t : List ℕ). t ++ shown name) so_far
+    ∙ flat_map_more shown old (take k names) name
+    ∙ ap (λ (l : List (List ℕ)). old ++ ends_in book l) (sym (take_next names k name (sym at)))
+    ∙ ap (λ (n : ℕ). old ++ ends_in book (take n names)) (sym next)
 
 saved_upto : (key : List ℕ) (clients : List Client) (members : List Member) (requests : List Request) (world : World) → ShowsSessions key clients members requests world
     → (n : ℕ) → n ≤ length clients → saved_by world n ≡ sum_by saved_by_one (take n members)

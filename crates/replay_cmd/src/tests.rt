@@ -1,5 +1,4 @@
 mod reading;
 mod runs;
-mod schedules;
 mod traces;
 mod wires;
