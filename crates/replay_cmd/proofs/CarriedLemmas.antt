@@ -1,5 +1,5 @@
 -- What comes over a straight wire.
-use Rattle.std.proofs.Common.{◌≡◌, ◌+◌, ℕ, arith, Bool, false, true, List, [], ◌++◌, length, sym, ap, subst, ◌∙◌}
+use Rattle.std.proofs.Common.{◌≡◌, ◌+◌, ℕ, arith, false, true, List, [], ◌++◌, length, sym, ap, subst, ◌∙◌}
 use Rattle.std.proofs.lemmas.List.{append-nil, length-append}
 use Rattle.wopi_http.specs.declared.message.Request.{Request}
 use Rattle.wopi_http.specs.declared.message.Reply.{Reply}

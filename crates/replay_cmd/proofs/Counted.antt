@@ -1,12 +1,12 @@
 -- A file that has contents has a version.
-use Rattle.std.proofs.Common.{◌≡◌, ◌==◌, ℕ, zero, suc, ◌+◌, ◌<◌, List, [], ◌∷◌, length, Option, None, Some, IsSome, is_some, unwrap_or, refl, sym, ap, ◌∙◌, arith}
+use Rattle.std.proofs.Common.{◌≡◌, ◌==◌, ℕ, zero, suc, ◌<◌, List, [], ◌∷◌, length, Option, None, Some, IsSome, is_some, unwrap_or, refl, sym, ap, ◌∙◌, arith}
 use Rattle.std.proofs.lemmas.Bool.{cond_both, false≢true}
 use Rattle.std.specs.Str.{bytes_eq}
 use Rattle.wopi_model.specs.declared.calls.Act.{Act}
 use Rattle.wopi_model.specs.declared.calls.Act.TheVariants as act
 use Rattle.wopi_model.specs.declared.calls.Call.{Call}
 use Rattle.wopi_model.specs.declared.calls.Ruling.{Ruling}
-use Rattle.wopi_model.specs.File.{File, never_met, opened_with}
+use Rattle.wopi_model.specs.File.{File, opened_with}
 use Rattle.wopi_model.specs.Step.{Decision, Refuse, Conflict, Accept, decision, contents_after, version_after, file_of, after_step}
 use Rattle.wopi_model.specs.Shard.{Shard, Opening, Item, Tick, Step, Entry, opening_file, opened_shard, at_moment, after_entry, happens, after}
 use Rattle.host_core.specs.Entries.{history_of}

@@ -1,15 +1,11 @@
 -- A schedule as far as its text was read.
-use Rattle.std.proofs.Common.{◌≡◌, ℕ, Bool, true, false, ◌+◌, ◌-◌, ◌<◌, ◌≤◌, ◌⊎◌, inl, inr, List, [], ◌∷◌, ◌++◌, length, take, refl, sym, ap, ◌∙◌, subst, arith}
+use Rattle.std.proofs.Common.{◌≡◌, ℕ, true, false, ◌+◌, ◌-◌, ◌<◌, ◌≤◌, inl, inr, List, [], ◌∷◌, ◌++◌, length, take, refl, sym, ap, ◌∙◌, subst, arith}
 use Rattle.std.proofs.lemmas.List.{append_assoc, append-nil, length-append, take_at}
-use Rattle.std.specs.List.{AllByRecursion}
-use Rattle.replay_cmd.specs.declared.schedule.FileLine.{FileLine}
-use Rattle.replay_cmd.specs.declared.schedule.SessionLine.{SessionLine}
-use Rattle.replay_cmd.specs.declared.schedule.EventLine.{EventLine}
 use Rattle.replay_cmd.specs.declared.one_line.AnyLine.{AnyLine}
 use Rattle.replay_cmd.specs.declared.reading.Reader.{Reader}
 use Rattle.replay_cmd.specs.Schedules.{IsSchedule, Lines}
-use Rattle.replay_cmd.specs.Grammar.{AreRows, IsBadLine, IsEventRow, IsFileRow, IsSessionRow, IsText, most_bytes, most_rows, rows_of, says}
-use Rattle.replay_cmd.specs.Readings.{Fits, HasNames, IsLine, IsRefused, IsTaken, lines_in, names_of, with_line}
+use Rattle.replay_cmd.specs.Grammar.{AreRows, IsBadLine, IsText, most_rows, rows_of, says}
+use Rattle.replay_cmd.specs.Readings.{HasNames, IsLine, IsRefused, IsTaken, lines_in, names_of, with_line}
 use Rattle.replay_cmd.proofs.Growing.{all_front, count_of, fits_there, said_next, silent_next}
 use Rattle.replay_cmd.proofs.LastRow.{last_row, silent_last}
 use Rattle.replay_cmd.proofs.SameRows.{Alike, alike_next, fits_alike}

@@ -1,5 +1,5 @@
 -- Two readings of one row want the same of the lines before it.
-use Rattle.std.proofs.Common.{◌≡◌, ◌≢◌, ◌↔◌, ℕ, zero, suc, Bool, true, false, ◌+◌, ◌<◌, ◌≤◌, ◌^◌, ◌⊎◌, inl, inr, if◌then◌else◌, cond, List, [], ◌∷◌, ◌++◌, Option, None, Some, length, map, refl, sym, ap, ◌∙◌, subst, arith}
+use Rattle.std.proofs.Common.{◌≡◌, ◌↔◌, ℕ, zero, suc, Bool, true, false, ◌+◌, ◌<◌, ◌≤◌, ◌^◌, ◌⊎◌, inl, inr, if◌then◌else◌, List, [], ◌∷◌, ◌++◌, None, Some, length, refl, sym, ap, ◌∙◌, subst, arith}
 use Rattle.std.specs.Prelude.{codes, decimal, ⊤}
 use Rattle.std.specs.List.{slice_get}
 use Rattle.std.specs.Str.{bytes_eq}
@@ -18,13 +18,12 @@ use Rattle.save_session.specs.LockIds.{BeginsWith}
 use Rattle.wopi_world.specs.Requests.{act_with}
 use Rattle.replay_cmd.specs.declared.schedule.FileLine.{FileLine}
 use Rattle.replay_cmd.specs.declared.schedule.SessionLine.{SessionLine}
-use Rattle.replay_cmd.specs.declared.schedule.EventLine.{EventLine}
 use Rattle.replay_cmd.specs.declared.schedule.EventLine.TheVariants as line
 use Rattle.replay_cmd.specs.declared.schedule.Wish.TheVariants as wish
 use Rattle.replay_cmd.specs.declared.one_line.AnyLine.{AnyLine}
 use Rattle.replay_cmd.specs.declared.one_line.AnyLine.TheVariants.{File, Session, Event}
 use Rattle.replay_cmd.specs.Schedules.{Lines}
-use Rattle.replay_cmd.specs.Grammar.{AreAsked, IsCounted, IsEventRow, IsLockWord, IsSessionRow, words_of}
+use Rattle.replay_cmd.specs.Grammar.{AreAsked, IsCounted, IsLockWord, IsSessionRow, words_of}
 use Rattle.replay_cmd.specs.Readings.{Fits, HasNonce, IsLine, is_among, names_of, with_line}
 use Rattle.replay_cmd.proofs.RowForms.{four_same, three_same}
 

@@ -1,5 +1,5 @@
 -- What a session did is shown as the machine's turn.
-use Rattle.std.proofs.Common.{◌≡◌, ℕ, ◌+◌, List, [], ◌∷◌, length, codes, decimal, Option, None, Some, refl, sym, ap, ◌∙◌, subst}
+use Rattle.std.proofs.Common.{◌≡◌, ℕ, ◌+◌, List, ◌∷◌, length, codes, decimal, Option, Some, refl, sym, ap, ◌∙◌, subst}
 use Rattle.std.specs.List.{slice_get}
 use Rattle.std.proofs.lemmas.List.{length-map}
 use Rattle.save_session.specs.declared.input.Input.{Input}
@@ -12,13 +12,13 @@ use Rattle.save_session.specs.declared.output.Outcome.{Outcome}
 use Rattle.save_session.specs.declared.state.Turn.{Turn}
 use Rattle.save_session.specs.Session.{stepped, output_of, op_of, body_of, body_while, contents_with}
 use Rattle.wopi_world.specs.Requests.{Client}
-use Rattle.wopi_world.specs.World.{Setting, World}
+use Rattle.wopi_world.specs.World.{World}
 use Rattle.replay_cmd.specs.declared.member.Request.{Request}
 use Rattle.replay_cmd.specs.declared.member.Member.{Member}
 use Rattle.replay_cmd.specs.Sessions.{WaitsFor, IsSameTurn, IsSameEffect}
 use Rattle.replay_cmd.specs.Members.{StepsTo, StepsIn, IsMember, ShowsSessions, request_kept}
 use Rattle.replay_cmd.specs.Words.{operation_shown, outcome_shown, output_shown}
-use Rattle.replay_cmd.specs.Trace.{effect_shown, turn_shown, client_shown, session_shown}
+use Rattle.replay_cmd.specs.Trace.{effect_shown, turn_shown, client_shown}
 use Rattle.replay_cmd.proofs.Machines.{stepped_waits}
 
 by_effect : (nonce : List ℕ) (s count : ℕ) (session : State) (effect : Effect) → WaitsFor effect session

@@ -1,15 +1,13 @@
 -- What the words of a line say.
-use Rattle.std.proofs.Common.{All, ◌≡◌, ◌≢◌, ◌↔◌, ◌==◌, ℕ, Bool, true, ◌<◌, ◌≤◌, ◌+◌, ◌-◌, List, [], ◌∷◌, length, get_or, drop, Ok, Option, None, Some, IsSome, refl, sym, ap, ◌∙◌, subst, arith}
-use Rattle.std.specs.Prelude.{codes, slice_index, decimal}
+use Rattle.std.proofs.Common.{All, ◌≡◌, ◌≢◌, ◌↔◌, ◌==◌, ℕ, Bool, true, ◌<◌, ◌≤◌, ◌+◌, ◌-◌, List, [], ◌∷◌, length, get_or, drop, Ok, Option, None, Some, sym, ap, ◌∙◌, subst, arith}
+use Rattle.std.specs.Prelude.{codes, decimal}
 use Rattle.std.proofs.lemmas.Bool.{eqb-true}
 use Rattle.hex.specs.Hex.{decode_of, encode_lower, lower_digits}
 use Rattle.hex.proofs.HexLemmas.{decode_of-encode_lower, decode_of-ok, length-encode_with}
 use Rattle.wopi_text.specs.Decimals.{decimal_of}
-use Rattle.wopi_text.specs.LockId.{IsLockId, IsPrintable}
+use Rattle.wopi_text.specs.LockId.{IsLockId}
 use Rattle.wopi_text.proofs.Decimals.{decimal_of-some, decimal_of-decimal}
-use Rattle.replay_cmd.specs.declared.schedule.Reference.{Reference}
-use Rattle.replay_cmd.specs.declared.schedule.Reference.TheVariants.{Number, Last}
-use Rattle.replay_cmd.specs.Grammar.{IsContents, IsCounted, IsLockWord, IsReference, reference_word}
+use Rattle.replay_cmd.specs.Grammar.{IsContents, IsCounted, IsLockWord}
 use Rattle.replay_cmd.specs.Words.{hex_text}
 
 -- ---- contents

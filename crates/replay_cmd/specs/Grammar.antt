@@ -8,7 +8,6 @@ use Rattle.wopi_model.specs.Moment.{IsMoment}
 use Rattle.save_session.specs.Nonce.{IsNonce}
 use Rattle.wopi_headers.specs.declared.ask.Op.{Op}
 use Rattle.wopi_headers.specs.declared.ask.Op.TheVariants as op
-use Rattle.wopi_headers.specs.declared.ask.Target.{Target}
 use Rattle.wopi_headers.specs.declared.ask.Target.TheVariants.{Suggested, Relative}
 use Rattle.replay_cmd.specs.declared.schedule.FileLine.{FileLine}
 use Rattle.replay_cmd.specs.declared.schedule.SessionLine.{SessionLine}

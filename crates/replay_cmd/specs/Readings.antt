@@ -14,7 +14,7 @@ use Rattle.replay_cmd.specs.declared.one_line.AnyLine.{AnyLine}
 use Rattle.replay_cmd.specs.declared.one_line.AnyLine.TheVariants.{File, Session, Event}
 use Rattle.replay_cmd.specs.declared.reading.Reader.{Reader}
 use Rattle.replay_cmd.specs.Schedules.{IsOfNobody, Lines}
-use Rattle.replay_cmd.specs.Grammar.{AreRows, IsAsked, IsEventRow, IsFileRow, IsSessionRow, most_bytes, most_rows, rows_of, says, words_of}
+use Rattle.replay_cmd.specs.Grammar.{IsAsked, IsEventRow, IsFileRow, IsSessionRow, most_bytes, most_rows, says, words_of}
 
 -- the text asks for this, by a token that expires at that moment
 abbrev pub Asks : List ℕ → ℕ → ForeignAsk → Type 0

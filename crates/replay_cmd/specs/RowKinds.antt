@@ -1,8 +1,7 @@
 -- The kinds of a schedule's lines, as they are read. (Own.)
-use Rattle.std.specs.Prelude.{⊤, ◌≡◌, ℕ, List, ◌∷◌, [], codes, Option, Some, None}
+use Rattle.std.specs.Prelude.{⊤, ◌≡◌, ℕ, List, codes, None}
 use Rattle.wopi_headers.specs.declared.ask.Op.{Op}
 use Rattle.wopi_headers.specs.declared.ask.Op.TheVariants as op
-use Rattle.replay_cmd.specs.declared.schedule.Wish.{Wish}
 use Rattle.replay_cmd.specs.declared.schedule.Wish.TheVariants as wish
 use Rattle.replay_cmd.specs.declared.schedule.EventLine.{EventLine}
 use Rattle.replay_cmd.specs.declared.schedule.EventLine.TheVariants as line

@@ -1,6 +1,5 @@
 use Rattle.std.proofs.Common.{◌≡◌, [], true, sym, ap, subst, ◌∙◌}
 use Rattle.std.specs.Prelude.{Some}
-use Rattle.wopi_http.specs.declared.message.Reply.{Reply}
 use Rattle.wopi_http.specs.Replies.{reply_text}
 use Rattle.wopi_headers.specs.declared.answer.Answer.{Answer}
 use Rattle.wopi_headers.specs.Replies.{reply_of}

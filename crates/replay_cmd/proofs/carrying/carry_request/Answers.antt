@@ -1,7 +1,6 @@
-use Rattle.std.proofs.Common.{◌≡◌, List, ℕ, sym, ap, subst, ◌∙◌}
+use Rattle.std.proofs.Common.{◌≡◌, sym, ap, subst, ◌∙◌}
 use Rattle.wopi_http.specs.declared.message.Request.{Request}
 use Rattle.wopi_http.specs.declared.reading.Got.{Got}
-use Rattle.wopi_http.specs.declared.reading.Got.TheVariants as got
 use Rattle.wopi_http.specs.Answers.{Finds}
 use Rattle.wopi_http.specs.RequestTexts.{received, request_text}
 use Rattle.wopi_headers.specs.Operations.{AsksFor}

@@ -1,6 +1,6 @@
-use Rattle.std.proofs.Common.{◌≡◌, ◌∷◌, [], ◌+◌, rules}
-use Rattle.std.specs.Prelude.{codes, decimal}
-use Rattle.replay_cmd.specs.Grammar.{IsContents, words_of}
+use Rattle.std.proofs.Common.{◌≡◌, rules}
+use Rattle.std.specs.Prelude.{codes}
+use Rattle.replay_cmd.specs.Grammar.{IsContents}
 use Rattle.replay_cmd.specs.Words.{hex_text}
 use Rattle.replay_cmd.proofs.event_rows.save_read.Goals as goal
 

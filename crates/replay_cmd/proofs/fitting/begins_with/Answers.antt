@@ -1,4 +1,4 @@
-use Rattle.std.proofs.Common.{◌≡◌, ◌++◌, ◌∙◌, sym, ap, rules}
+use Rattle.std.proofs.Common.{◌≡◌, ◌++◌, ◌∙◌, sym, ap}
 use Rattle.replay_cmd.proofs.FittingLines.{behind_nonce, begins_behind, not_begun}
 use Rattle.replay_cmd.proofs.fitting.begins_with.Goals as goal
 

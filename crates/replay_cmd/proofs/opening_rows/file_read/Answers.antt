@@ -1,5 +1,5 @@
 use Rattle.std.specs.Prelude.{codes, ◌≡◌}
-use Rattle.std.proofs.Common.{length, sym, ap, ◌∙◌, rules}
+use Rattle.std.proofs.Common.{length, ap, rules}
 use Rattle.wopi_text.specs.FileName.{IsFileName}
 use Rattle.replay_cmd.specs.Grammar.{IsContents}
 use Rattle.replay_cmd.specs.Words.{hex_text}

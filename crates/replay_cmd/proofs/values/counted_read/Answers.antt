@@ -1,4 +1,4 @@
-use Rattle.std.proofs.Common.{sym, ◌∙◌, rules, arith, ◌<◌}
+use Rattle.std.proofs.Common.{sym, ◌∙◌, arith, ◌<◌}
 use Rattle.replay_cmd.proofs.WordValues.{counted, none_counted, not_counted}
 use Rattle.replay_cmd.proofs.values.counted_read.Goals as goal
 
