@@ -1,7 +1,6 @@
-use Rattle.std.proofs.Common.{◌≡◌, Bool, true, false, List, refl, sym, ap, ◌∙◌, rules, if◌then◌else◌}
+use Rattle.std.proofs.Common.{◌≡◌, Bool, true, false, List, sym, ap, ◌∙◌, if◌then◌else◌}
 use Rattle.std.specs.List.{list_any}
 use Rattle.host_server.specs.declared.working.WorkEnd.{WorkEnd}
-use Rattle.wopi_program.specs.declared.serving.ServeEnd.{ServeEnd}
 use Rattle.wopi_program.specs.declared.serving.ServeEnd.TheVariants as end
 use Rattle.wopi_program.specs.Serve.{end_after, is_fault, is_memory}
 use Rattle.wopi_program.proofs.serving.end_after.Goals as goal
