@@ -6,6 +6,9 @@ ghost use Rattle.wopi_program.specs.EditWords.{IsEditRow};
 ghost use Rattle.wopi_program.specs.ServeWords.{IsServeRow};
 ghost use Rattle.wopi_program.specs.Words.{IsRow};
 
+mod stopping;
+
+use crate::stopping::{StopListener, stop_path, until_stopped};
 use outside::{DirFolder, StdSink, StdSource, SystemClock, TcpDialer, TcpListen};
 use std::alloc::Global;
 use std::env::{self, Env};
@@ -62,6 +65,7 @@ fn parts_of(words: &[String]) -> Parts
         },
         Some(Command::Serve) => parts_of_serve(words),
         Some(Command::Edit) => NONE,
+        Some(Command::Replay) => NONE,
         Some(Command::Token) => NONE,
         Some(Command::Help) => NONE,
         Some(Command::Version) => NONE,
@@ -104,26 +108,38 @@ fn clocks<'a, T: time::Clock>(
     Ok(all)
 }
 
-/// The listeners of the words' workers, over one socket at the port of the words. Only this machine reaches it.
-fn listeners<R: Net<Stream = TcpStream, Listener = TcpListener>>(
+/// So many listeners over one socket at the port. Only this machine reaches it.
+fn listen<'a, R: Net<Stream = TcpStream, Listener = TcpListener> + Files>(
     alloc: Global,
-    rt: &R,
+    rt: &'a R,
+    ask: ServeAsk,
+    stop: Option<&'a str>,
+) -> Result<Vec<StopListener<'a, R, TcpListen>>, Memory>
+    ensures { IfOk result (λ all. vec_len all ≡ ask.workers) }
+{
+    let address = format!(in alloc; "127.0.0.1:{}", ask.port)?;
+    let bound = TcpListen::bind(
+        alloc,
+        rt,
+        address.as_str(),
+        ask.workers as usize,
+        ask.each as u64,
+    )?;
+    until_stopped(alloc, rt, stop, bound)
+}
+
+/// The listeners of the words' workers; they are closed once the stop file is there.
+fn listeners<'a, R: Net<Stream = TcpStream, Listener = TcpListener> + Files>(
+    alloc: Global,
+    rt: &'a R,
     words: &[String],
-) -> Result<Vec<TcpListen>, Memory>
+    stop: Option<&'a str>,
+) -> Result<Vec<StopListener<'a, R, TcpListen>>, Memory>
     ensures { (key : List ℕ) (base : List ℕ) (ask : ServeAsk) → IsServeRow (map string_bytes words.now) key base ask
         → IfOk result (λ all. vec_len all ≡ ask.workers) }
 {
     match serve_ask(words) {
-        Some(ask) => {
-            let address = format!(in alloc; "127.0.0.1:{}", ask.port)?;
-            TcpListen::bind(
-                alloc,
-                rt,
-                address.as_str(),
-                ask.workers as usize,
-                ask.each as u64,
-            )
-        }
+        Some(ask) => listen(alloc, rt, ask, stop),
         None => Ok(Vec::new(alloc)),
     }
 }
@@ -175,7 +191,10 @@ fn main(rt: HostRuntime) -> ExitCode {
     let Ok(folders) = folders(alloc, &rt, &words, parts.folders) else {
         return ExitCode::from(6);
     };
-    let Ok(listeners) = listeners(alloc, &rt, &words) else {
+    let Ok(stop) = stop_path(&rt) else {
+        return ExitCode::from(6);
+    };
+    let Ok(listeners) = listeners(alloc, &rt, &words, stop.as_deref()) else {
         return ExitCode::from(6);
     };
     let Ok(clocks) = clocks(alloc, &rt, parts.clocks) else {

@@ -37,7 +37,7 @@ status-not-2 (Err (fault.BadReply at)) is = absurd (omega (arith, is))
 status-not-2 (Err fault.WriteFault) is = absurd (omega (arith, is))
 status-not-2 (Err fault.Memory) is = absurd (omega (arith, is))
 
-tells-not-2 : (held held' : Option (List ℕ)) (status wanted : ℕ) (lines last : List ℕ) → wanted ≢ 2 → Tells held held' status wanted lines last → status ≢ 2
+pub tells-not-2 : (held held' : Option (List ℕ)) (status wanted : ℕ) (lines last : List ℕ) → wanted ≢ 2 → Tells held held' status wanted lines last → status ≢ 2
 tells-not-2 held held' status wanted lines last other (inl (is, grew)) two = other (sym is ∙ two)
 tells-not-2 held held' status wanted lines last other (inr (some, inl (is, front, rest, same, more))) two = absurd (omega (arith, is, two))
 tells-not-2 held held' status wanted lines last other (inr (some, inr (is, more))) two = absurd (omega (arith, is, two))

@@ -13,3 +13,5 @@ pub mod ServeWords
 pub mod ServeEnds
 pub mod EditWords
 pub mod Edit
+pub mod ReplayWords
+pub mod Replay

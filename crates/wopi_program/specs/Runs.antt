@@ -7,6 +7,7 @@ use Rattle.wopi_program.specs.Meanings.{Meanings}
 use Rattle.wopi_program.specs.Telling.{TextEnds, help_text, version_text}
 use Rattle.wopi_program.specs.Once.{OnceEnds}
 use Rattle.wopi_program.specs.Edit.{EditEnds}
+use Rattle.wopi_program.specs.Replay.{ReplayEnds}
 use Rattle.wopi_program.specs.ServeEnds.{ServeEnds}
 use Rattle.wopi_program.specs.Token.{TokenEnds}
 
@@ -17,4 +18,5 @@ RunEnds m words status old new command.Version = TextEnds m.held m.write_faults 
 RunEnds m words status old new command.Once = OnceEnds m words status old new
 RunEnds m words status old new command.Serve = ServeEnds m words status old new
 RunEnds m words status old new command.Edit = EditEnds m words status old new
+RunEnds m words status old new command.Replay = ReplayEnds m words status old new
 RunEnds m words status old new command.Token = TokenEnds m words status old new

@@ -7,6 +7,7 @@ use Rattle.wopi_model.specs.declared.token.Token.{Token}
 use Rattle.wopi_program.specs.declared.command.Command.{Command}
 use Rattle.wopi_program.specs.declared.command.Command.TheVariants as command
 use Rattle.wopi_program.specs.EditWords.{IsEdit}
+use Rattle.wopi_program.specs.ReplayWords.{IsReplay}
 use Rattle.wopi_program.specs.ServeWords.{IsServe}
 
 -- once FOLDER KEY BASE
@@ -37,6 +38,7 @@ IsRow words command.Version = words ≡ codes "--version" ∷ []
 IsRow words command.Once = (key : List ℕ) × (base : List ℕ) × IsOnceRow words key base
 IsRow words command.Serve = IsServe words
 IsRow words command.Edit = IsEdit words
+IsRow words command.Replay = IsReplay words
 IsRow words command.Token = (key : List ℕ) × (token : Token) × IsTokenRow words key token
 
 -- the words are a row of some command

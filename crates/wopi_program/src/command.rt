@@ -4,6 +4,7 @@ ghost use Rattle.wopi_program.specs.Words.{IsRow};
 
 use crate::edit_words::edit_words;
 use crate::once_words::once_words;
+use crate::replay_words::replay_words;
 use crate::serve_words::serve_words;
 use crate::token_words::token_words;
 
@@ -20,12 +21,14 @@ pub enum Command {
     Serve,
     /// The script of the input run over a sheet at a host.
     Edit,
+    /// A schedule run in memory, and what it shows on the output.
+    Replay,
     /// The text of an access token, on the output.
     Token,
 }
 
 /// Whether the words are this one alone.
-fn is_word(words: &[String], wanted: &str) -> bool
+pub(crate) fn is_word(words: &[String], wanted: &str) -> bool
     ensures { IsTrue result ↔ (map string_bytes words.now ≡ wanted.now ∷ []) }
 {
     match words {
@@ -61,6 +64,15 @@ fn is_edit(words: &[String]) -> bool
     }
 }
 
+fn is_replay(words: &[String]) -> bool
+    ensures { IsTrue result ↔ IsRow (map string_bytes words.now) Command.Replay }
+{
+    match replay_words(words) {
+        Some(_) => true,
+        None => false,
+    }
+}
+
 fn is_token(words: &[String]) -> bool
     ensures { IsTrue result ↔ IsRow (map string_bytes words.now) Command.Token }
 {
@@ -84,6 +96,8 @@ pub fn read_words(words: &[String]) -> Option<Command>
         Some(Command::Serve)
     } else if is_edit(words) {
         Some(Command::Edit)
+    } else if is_replay(words) {
+        Some(Command::Replay)
     } else if is_token(words) {
         Some(Command::Token)
     } else {

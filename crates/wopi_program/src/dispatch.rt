@@ -8,7 +8,8 @@ ghost use Rattle.wopi_program.specs.Runs.{RunEnds};
 use crate::serve::run_serve;
 use crate::serve_words::ServeAsk;
 use crate::{
-    Command, Outside, help, read_words, refuse, run_edit, run_once, run_token, tell, version,
+    Command, Outside, help, read_words, refuse, run_edit, run_once, run_replay, run_token, tell,
+    version,
 };
 use outside::{Clock, Dialer, Folder, Listener, Sink, Source};
 use std::alloc::Global;
@@ -58,6 +59,7 @@ pub fn run<
         Some(Command::Once) => run_once(alloc, words, outside),
         Some(Command::Serve) => run_serve(rt, alloc, words, outside),
         Some(Command::Edit) => run_edit(alloc, words, outside),
+        Some(Command::Replay) => run_replay(alloc, words, outside),
         Some(Command::Token) => run_token(alloc, words, outside),
         Some(Command::Help) => tell(outside, help()),
         Some(Command::Version) => tell(outside, version()),

@@ -118,7 +118,7 @@ fn run_script<K: Sink, D: Dialer>(
 
 /// Tells of a script's first bad line, and gives the status.
 #[tactic(auto, using(crate::proofs::EditLemmas::tells_wanting, crate::proofs::EditLemmas::some_bad_line))]
-fn refuse_script<K: Sink>(alloc: Global, output: &mut K, number: u64) -> u8
+pub(crate) fn refuse_script<K: Sink>(alloc: Global, output: &mut K, number: u64) -> u8
     ensures told { Tells (K.held output.old) (K.held output.new) result 7 [] (bad_line number) }
     ensures cause { result ≡ 4 → Rose (K.write_faults output.old) (K.write_faults output.new) }
 {
@@ -149,7 +149,7 @@ fn edit<S: Source, K: Sink, D: Dialer>(
 }
 
 /// Says on the notes why a run ended otherwise than well, where the output doesn't say it.
-fn note_edit<K: Sink>(notes: &mut K, status: u8)
+pub(crate) fn note_edit<K: Sink>(notes: &mut K, status: u8)
     ensures { NotesForEdit K.held K.write_faults status notes.old notes.new }
 {
     if status == 3 {

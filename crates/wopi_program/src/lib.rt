@@ -4,8 +4,8 @@
 //! generic in all that it meets, so that its contract speaks of the bytes that were read and
 //! written. The command `once` answers the requests of its input, one after another, on its output;
 //! `serve` answers those of many connections by workers, and then writes its host's journal on the
-//! output; `edit` runs the script of its input over a sheet at a host; `token` writes the text of an
-//! access token.
+//! output; `edit` runs the script of its input over a sheet at a host; `replay` runs a schedule of
+//! sessions in memory and writes what it shows; `token` writes the text of an access token.
 #![tactic(auto)]
 
 mod command;
@@ -16,6 +16,9 @@ mod notes;
 mod once;
 mod once_words;
 mod outside_world;
+mod reading;
+mod replay;
+mod replay_words;
 mod serve;
 mod serve_words;
 mod serving;
@@ -30,8 +33,13 @@ pub use edit_words::edit_authority;
 pub use notes::note;
 pub use once::{OnceEnd, run_once};
 pub use outside_world::Outside;
+pub use replay::run_replay;
+pub use replay_words::ReplayAsk;
 pub use serve::run_serve;
 pub use serve_words::{ServeAsk, serve_ask};
 pub use serving::ServeEnd;
 pub use telling::{help, refuse, tell, version};
 pub use token::run_token;
+
+#[cfg(test)]
+mod tests;

@@ -1,8 +1,9 @@
 use Rattle.std.proofs.Common.{Some, ap, ◌∙◌}
-use Rattle.wopi_program.specs.declared.command.Command.TheVariants.{Edit, Once, Serve, Token}
+use Rattle.wopi_program.specs.declared.command.Command.TheVariants.{Edit, Once, Replay, Serve, Token}
 use Rattle.wopi_program.proofs.Rows.{known}
 use Rattle.wopi_program.proofs.OnceLemmas.{OnceEnds-known}
 use Rattle.wopi_program.proofs.EditLemmas.{EditEnds-known}
+use Rattle.wopi_program.proofs.ReplayLemmas.{ReplayEnds-known}
 use Rattle.wopi_program.proofs.EndLemmas.{ServeEnds-known}
 use Rattle.wopi_program.proofs.dispatch.run.Goals as goal
 
@@ -60,3 +61,15 @@ returns-in-Some-Edit-clause-usage g c =
 pub returns-in-Some-Edit-clause-usage_leaves : goal.returns-in-Some-Edit-clause-usage_leaves
 returns-in-Some-Edit-clause-usage_leaves g c =
     λ none. absurd (none (Edit, (c.read_words.ensures Edit).0 (c.in-Some-Edit.is ∙ ap Some c.in-Some-Edit.field-0-is)))
+
+pub run_replay-requires-after_bounds : goal.run_replay-requires-after_bounds
+run_replay-requires-after_bounds g c κs within = (c.read_words.ensures Replay).0 (c.in-Some-Replay.is ∙ ap Some c.in-Some-Replay.field-0-is)
+
+pub returns-in-Some-Replay-clause-usage : goal.returns-in-Some-Replay-clause-usage
+returns-in-Some-Replay-clause-usage g c =
+    known _ Replay ((c.read_words.ensures Replay).0 (c.in-Some-Replay.is ∙ ap Some c.in-Some-Replay.field-0-is)) c.run_replay.result
+    (ReplayEnds-known _ _ _ _ _ c.run_replay.ensures)
+
+pub returns-in-Some-Replay-clause-usage_leaves : goal.returns-in-Some-Replay-clause-usage_leaves
+returns-in-Some-Replay-clause-usage_leaves g c =
+    λ none. absurd (none (Replay, (c.read_words.ensures Replay).0 (c.in-Some-Replay.is ∙ ap Some c.in-Some-Replay.field-0-is)))

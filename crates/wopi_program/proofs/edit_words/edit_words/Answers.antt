@@ -1,6 +1,5 @@
 use Rattle.std.proofs.Common.{◌≡◌, codes, map, string_bytes, ap, subst, sym, ◌∙◌, arith, rules}
 use Rattle.wopi_text.specs.Ids.{id_of}
-use Rattle.save_session.specs.Nonce.{IsNonce}
 use Rattle.wopi_program.specs.EditWords.{IsAuthority, IsTokenWord}
 use Rattle.wopi_program.proofs.EditRows.{five_alone}
 use Rattle.wopi_program.proofs.edit_words.edit_words.Goals as goal

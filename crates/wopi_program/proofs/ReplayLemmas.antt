@@ -1,0 +1,97 @@
+-- The statuses of `replay`, and the texts that it writes.
+use Rattle.std.proofs.Common.{◌≡◌, ◌≢◌, ◌⊎◌, ℕ, List, [], Option, sym, ◌∙◌, subst, arith, inl, inr}
+use Rattle.std.specs.Io.KnownBytes.{Appends}
+use Rattle.outside.specs.Stream.{GrewByPrefix}
+use Rattle.wopi_world.specs.Safe.{IsSafe}
+use Rattle.replay_cmd.specs.Schedules.{Lines}
+use Rattle.replay_cmd.specs.Runs.{setting_of, world_of}
+use Rattle.replay_cmd.specs.Worlds.{IsTextOf}
+use Rattle.replay_cmd.specs.Grammar.{IsText}
+use Rattle.replay_cmd.specs.Trace.{trace_text}
+use Rattle.wopi_program.specs.declared.outside_world.Outside.{Outside}
+use Rattle.wopi_program.specs.declared.replay_words.ReplayAsk.{ReplayAsk}
+use Rattle.wopi_program.specs.declared.replay_words.ReplayAsk.TheVariants.{Input, Generated}
+use Rattle.wopi_program.specs.Meanings.{Meanings}
+use Rattle.wopi_program.specs.Edit.{Tells}
+use Rattle.wopi_program.specs.Replay.{AskReplays, InputReplays, IsTold, ReplayEnds, Replays, TextReplays}
+
+-- ---- statuses
+
+-- none of the statuses of a text
+abbrev IsOther : ℕ → Type 0
+IsOther n = (n ≢ 0) × (n ≢ 4) × (n ≢ 6) × (n ≢ 7)
+
+two_is_other : IsOther 2
+two_is_other = (λ is. absurd (omega (arith, is)), λ is. absurd (omega (arith, is)), λ is. absurd (omega (arith, is)), λ is. absurd (omega (arith, is)))
+
+three_is_other : IsOther 3
+three_is_other = (λ is. absurd (omega (arith, is)), λ is. absurd (omega (arith, is)), λ is. absurd (omega (arith, is)), λ is. absurd (omega (arith, is)))
+
+told-not : (n : ℕ) → IsOther n → (text_of : List (List ℕ) → Lines → List ℕ) (lines : Lines) (status : ℕ) (held held' : Option (List ℕ))
+    → IsTold text_of lines status held held' → status ≢ n
+told-not n other text_of lines status held held' told is = elim told.told [
+  | inl done ↦ other.0 (sym is ∙ done.0)
+  | inr cut ↦ other.1 (sym is ∙ cut.0)
+]
+
+replays-not : {K : Type 0} (n : ℕ) → IsOther n → (held : K → Option (List ℕ)) (text_of : List (List ℕ) → Lines → List ℕ) (lines : Lines) (status : ℕ) (output output' : K)
+    → Replays held text_of lines status output output' → status ≢ n
+replays-not n other held text_of lines status output output' (inl (six, kept)) is = other.2 (sym is ∙ six)
+replays-not n other held text_of lines status output output' (inr told) is = told-not n other text_of lines status (held output) (held output') told is
+
+bad-not : (n : ℕ) → IsOther n → (held held' : Option (List ℕ)) (status : ℕ) (last : List ℕ) → Tells held held' status 7 [] last → status ≢ n
+bad-not n other held held' status last (inl (seven, grew)) is = other.3 (sym is ∙ seven)
+bad-not n other held held' status last (inr (some, inl (four, front, rest, same, more))) is = other.1 (sym is ∙ four)
+bad-not n other held held' status last (inr (some, inr (six, more))) is = other.2 (sym is ∙ six)
+
+text-not : {K : Type 0} (n : ℕ) → IsOther n → (held : K → Option (List ℕ)) (text : List ℕ) (status : ℕ) (output output' : K)
+    → TextReplays held text status output output' → status ≢ n
+text-not n other held text status output output' (inl (six, kept)) is = other.2 (sym is ∙ six)
+text-not n other held text status output output' (inr (inl bad)) is = bad-not n other (held output) (held output') status _ bad.told is
+text-not n other held text status output output' (inr (inr traced)) is = told-not n other trace_text traced.lines status (held output) (held output') traced.told is
+
+-- a text that was read gives no status of a failed read
+pub text_not_3 : {K : Type 0} (held : K → Option (List ℕ)) (text : List ℕ) (status : ℕ) (output output' : K) → TextReplays held text status output output' → status ≢ 3
+text_not_3 held text status output output' replays is = text-not 3 three_is_other held text status output output' replays is
+
+input-not-2 : {K : Type 0} (held : K → Option (List ℕ)) (left left' : Option (List ℕ)) (status : ℕ) (output output' : K)
+    → InputReplays held left left' status output output' → status ≢ 2
+input-not-2 held left left' status output output' (inl unread) two = elim unread.statuses [
+  | inl three ↦ absurd (omega (arith, three, two))
+  | inr six ↦ absurd (omega (arith, six, two))
+]
+input-not-2 held left left' status output output' (inr read) two = text-not 2 two_is_other held read.text status output output' read.replays two
+
+ask-not-2 : {S K : Type 0} (left : S → Option (List ℕ)) (held : K → Option (List ℕ)) (ask : ReplayAsk) (status : ℕ) (input input' : S) (output output' : K)
+    → AskReplays left held ask status input input' output output' → status ≢ 2
+ask-not-2 left held Input status input input' output output' replays two = input-not-2 held (left input) (left input') status output output' replays two
+ask-not-2 left held (Generated seed count) status input input' output output' replays two = replays-not 2 two_is_other held _ _ status output output' replays.1 two
+
+pub ReplayEnds-known : {S K F N D C L : Type 0} (m : Meanings S K F N D C L) (words : List (List ℕ)) (status : ℕ) (old new : Outside S K F N D C)
+    → ReplayEnds m words status old new → status ≢ 2
+ReplayEnds-known m words status old new ends two =
+    ask-not-2 m.left m.held ends.asked status old.input new.input old.output new.output ends.replays two
+
+-- ---- a text that was written
+
+pub told_of : (text_of : List (List ℕ) → Lines → List ℕ) (lines : Lines) (text shown : List ℕ) (status : ℕ) (held held' : Option (List ℕ))
+    → IsSafe (setting_of lines) (world_of lines) → IsTextOf text_of lines text → shown ≡ text → (status ≡ 0) ⊎ (status ≡ 4)
+    → (status ≡ 0 → Appends held held' shown) → (status ≡ 4 → GrewByPrefix held held' shown) → IsTold text_of lines status held held'
+told_of text_of lines text shown status held held' safe (names, are, is) same (inl zero) done cut = record {
+  safe = safe;
+  names = names;
+  names_are = are;
+  told = inl (zero, subst (λ l. Appends held held' l) (same ∙ is) (done zero));
+}
+told_of text_of lines text shown status held held' safe (names, are, is) same (inr four) done cut = record {
+  safe = safe;
+  names = names;
+  names_are = are;
+  told = inr (four, subst (λ l. GrewByPrefix held held' l) (same ∙ is) (cut four));
+}
+
+-- the trace of a text that was read
+pub traced_of : {K : Type 0} (held : K → Option (List ℕ)) (text : List ℕ) (lines : Lines) (status : ℕ) (output output' : K)
+    → IsText text lines → Replays held trace_text lines status output output' → TextReplays held text status output output'
+traced_of held text lines status output output' read (inl kept) = inl kept
+traced_of held text lines status output output' read (inr told) = inr (inr (record { lines = lines; read = read; told = told }))

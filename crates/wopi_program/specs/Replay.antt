@@ -1,0 +1,79 @@
+-- What a run of `replay` promises. (Own.)
+use Rattle.std.specs.Prelude.{◌≡◌, ◌⊎◌, ℕ, List, [], Option}
+use Rattle.std.specs.Io.KnownBytes.{Appends, IsAtEnd}
+use Rattle.outside.specs.Faults.{Rose}
+use Rattle.outside.specs.Stream.{Are, GrewByPrefix}
+use Rattle.wopi_model.specs.Shard.{AreNames}
+use Rattle.wopi_world.specs.Safe.{IsSafe}
+use Rattle.replay_cmd.specs.Schedules.{Lines}
+use Rattle.replay_cmd.specs.Runs.{setting_of, world_of}
+use Rattle.replay_cmd.specs.Generator.{generated}
+use Rattle.replay_cmd.specs.Grammar.{IsBadLine, IsText}
+use Rattle.replay_cmd.specs.Trace.{summary_text, trace_text}
+use Rattle.wopi_program.specs.declared.outside_world.Outside.{Outside}
+use Rattle.wopi_program.specs.declared.replay_words.ReplayAsk.{ReplayAsk}
+use Rattle.wopi_program.specs.declared.replay_words.ReplayAsk.TheVariants.{Input, Generated}
+use Rattle.wopi_program.specs.Meanings.{Meanings}
+use Rattle.wopi_program.specs.Edit.{NotesForEdit, Tells, bad_line}
+use Rattle.wopi_program.specs.ReplayWords.{IsReplayRow}
+
+-- The run of the lines is safe, and a text of it went to the output: the whole at status 0, and at status 4 a front of it, where a write
+-- failed. The names are those that have a version at the run's end, each once, by their bytes.
+pub record IsTold (text_of : List (List ℕ) → Lines → List ℕ) (lines : Lines) (status : ℕ) (held held' : Option (List ℕ)) : Type 0 where
+  pub safe : IsSafe (setting_of lines) (world_of lines)
+  pub names : List (List ℕ)
+  pub names_are : AreNames (world_of lines).shard names
+  pub told : ((status ≡ 0) × Appends held held' (text_of names lines)) ⊎ ((status ≡ 4) × GrewByPrefix held held' (text_of names lines))
+
+-- the text of the lines was told, or memory was wanted before anything was written
+abbrev pub Replays : {K : Type 0} → (K → Option (List ℕ)) → (List (List ℕ) → Lines → List ℕ) → Lines → ℕ → K → K → Type 0
+Replays held text_of lines status output output' = ((status ≡ 6) × (output' ≡ output)) ⊎ IsTold text_of lines status (held output) (held output')
+
+-- The text is these lines, and their trace was told.
+pub record IsTraced {K : Type 0} (held : K → Option (List ℕ)) (text : List ℕ) (status : ℕ) (output output' : K) : Type 0 where
+  pub lines : Lines
+  pub read : IsText text lines
+  pub told : IsTold trace_text lines status (held output) (held output')
+
+-- The text has its first bad line here.
+pub record IsBad {K : Type 0} (held : K → Option (List ℕ)) (text : List ℕ) (status : ℕ) (output output' : K) : Type 0 where
+  pub number : ℕ
+  pub bad : IsBadLine text number
+  pub told : Tells (held output) (held output') status 7 [] (bad_line number)
+
+-- what became of a text; memory may be wanted before anything is written
+abbrev pub TextReplays : {K : Type 0} → (K → Option (List ℕ)) → List ℕ → ℕ → K → K → Type 0
+TextReplays held text status output output' =
+    ((status ≡ 6) × (output' ≡ output)) ⊎ (IsBad held text status output output' ⊎ IsTraced held text status output output')
+
+-- The whole input, which was read to its end, is this text.
+pub record HasRead {K : Type 0} (held : K → Option (List ℕ)) (left left' : Option (List ℕ)) (status : ℕ) (output output' : K) : Type 0 where
+  pub text : List ℕ
+  pub text_is : Are left text
+  pub whole : IsAtEnd left'
+  pub replays : TextReplays held text status output output'
+
+-- The input could not be read, or there was no memory for it: nothing was written.
+pub record IsNotRead {K : Type 0} (status : ℕ) (output output' : K) : Type 0 where
+  pub statuses : (status ≡ 3) ⊎ (status ≡ 6)
+  pub output_is : output' ≡ output
+
+-- what became of the schedule that an input is
+abbrev pub InputReplays : {K : Type 0} → (K → Option (List ℕ)) → Option (List ℕ) → Option (List ℕ) → ℕ → K → K → Type 0
+InputReplays held left left' status output output' = IsNotRead status output output' ⊎ HasRead held left left' status output output'
+
+-- what became of the schedule that was asked for; one that is made from two numbers leaves the input as it is
+abbrev pub AskReplays : {S K : Type 0} → (S → Option (List ℕ)) → (K → Option (List ℕ)) → ReplayAsk → ℕ → S → S → K → K → Type 0
+AskReplays left held Input status input input' output output' = InputReplays held (left input) (left input') status output output'
+AskReplays left held (Generated seed count) status input input' output output' =
+    (input' ≡ input) × Replays held summary_text (generated seed count) status output output'
+
+-- A run of the words: what it did, the causes of the faults, the notes; and all else stays.
+pub record ReplayEnds {S K F N D C L : Type 0} (m : Meanings S K F N D C L) (words : List (List ℕ)) (status : ℕ) (old new : Outside S K F N D C) : Type 0 where
+  pub asked : ReplayAsk
+  pub row : IsReplayRow words asked
+  pub replays : AskReplays m.left m.held asked status old.input new.input old.output new.output
+  pub read_cause : status ≡ 3 → Rose (m.read_faults old.input) (m.read_faults new.input)
+  pub write_cause : status ≡ 4 → Rose (m.write_faults old.output) (m.write_faults new.output)
+  pub notes : NotesForEdit m.held m.write_faults status old.notes new.notes
+  pub others : new ≡ record old { input = new.input; output = new.output; notes = new.notes }

@@ -1,0 +1,136 @@
+//! The command `replay`: a schedule of sessions over a host, run in memory, and what it shows.
+ghost use Rattle.std.specs.Prelude.{◌≡◌, ◌≤◌, ℕ, List, map, string_bytes};
+ghost use Rattle.outside.specs.Faults.{Rose};
+ghost use Rattle.replay_cmd.specs.Generator.{generated};
+ghost use Rattle.replay_cmd.specs.Trace.{summary_text, trace_text};
+ghost use Rattle.wopi_program.specs.Replay.{AskReplays, InputReplays, ReplayEnds, Replays, TextReplays};
+ghost use Rattle.wopi_program.specs.Words.{IsRow};
+
+use crate::edit::{note_edit, refuse_script};
+use crate::reading::read_whole;
+use crate::replay_words::{ReplayAsk, replay_words};
+use crate::telling::say;
+use crate::{Command, Outside};
+use outside::{Clock, Dialer, Folder, Listener, OutFault, Sink, Source};
+use replay_cmd::{Schedule, ScheduleFault, Straight, World, generate, summary_text, trace_text};
+use std::alloc::Global;
+
+/// Runs a schedule, writes what each of its events showed and how it left the files, and gives the
+/// status.
+fn write_trace<K: Sink>(alloc: Global, schedule: &Schedule, output: &mut K) -> u8
+    ensures replays { Replays K.held trace_text schedule.now result output.old output.new }
+    ensures cause { result ≡ 4 → Rose (K.write_faults output.old) (K.write_faults output.new) }
+{
+    let Ok(world) = World::run(alloc, schedule, &mut Straight) else {
+        return 6;
+    };
+    let Ok(text) = trace_text(alloc, &world) else {
+        return 6;
+    };
+    say(output, text.as_slice())
+}
+
+/// Runs a schedule, writes how much was sent, answered, refused and saved and how it left the files,
+/// and gives the status.
+fn write_summary<K: Sink>(alloc: Global, schedule: &Schedule, output: &mut K) -> u8
+    ensures replays { Replays K.held summary_text schedule.now result output.old output.new }
+    ensures cause { result ≡ 4 → Rose (K.write_faults output.old) (K.write_faults output.new) }
+{
+    let Ok(world) = World::run(alloc, schedule, &mut Straight) else {
+        return 6;
+    };
+    let Ok(text) = summary_text(alloc, &world) else {
+        return 6;
+    };
+    say(output, text.as_slice())
+}
+
+/// Runs the schedule that a text is, or tells its first bad line, and gives the status.
+fn replay_text<K: Sink>(alloc: Global, text: &[u8], output: &mut K) -> u8
+    ensures replays { TextReplays K.held text.now result output.old output.new }
+    ensures cause { result ≡ 4 → Rose (K.write_faults output.old) (K.write_faults output.new) }
+{
+    match Schedule::read(alloc, text) {
+        Ok(schedule) => return write_trace(alloc, &schedule, output),
+        Err(ScheduleFault::BadLine { line }) => return refuse_script(alloc, output, line),
+        Err(ScheduleFault::Memory) => return 6,
+    }
+}
+
+/// Runs the schedule that the whole input is, and gives the status.
+fn replay_input<S: Source, K: Sink>(alloc: Global, input: &mut S, output: &mut K) -> u8
+    ensures replays { InputReplays K.held (S.left input.old) (S.left input.new) result output.old output.new }
+    ensures read_cause { result ≡ 3 → Rose (S.read_faults input.old) (S.read_faults input.new) }
+    ensures write_cause { result ≡ 4 → Rose (K.write_faults output.old) (K.write_faults output.new) }
+{
+    match read_whole(alloc, input) {
+        Ok(text) => return replay_text(alloc, &text, output),
+        Err(OutFault::Failed) => return 3,
+        Err(OutFault::Memory) => return 6,
+    }
+}
+
+/// Runs the schedule that is made from two numbers, and gives the status.
+fn replay_generated<K: Sink>(alloc: Global, seed: u64, count: u32, output: &mut K) -> u8
+    requires { count ≤ 10000 }
+    ensures replays { Replays K.held summary_text (generated seed count) result output.old output.new }
+    ensures cause { result ≡ 4 → Rose (K.write_faults output.old) (K.write_faults output.new) }
+{
+    let Ok(schedule) = generate(alloc, seed, count) else {
+        return 6;
+    };
+    write_summary(alloc, &schedule, output)
+}
+
+/// Runs the schedule that is asked for, and gives the status.
+fn replay<S: Source, K: Sink>(alloc: Global, ask: ReplayAsk, input: &mut S, output: &mut K) -> u8
+    requires { (seed : ℕ) (count : ℕ) → ask ≡ ReplayAsk.Generated seed count → count ≤ 10000 }
+    ensures replays { AskReplays S.left K.held ask result input.old input.new output.old output.new }
+    ensures read_cause { result ≡ 3 → Rose (S.read_faults input.old) (S.read_faults input.new) }
+    ensures write_cause { result ≡ 4 → Rose (K.write_faults output.old) (K.write_faults output.new) }
+{
+    match ask {
+        ReplayAsk::Input => return replay_input(alloc, input, output),
+        ReplayAsk::Generated { seed, count } => {
+            return replay_generated(alloc, seed, count, output);
+        }
+    }
+}
+
+/// Runs the schedule that the words ask for: the one that the input is, whose trace it writes, or one
+/// that is made from two numbers, whose summary it writes.
+#[tactic(auto, using(crate::proofs::ReplayRows::few_events))]
+pub fn run_replay<S: Source, K: Sink, F: Folder, N: Listener, D: Dialer, C: Clock>(
+    alloc: Global,
+    words: &[String],
+    outside: &mut Outside<S, K, F, N, D, C>,
+) -> u8
+    requires { IsRow (map string_bytes words.now) Command.Replay }
+    ensures { ReplayEnds (record {
+      left = S.left;
+      read_faults = S.read_faults;
+      held = K.held;
+      write_faults = K.write_faults;
+      files = F.files;
+      folder_faults = F.faults;
+      links_left = N.links_left;
+      finished_links = N.finished_links;
+      accepted = N.accepted;
+      finished = N.finished;
+      listener_faults = N.faults;
+      link_left = N.Link.left;
+      link_held = N.Link.held;
+      link_read_faults = N.Link.read_faults;
+      link_write_faults = N.Link.write_faults;
+      exchanges = D.exchanges;
+      dialer_faults = D.faults;
+      moments = C.moments;
+    }) (map string_bytes words.now) result outside.old outside.new }
+{
+    let Some(ask) = replay_words(words) else {
+        unreachable!()
+    };
+    let status = replay(alloc, ask, &mut outside.input, &mut outside.output);
+    note_edit(&mut outside.notes, status);
+    status
+}

@@ -1,0 +1,80 @@
+//! A save whose body comes in chunks, after the line that asks for it.
+use super::{ONCE, TOKEN, joined, lock_request, once, run_with, whole};
+use std::alloc::Global;
+use std::test::Fail;
+use wopi_text::Memory;
+
+const LOCKED: &str = "HTTP/1.1 200 OK\r\nContent-Length: 0\r\nX-WOPI-ItemVersion: v1\r\n\r\n";
+
+const CONTINUE: &str = "HTTP/1.1 100 Continue\r\n\r\n";
+
+const SAVED: &str = "HTTP/1.1 200 OK\r\nContent-Length: 0\r\nX-WOPI-ItemVersion: v2\r\n\r\n";
+
+const BAD: &str = "HTTP/1.1 400 Bad Request\r\nContent-Length: 0\r\nConnection: close\r\n\r\n";
+
+const BODY: &[u8] = b"4\r\n1,9\n\r\n0\r\n\r\n";
+
+/// The lines that a usual client puts into its heads.
+const CURL: &str =
+    "User-Agent: curl/8.5.0\r\nAccept: */*\r\nContent-Type: application/octet-stream\r\n";
+
+/// A Lock request, and then the head of a save in chunks with these lines.
+fn lock_and_head(alloc: Global, lines: &str) -> Result<Vec<u8>, Memory> {
+    let mut input = lock_request(alloc, "L1")?;
+    let head = format!(in alloc;
+        "POST /wopi/files/612e637376/contents?access_token={TOKEN} HTTP/1.1\r\nHost: localhost:8880\r\n{lines}X-WOPI-Override: PUT\r\nX-WOPI-Lock: L1\r\nExpect: 100-continue\r\nTransfer-Encoding: chunked\r\n\r\n"
+    )?;
+    input.extend_from_slice(head.as_bytes())?;
+    Ok(input)
+}
+
+#[test]
+fn a_save_in_chunks_parted_anywhere_gets_its_line_and_its_reply(
+    rt: HostRuntime,
+) -> Result<(), Fail> {
+    let alloc = rt.alloc();
+    let wanted = format!(in alloc; "{LOCKED}{CONTINUE}{SAVED}")?;
+    for lines in ["", CURL] {
+        let mut input = lock_and_head(alloc, lines)?;
+        input.extend_from_slice(BODY)?;
+        let mut given = whole(&input);
+        for piece in 1..60 {
+            given.piece = piece;
+            let left = run_with(&rt, alloc, &ONCE, &given)?;
+            assert_eq!(rt; left.status, 0);
+            assert_eq!(rt; left.output.as_slice(), wanted.as_bytes(), "by {piece}");
+            assert_eq!(rt; left.kept("a.csv"), b"1,9\n".as_slice());
+        }
+    }
+    Ok(())
+}
+
+/// What is answered to an input that ends at a place: the lock's request ends at the first of the places, and the
+/// head of the save at the second.
+fn answered(cut: usize, locked: usize, asked: usize) -> &'static [&'static str] {
+    if cut < locked {
+        &[BAD]
+    } else if cut == locked {
+        &[LOCKED]
+    } else if cut < asked {
+        &[LOCKED, BAD]
+    } else {
+        &[LOCKED, CONTINUE, BAD]
+    }
+}
+
+#[test]
+fn a_save_in_chunks_cut_at_any_place_is_bad(rt: HostRuntime) -> Result<(), Fail> {
+    let alloc = rt.alloc();
+    let locked = lock_request(alloc, "L1")?.len();
+    let mut input = lock_and_head(alloc, "")?;
+    let asked = input.len();
+    input.extend_from_slice(BODY)?;
+    for cut in 1..input.len() {
+        let left = once(&rt, alloc, &input[..cut])?;
+        let wanted = joined(alloc, answered(cut, locked, asked))?;
+        assert_eq!(rt; left.output.as_slice(), wanted.as_slice(), "at {cut}");
+        assert_eq!(rt; left.kept("a.csv"), b"1,2\n".as_slice());
+    }
+    Ok(())
+}

@@ -1,0 +1,131 @@
+#!/usr/bin/env bash
+# Shows that a signal ends a `serve` in order: scripts/stop.sh [PROGRAM]
+#
+# Starts PROGRAM (./mokdrai where it is left out) over a folder and a port of its own, with a connection that is in
+# the middle of a save when the signal comes, and finishes that save. The reply has to come, the save has to stand in
+# the folder and in the journal, no other connection may be served, and the status has to be 0. SIGTERM goes to the
+# script alone and to its group, as supervisors send it, SIGINT to the group, as a terminal sends it, and each also
+# twice; SIGHUP and SIGQUIT go once. At last signals come before or as the host begins. It is no part of the gate.
+set -um
+top=$(cd "$(dirname "$(readlink -f "${BASH_SOURCE[0]}")")/.." && pwd)
+program=$(readlink -f "${1:-$top/mokdrai}")
+key=4a656665
+room=$(mktemp -d) || exit 1
+trap 'rm -rf "$room"' EXIT
+faults=0
+
+check() { # what, wanted, found
+  if [ "$2" != "$3" ]; then
+    echo "  $1: wanted '$2', found '$3'"
+    faults=$((faults + 1))
+  fi
+}
+
+is_open() {
+  (: <>"/dev/tcp/127.0.0.1/$port") 2>/dev/null
+}
+
+# A port that nobody listens at.
+find_port() {
+  port=$((20000 + RANDOM % 10000))
+  while is_open; do
+    port=$((20000 + RANDOM % 10000))
+  done
+}
+
+begin_host() {
+  rm -rf "$room/files" && mkdir "$room/files" && echo 1,2 >"$room/files/a.csv"
+  find_port
+  "$program" serve "$room/files" "$port" "$key" "http://localhost:$port" 2 >"$room/journal" 2>"$room/notes" &
+  host=$!
+  [ "${1:-}" = early ] && return
+  for _ in $(seq 200); do
+    is_open && return
+    sleep 0.1
+  done
+  echo "  no host answers: $(cat "$room/notes")"
+  exit 1
+}
+
+# Reads a reply's status line and the rest of its head.
+read_reply() {
+  local line
+  read -r -t 30 -u 3 status_line
+  while read -r -t 30 -u 3 line && [ "$line" != $'\r' ]; do :; done
+  status_line=${status_line%$'\r'}
+}
+
+begin_save() {
+  local act="/wopi/files/612e637376?access_token=$token" contents="/wopi/files/612e637376/contents?access_token=$token"
+  exec 3<>"/dev/tcp/127.0.0.1/$port"
+  printf 'POST %s HTTP/1.1\r\nHost: h\r\nX-WOPI-Override: LOCK\r\nX-WOPI-Lock: L1\r\nContent-Length: 0\r\n\r\n' "$act" >&3
+  read_reply
+  check 'the reply before the signal' 'HTTP/1.1 200 OK' "$status_line"
+  printf 'POST %s HTTP/1.1\r\nHost: h\r\nX-WOPI-Override: PUT\r\nX-WOPI-Lock: L1\r\nContent-Length: 6\r\n\r\nhal' "$contents" >&3
+}
+
+finish_save() {
+  printf 'ves' >&3
+  read_reply
+  check 'the reply after the signal' 'HTTP/1.1 200 OK' "$status_line"
+  exec 3>&-
+}
+
+# What somebody gets who comes after the signal.
+ask_late() {
+  (
+    exec 4<>"/dev/tcp/127.0.0.1/$port" || exit
+    printf 'GET / HTTP/1.1\r\nHost: h\r\n\r\n' >&4
+    timeout 2 cat <&4
+  ) 2>/dev/null
+}
+
+# One run: its name, and the signals, each with the processes that it goes to.
+run() {
+  local name=$1 signal to
+  shift
+  echo "$name"
+  begin_host
+  begin_save
+  for signal in "$@"; do
+    to=$host
+    [ "${signal#*:}" = group ] && to=-$host
+    kill -s "${signal%:*}" -- "$to"
+    sleep 0.5
+  done
+  check 'a later connection' '' "$(ask_late)"
+  kill -0 "$host" 2>/dev/null || check 'the host before the save is whole' runs ended
+  finish_save
+  wait "$host"
+  check 'the status' 0 $?
+  check 'the file' halves "$(cat "$room/files/a.csv")"
+  check "the journal's entries" 'lock put' "$(awk '$6 == "lock" || $6 == "put" { print $6 }' "$room/journal" | xargs)"
+  check "the journal's end" end "$(tail -n 1 "$room/journal")"
+  check 'the notes' '' "$(cat "$room/notes")"
+}
+
+# A signal so many seconds after the start. It ends the host in order, or the script before it has begun one.
+run_early() {
+  local ended
+  begin_host early
+  sleep "$1"
+  kill -s TERM "$host"
+  wait "$host" 2>/dev/null
+  ended="$? $(tail -n 1 "$room/journal")"
+  [ "$ended" = '143 ' ] || check "the status and the journal's end" '0 end' "$ended"
+}
+
+token=$("$program" token "$key" ann a.csv w 1 253402300000000 253402300799999) || exit 1
+run 'SIGTERM to the script' TERM:script
+run 'SIGTERM to the group' TERM:group
+run 'SIGINT to the group' INT:group
+run 'SIGHUP to the script' HUP:script
+run 'SIGQUIT to the group' QUIT:group
+run 'SIGTERM to the script, twice' TERM:script TERM:script
+run 'SIGINT to the group, twice' INT:group INT:group
+echo 'SIGTERM within half a second'
+for seconds in 0.05 0.1 0.15 0.2 0.25 0.3 0.35 0.4 0.45 0.5; do
+  run_early "$seconds"
+done
+echo "$faults faults"
+[ "$faults" -eq 0 ]
