@@ -1,13 +1,14 @@
 //! `serve` over fakes in memory: its replies, its journal and its ends.
+ghost use Rattle.std.specs.Prelude.{◌≡◌, IsTrue, length};
+
 use crate::tests::gates::{Flag, FlagLink, GateFolder};
 use crate::tests::words_of;
-use crate::{Outside, run, serve_ask};
+use crate::{Command, Outside, read_words, run, serve_ask};
 use outside::{
     Clock, Dialer, Folder, Link, Listener, MemFolder, MemListener, MemSink, MemSource, Pair,
     ScriptClock, ScriptDialer, Sink, Source,
 };
 use std::alloc::Global;
-use std::process::Abort;
 use std::sync::atomic::AtomicU64;
 use std::sync::{Arc, Wait};
 use std::test::Fail;
@@ -47,21 +48,47 @@ type MemLink = Pair<MemSource, MemSink>;
 /// What `serve` meets in these tests.
 type Served<F, L> = Outside<MemSource, MemSink, F, MemListener<L>, ScriptDialer, ScriptClock>;
 
-/// Runs `serve` with these words.
-fn serve<R: Threads + Wait + Sync + Abort, F: Folder + Send, L: Link + Send + Drop>(
+/// Whether there are 16 folders, and a listener and a clock for each worker.
+fn fits<F, L>(outside: &Served<F, L>, workers: u32) -> bool
+    ensures { IsTrue result → (length outside.now.folders.items ≡ 16) × (length outside.now.listeners.items ≡ workers) × (length outside.now.clocks.items ≡ workers) }
+{
+    if outside.folders.len() != 16 {
+        return false;
+    }
+    if outside.listeners.len() != workers as usize {
+        return false;
+    }
+    outside.clocks.len() == workers as usize
+}
+
+/// Runs `serve` with these words, where it meets what they ask for.
+fn serve_over<R: Threads + Wait + Sync, F: Folder + Send, L: Link + Send + Drop>(
+    rt: &R,
+    alloc: Global,
+    words: &[String],
+    outside: &mut Served<F, L>,
+) -> Result<u8, Fail> {
+    let Some(Command::Serve) = read_words(words) else {
+        return Err("words of serve".into());
+    };
+    let Some(ask) = serve_ask(words) else {
+        return Err("words of serve".into());
+    };
+    if !fits(outside, ask.workers) {
+        return Err("16 folders, and a listener and a clock for each worker".into());
+    }
+    Ok(run(rt, alloc, words, outside))
+}
+
+/// The same of words that are given as texts.
+fn serve<R: Threads + Wait + Sync, F: Folder + Send, L: Link + Send + Drop>(
     rt: &R,
     alloc: Global,
     list: &[&str],
     outside: &mut Served<F, L>,
 ) -> Result<u8, Fail> {
     let words = words_of(alloc, list)?;
-    let Some(ask) = serve_ask(&words) else {
-        return Err("words of serve".into());
-    };
-    assert!(rt; outside.folders.len() == 16);
-    assert!(rt; outside.listeners.len() == ask.workers as usize);
-    assert!(rt; outside.clocks.len() == ask.workers as usize);
-    Ok(run(rt, alloc, &words, outside))
+    serve_over(rt, alloc, &words, outside)
 }
 
 /// A POST on a file by its id, with this token.
