@@ -40,3 +40,9 @@ returns-in-Some-Edit-clause-once c = λ row. let is = (c.read_words.ensures Once
 
 pub returns-in-Some-Edit-clause-serve : goal.returns-in-Some-Edit-clause-serve
 returns-in-Some-Edit-clause-serve c = λ key base ask row. let is = (c.read_words.ensures Serve).1 (key, base, ask, row) in absurd (cc is)
+
+pub returns-in-Some-Replay-clause-once : goal.returns-in-Some-Replay-clause-once
+returns-in-Some-Replay-clause-once c = λ row. let is = (c.read_words.ensures Once).1 row in absurd (cc is)
+
+pub returns-in-Some-Replay-clause-serve : goal.returns-in-Some-Replay-clause-serve
+returns-in-Some-Replay-clause-serve c = λ key base ask row. let is = (c.read_words.ensures Serve).1 (key, base, ask, row) in absurd (cc is)
