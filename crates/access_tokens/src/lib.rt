@@ -8,8 +8,8 @@
 //!
 //! [`mint`] writes a token under a key and [`read`] reads one, where its text has the form and its
 //! code is right. [`live`] says whether a token that was read counts at a moment: what it allows
-//! is for the caller to judge. A text has one reading at most, and what is minted is read back
-//! (the functions of [`laws`]). [`may_write`] and [`moment_read`] read single fields. Nothing but
+//! is for the caller to judge. A text has one reading at most, and what is minted of a token with
+//! legal moments is read back (the functions of [`laws`]). [`may_write`] and [`moment_read`] read single fields. Nothing but
 //! [`mint`] takes memory.
 #![tactic(auto)]
 

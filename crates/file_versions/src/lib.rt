@@ -1,8 +1,8 @@
 //! The contents of every version of every file of a shard.
 //!
 //! Contents are moved in and handed out by reference, and never copied. A version is named by the
-//! number of its file's name and by the file's version. Nothing is taken out during a run, save to
-//! undo an `add` whose contents then couldn't be stored.
+//! number of its file's name and by the file's version. A shard takes nothing out during a run, save
+//! to undo an `add` whose contents then couldn't be stored.
 //!
 //! The versions stand in a list, in the order in which they came, and a lookup goes through it. A
 //! step of a file costs one such lookup of two numbers each, over at most as many versions as the

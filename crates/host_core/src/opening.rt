@@ -29,7 +29,7 @@ const MOST_FILES: usize = 4_000_000_000;
 /// The most bytes of all files: 256 MiB.
 const MOST_KEPT: u64 = 268_435_456;
 
-/// A file that stood in the folder when the shard opened. A contract sees its contents.
+/// A file that stood in the folder when the shard opened.
 #[derive(Drop)]
 pub struct OpeningFile {
     pub name: FileName,

@@ -7,7 +7,7 @@
 //!
 //! The table follows MS-WOPI's pages on Lock, GetLock, RefreshLock, Unlock, UnlockAndRelock, PutFile,
 //! PutRelativeFile and DeleteFile. That an id which has ended is refused for a while is a rule of
-//! this project: a delayed request can then never take effect under a lock that has ended.
+//! this project: for so long a delayed request can't take effect under a lock that has ended.
 #![tactic(auto)]
 
 ghost use Rattle.std.specs.Prelude.{◌≡◌, false, None, Some, IfSome, max};

@@ -2,7 +2,7 @@
 //!
 //! The program can't hear a signal. Whoever wants it to end makes a file at a path that it was told
 //! when it began, and then connects to it once for each worker, so that each accept returns.
-ghost use Rattle.std.specs.Prelude.{◌≡◌, ◌≤◌, ◌-◌, ◌↔◌, true, false, IfOk, IsErr, IsErrOf, None, Ok, map, vec_len};
+ghost use Rattle.std.specs.Prelude.{◌≡◌, ◌≤◌, ◌-◌, ◌↔◌, true, false, IfOk, OnOk, IsErr, IsErrOf, None, Ok, map, vec_len};
 
 use outside::{Accepted, Listener, OutFault};
 use std::alloc::Global;
@@ -91,6 +91,7 @@ impl<'a, R: Files, N: Listener> Listener for StopListener<'a, R, N> {
         ensures finished { N.finished self.new.listener - self.new.turned_away ≡ N.finished self.old.listener - self.old.turned_away }
         ensures never_falls { N.faults self.old.listener ≤ N.faults self.new.listener }
         ensures failed { IsErrOf result OutFault.Failed → Rose (N.faults self.old.listener) (N.faults self.new.listener) }
+        ensures fine { OnOk result (N.faults self.new.listener ≡ N.faults self.old.listener) }
 
         // While it stays open it answers what its listener answers.
         ensures open { self.new.is_closed ≡ false → Accepts (N.links_left self.old.listener) (N.links_left self.new.listener) result }

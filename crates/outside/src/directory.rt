@@ -19,8 +19,10 @@ const LONGEST_NAME: usize = 250;
 /// The plain files of one folder of the file system. It tells nothing of content.
 ///
 /// A file is replaced whole: the new contents go to `.{name}.tmp` beside it, are synced, and are
-/// renamed over the name, and then the folder is synced. So the name holds the old contents or the
-/// new ones at each moment, also after a crash. A file that is replaced keeps its permissions.
+/// renamed over the name, and then the folder is synced. Where the file system renames at once, the
+/// name holds the old contents or the new ones at each moment, also after a crash: no contract says
+/// so, tests show it over a file system that fails at each step. A file that is replaced keeps its
+/// permissions.
 ///
 /// No file of the folder is what isn't a plain file (a folder, a link, a pipe), nor a name of more
 /// than 250 bytes, with a slash or a NUL, or of the form `.{name}.tmp`: such a name isn't listed, is

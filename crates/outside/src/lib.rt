@@ -3,8 +3,8 @@
 //! A trait stands for each thing outside: `Source` and `Sink` for streams of bytes, `Link` for both
 //! ends of a connection, `Folder` for files by name, `Listener` for where connections come from,
 //! `Dialer` for one request and its reply, `Clock` for the time. Each trait has a written meaning
-//! that an object may tell or not, and a count of faults that never falls: a call answers `Failed`
-//! only where the count rose in this call.
+//! that an object may tell or not. Each but `Clock` has a count of faults that never falls: a call
+//! answers `Failed` only where the count rose in this call.
 //!
 //! `memory` has a fake of each, which tells all that its trait leaves optional and fails at the
 //! calls that it was told to fail at. `standard`, `directory` and `network` have the real things,

@@ -1,4 +1,4 @@
-ghost use Rattle.std.specs.Prelude.{◌≡◌, ◌≤◌, ◌<◌, ◌+◌, ℕ, List, IfOk, OnErr, IsErrOf, Option};
+ghost use Rattle.std.specs.Prelude.{◌≡◌, ◌≤◌, ◌<◌, ◌+◌, ℕ, List, IfOk, OnErr, OnOk, IsErrOf, Option};
 ghost use Rattle.outside.specs.Faults.{Rose};
 ghost use Rattle.outside.specs.Listener.{Accepts, AcceptsNumber, Finishes, KeepsLinks};
 
@@ -38,7 +38,8 @@ pub trait Listener: Drop {
         ensures finished { finished self.new ≡ finished self.old }
         ensures finished_links { KeepsLinks (finished_links self.old) (finished_links self.new) }
         ensures never_falls { faults self.old ≤ faults self.new }
-        ensures failed { IsErrOf result OutFault.Failed → Rose (faults self.old) (faults self.new) };
+        ensures failed { IsErrOf result OutFault.Failed → Rose (faults self.old) (faults self.new) }
+        ensures fine { OnOk result (faults self.new ≡ faults self.old) };
 
     /// Hands back a link that was accepted. It takes no memory and never fails.
     fn finish(&mut self, link: Self::Link)

@@ -9,9 +9,10 @@
 //! that it took.
 //!
 //! What a seat has seen begins every list that it takes later. An entry's place is own to the seat
-//! that added it and to no other. Seats are split off and joined again, and all seats of a lock
-//! together have the weight 2^62: so a seat with this weight is the only one left. It ends the
-//! lock and has the value, and each place of the value's list is that seat's own.
+//! that added it, or to the one that this seat was joined to, and to no other. Seats are split off
+//! and joined again, and all seats of a lock together have the weight 2^62. A seat that has this
+//! whole weight ends the lock and has the value, and each place of the value's list is that seat's
+//! own.
 //!
 //! The lock is a table of four words and one slot (`atomic_table`). The words are the next ticket,
 //! the ticket that is served, the number of entries, and the weight that is on its way from one

@@ -9,9 +9,10 @@ ghost use Rattle.wopi_world.specs.World as event;
 ghost use Rattle.wopi_world.specs.Valid.{IsValid};
 ghost use Rattle.wopi_world.specs.Safe.{IsSafe};
 
-/// Whatever is delivered, lost, repeated, delayed or expires, non-empty contents change only under
-/// the lock that is held or, where none is, by a Create that overwrites or a Delete; and what was
-/// acknowledged to a session is replaced only by its later save, or after its lock has ended.
+/// In a valid world, whatever is delivered, lost, repeated, delayed or expires, non-empty contents
+/// change only under the lock that is held or, where none is, by a Create that overwrites or a
+/// Delete; and what was acknowledged to a session is replaced only by its later save, or after its
+/// lock has ended.
 pub fn safe_always()
     ensures { (setting : Setting) (events : List Event) → IsValid setting events → IsSafe setting (run setting events) }
 {}

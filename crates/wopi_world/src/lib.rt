@@ -1,4 +1,5 @@
-//! The world of one host and its sessions, as definitions, and the law that no save is lost in it.
+//! The world of one host and its sessions, as definitions, and the law that it is safe: what was
+//! acknowledged to a session is replaced only by its own later save or after its lock has ended.
 //!
 //! A world (`specs/World.antt`) has one shard of a host with its history, any number of sessions,
 //! and all that was ever sent between them. Events come in any order: a session is asked for

@@ -1,5 +1,5 @@
 //! A listener in memory.
-ghost use Rattle.std.specs.Prelude.{◌≡◌, ◌≤◌, ◌+◌, ◌↔◌, [], ℕ, List, IfOk, IsErr, IsErrOf, Some, length, vec_capacity};
+ghost use Rattle.std.specs.Prelude.{◌≡◌, ◌≤◌, ◌+◌, ◌↔◌, [], ℕ, List, IfOk, OnOk, IsErr, IsErrOf, Some, length, vec_capacity};
 ghost use Rattle.outside.specs.Failing.{FailsNext, CountsOne, IsFresh};
 
 use crate::{Accepted, Failing, Link, Listener, OutFault};
@@ -70,6 +70,7 @@ impl<L: Link + Send + Drop> Listener for MemListener<L> {
         ensures finished_links { KeepsLinks (Some (put_back self.old)) (Some (put_back self.new)) }
         ensures never_falls { (script self.old).faults ≤ (script self.new).faults }
         ensures failed { IsErrOf result OutFault.Failed → Rose (script self.old).faults (script self.new).faults }
+        ensures fine { OnOk result ((script self.new).faults ≡ (script self.old).faults) }
 
         // It fails at the given calls alone.
         ensures fails { IsErrOf result OutFault.Failed ↔ FailsNext (script self.old) }
