@@ -1,9 +1,8 @@
 -- Numbers, cells, ranges and atoms: what is read is one, and one is read where no digit follows it.
-use Rattle.std.proofs.Common.{◌≡◌, ℕ, zero, suc, ◌+◌, ◌-◌, ◌^◌, ◌<◌, Bool, true, false, List, [], ◌∷◌, ◌++◌, Option, Some, None, length, take, drop, slice_index, option_map, pos, cond, nat_lt, nat_le, ◌&&◌, ◌==◌, refl, sym, ◌∙◌, ap, subst, arith, append_assoc}
+use Rattle.std.proofs.Common.{◌≡◌, ℕ, suc, ◌+◌, ◌-◌, ◌^◌, ◌<◌, Bool, true, false, List, [], ◌∷◌, ◌++◌, Option, Some, None, length, take, drop, slice_index, option_map, pos, cond, nat_lt, ◌&&◌, ◌==◌, refl, sym, ◌∙◌, ap, subst, arith, append_assoc}
 use Rattle.std.proofs.Math.Seq.{drop-append_seam, take-append_seam}
 use Rattle.std.proofs.lemmas.Bool.{eqb-true}
 use Rattle.std.proofs.lemmas.Bool.Decides.{nat_tests}
-use Rattle.std.proofs.lemmas.Grind.{common_steps}
 use Rattle.std.proofs.lemmas.List.{take-append-drop}
 use Rattle.std.proofs.lemmas.Option.{cond_some, none-some, option_and_then_some, same_Some}
 use Rattle.std.specs.Char.{is_ascii_digit, is_ascii_uppercase}

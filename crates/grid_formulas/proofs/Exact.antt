@@ -1,13 +1,12 @@
 -- What is read as a formula is in the grammar, and what is in it is read.
-use Rattle.std.proofs.Common.{◌≡◌, ℕ, zero, suc, ◌<◌, ◌≤◌, Bool, true, false, List, [], ◌∷◌, ◌++◌, Option, Some, None, length, drop, slice_index, option_map, cond, nat_le, ◌&&◌, ◌==◌, ◌⊎◌, inl, inr, refl, sym, ◌∙◌, ap, subst, arith, append_assoc}
+use Rattle.std.proofs.Common.{◌≡◌, ℕ, zero, suc, ◌≤◌, Bool, true, false, List, [], ◌∷◌, ◌++◌, Option, Some, None, length, drop, option_map, cond, nat_le, ◌&&◌, ◌==◌, inl, inr, refl, sym, ◌∙◌, ap, subst, arith, append_assoc}
 use Rattle.std.proofs.lemmas.Bool.{eqb-true}
 use Rattle.std.proofs.lemmas.Bool.Decides.{nat_tests}
 use Rattle.std.proofs.lemmas.List.{append-nil, nil_from_length}
 use Rattle.std.proofs.lemmas.Option.{cond_some, none-some, option_and_then_some, same_Some, some_pair_parts}
-use Rattle.std.specs.Option.{option_and_then}
 use Rattle.grid_formulas.specs.declared.formula.Step.{Step}
 use Rattle.grid_formulas.specs.declared.formula.Step.TheVariants as step
-use Rattle.grid_formulas.specs.Grammar.{IsChain, IsFormula, IsNegative, IsNested, IsPlain, IsProduct, IsSign, IsStar, IsSum, IsUnary}
+use Rattle.grid_formulas.specs.Grammar.{IsFormula, IsNegative, IsNested, IsPlain, IsProduct, IsSign, IsStar, IsSum, IsUnary}
 use Rattle.grid_formulas.specs.Reading.{Found, Reader, atom_at, behind, choose, formula_of, is_formula, negative_at, parentheses_at, plain_at, product_at, sign_at, star_at, sum_at, unary_at, whole}
 use Rattle.grid_formulas.proofs.Atoms.{NoDigit, and_then_is, atom_begins, atom_full, atom_sound, behind_apart, behind_is, both, map_is, map_some}
 use Rattle.grid_formulas.proofs.Chains.{Full, FullOperator, Sound, SoundOperator, chain_full, chain_sound}
