@@ -1,5 +1,8 @@
+pub mod Atoms
 pub mod Calm
+pub mod Chains
 pub mod Done
+pub mod Exact
 pub mod Folds
 pub mod Gathered
 pub mod Indexed

@@ -9,7 +9,7 @@ unfolding more
 more_none operator operand zero left text e = refl
 more_none operator operand (suc n) left text e = ap (λ o. more_from o operand (more operator operand n) left text) e
 
-more_at : (operator : List ℕ → Found Step) (operand : Reader) (n k : ℕ) (left : List Step) (text : List ℕ) (o : Found Step) → n ≡ suc k → operator text ≡ o → more operator operand n left text ≡ more_from o operand (more operator operand k) left text
+pub more_at : (operator : List ℕ → Found Step) (operand : Reader) (n k : ℕ) (left : List Step) (text : List ℕ) (o : Found Step) → n ≡ suc k → operator text ≡ o → more operator operand n left text ≡ more_from o operand (more operator operand k) left text
 unfolding more
 more_at operator operand n k left text o n_is e =
     ap (λ m. more operator operand m left text) n_is ∙ ap (λ x. more_from x operand (more operator operand k) left text) e

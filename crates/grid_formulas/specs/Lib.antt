@@ -1,5 +1,6 @@
 pub mod Cells
 pub mod Changes
+pub mod Grammar
 pub mod Marks
 pub mod Numbers
 pub mod Places

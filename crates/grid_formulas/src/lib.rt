@@ -28,7 +28,9 @@ mod evaluate;
 mod fault;
 mod formula;
 mod gather;
+mod laws;
 mod links;
+mod list;
 mod nodes;
 mod number;
 mod order;
@@ -44,7 +46,9 @@ mod values;
 
 pub use fault::SheetFault;
 pub use formula::{Span, Step};
-pub use sheet::{Changed, Sheet};
+pub use laws::{a_text_has_one_formula, what_is_read_is_the_grammar};
+pub use list::Changed;
+pub use sheet::Sheet;
 pub use value::Value;
 
 #[cfg(test)]

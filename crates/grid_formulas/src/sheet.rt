@@ -18,35 +18,12 @@ use crate::gather::gather;
 use crate::nodes::{readers_of, take_over};
 use crate::turn::places_of_values;
 use crate::values::{places_of, values_of};
-use crate::{SheetFault, Value, text};
+use crate::{Changed, SheetFault, Value, text};
 use grid_sheet::{Grid, MOST_CELLS, MOST_ROWS};
 use std::alloc::Global;
 use std::collections::{BTreeMap, BTreeSet};
 use std::marker::Model;
 use wopi_text::{Bytes, Memory};
-
-/// The cells whose value a change made another, by row and column.
-#[derive(Drop)]
-pub struct Changed {
-    cells: Vec<(usize, usize)>,
-}
-
-impl Model for Changed {
-    ghost use Rattle.std.specs.Prelude.{List, ℕ};
-
-    ghost Value = { List (ℕ × ℕ) };
-
-    ghost view = { λ c. c.cells.items };
-}
-
-impl Changed {
-    /// The cells, as row and column.
-    pub fn as_slice(&self) -> &[(usize, usize)]
-        ensures { result.now ≡ self.now }
-    {
-        &self.cells
-    }
-}
 
 // The value of the cell at a place.
 fn value_in(grid: &Grid, nodes: &BTreeMap<usize, Node>, place: usize) -> Value
@@ -140,7 +117,7 @@ impl Sheet {
             column,
         );
         match set {
-            Ok(cells) => Ok(Changed { cells }),
+            Ok(cells) => Ok(Changed::from_vec(cells)),
             Err(fault) => Err(fault),
         }
     }

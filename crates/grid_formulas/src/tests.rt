@@ -279,3 +279,17 @@ fn a_set_under_100_000_formulas(rt: HostRuntime) -> Result<(), Fail> {
     assert_eq!(rt; sheet.value(99_991, 1), Value::Number(1));
     Ok(())
 }
+
+#[test]
+fn the_list_of_changes(rt: HostRuntime) -> Result<(), Fail> {
+    let mut changed = Changed::new(rt.alloc());
+    assert!(rt; changed.is_empty());
+    changed.push((1, 2))?;
+    changed.push((3, 4))?;
+    assert_eq!(rt; changed.len(), 2);
+    assert_eq!(rt; changed.get(1), Some(&(3, 4)));
+    assert_eq!(rt; changed.get(2), None);
+    let cells = changed.into_vec();
+    assert_eq!(rt; cells.as_slice(), [(1, 2), (3, 4)].as_slice());
+    Ok(())
+}
