@@ -1,6 +1,5 @@
-use Rattle.std.proofs.Common.{◌≡◌, rules}
+use Rattle.std.proofs.Common.{rules}
 use Rattle.std.specs.Io.KnownBytes.{IsAtEnd}
-use Rattle.replay_cmd.specs.Inputs.{IsInputRead}
 use Rattle.replay_cmd.proofs.InputLemmas.{whole_input}
 use Rattle.replay_cmd.proofs.input.read_schedule.Goals as goal
 

@@ -1,4 +1,4 @@
-use Rattle.std.proofs.Common.{◌≡◌, ◌∷◌, ◌++◌, ℕ, List, subst}
+use Rattle.std.proofs.Common.{◌++◌, ℕ, List, subst}
 use Rattle.replay_cmd.specs.Pieces.{HasCome, LacksFeed}
 use Rattle.replay_cmd.proofs.PieceLemmas.{one_room, rest_taken}
 use Rattle.replay_cmd.proofs.pieces.PieceReader.take_all.Goals as goal
