@@ -1,5 +1,5 @@
 -- The words of `replay`.
-use Rattle.std.proofs.Common.{◌≡◌, ℕ, ◌<◌, ◌≤◌, ◌^◌, List, [], ◌∷◌, ◌++◌, Option, None, Some, length, get_or, take, codes, decimal, refl, sym, ap, subst, ◌∙◌, append_assoc, append-nil, arith}
+use Rattle.std.proofs.Common.{◌≡◌, ℕ, ◌<◌, ◌≤◌, ◌^◌, List, [], ◌∷◌, None, Some, length, get_or, codes, decimal, sym, ap, ◌∙◌, arith}
 use Rattle.wopi_text.specs.Decimals.{decimal_of}
 use Rattle.wopi_text.proofs.Decimals.{decimal_of-some, decimal_of-decimal}
 use Rattle.wopi_program.specs.declared.replay_words.ReplayAsk.{ReplayAsk}
