@@ -1,4 +1,4 @@
-//! Makes the real streams, folders, listeners and clocks, hands them to the top call, and ends with its status.
+//! Makes the real streams, folders, listeners, dialer and clocks, hands them to the top call, and ends with its status.
 #![tactic(auto)]
 
 ghost use Rattle.std.specs.Prelude.{◌≡◌, ◌↔◌, ℕ, List, IfOk, IsErr, map, string_bytes, vec_len};

@@ -29,3 +29,5 @@ mod LastRow
 mod ReadSteps
 mod FittingLines
 mod OneReading
+mod PieceLemmas
+mod InputLemmas

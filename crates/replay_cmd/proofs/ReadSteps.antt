@@ -5,22 +5,13 @@ use Rattle.replay_cmd.specs.declared.one_line.AnyLine.{AnyLine}
 use Rattle.replay_cmd.specs.declared.reading.Reader.{Reader}
 use Rattle.replay_cmd.specs.Schedules.{IsSchedule, Lines}
 use Rattle.replay_cmd.specs.Grammar.{AreRows, IsBadLine, IsText, most_rows, rows_of, says}
-use Rattle.replay_cmd.specs.Readings.{HasNames, IsLine, IsRefused, IsTaken, lines_in, names_of, with_line}
+use Rattle.replay_cmd.specs.Readings.{Alike, HasNames, IsLine, IsRefused, IsSoFar, IsTaken, lines_in, names_of, with_line}
 use Rattle.replay_cmd.proofs.Growing.{all_front, count_of, fits_there, said_next, silent_next}
 use Rattle.replay_cmd.proofs.LastRow.{last_row, silent_last}
-use Rattle.replay_cmd.proofs.SameRows.{Alike, alike_next, fits_alike}
+use Rattle.replay_cmd.proofs.SameRows.{alike_next, fits_alike}
 
 abbrev Rows : Type 0
 Rows = List (List ℕ)
-
--- The rows that were read are those of the lines that the reader has, and of no others that look different from behind.
-pub record IsSoFar (text rest : List ℕ) (reader : Reader) : Type 0 where
-  pub done : Rows
-  pub splits : rows_of text ≡ done ++ rows_of rest
-  pub good : AreRows done (lines_in reader)
-  pub only : (other : Lines) → AreRows done other → Alike (lines_in reader) other
-  pub count : reader.rows ≡ length done
-  pub names : HasNames reader.names reader.files.items
 
 abbrev nothing : Lines
 nothing = record { files = []; sessions = []; events = [] }

@@ -24,7 +24,7 @@ use Rattle.replay_cmd.specs.declared.one_line.AnyLine.{AnyLine}
 use Rattle.replay_cmd.specs.declared.one_line.AnyLine.TheVariants.{File, Session, Event}
 use Rattle.replay_cmd.specs.Schedules.{Lines}
 use Rattle.replay_cmd.specs.Grammar.{AreAsked, IsCounted, IsLockWord, IsSessionRow, words_of}
-use Rattle.replay_cmd.specs.Readings.{Fits, HasNonce, IsLine, is_among, names_of, with_line}
+use Rattle.replay_cmd.specs.Readings.{Alike, Fits, HasNonce, IsLine, is_among, names_of, with_line}
 use Rattle.replay_cmd.proofs.RowForms.{four_same, three_same}
 
 -- ---- what the words want
@@ -174,11 +174,6 @@ pub fits_same : (lines : Lines) (row : List ℕ) (one other : AnyLine) → IsLin
 fits_same lines row one other is too fits = (by_words lines row other too).1 ((by_words lines row one is).0 fits)
 
 -- ---- lines that look alike from behind
-
-pub record Alike (a b : Lines) : Type 0 where
-  pub names : names_of a.files ≡ names_of b.files
-  pub sessions : a.sessions ≡ b.sessions
-  pub events : length a.events ≡ length b.events
 
 no_length : {T : Type 0} (a b : List T) → length a ≡ length b → a ≡ [] → b ≡ []
 no_length a [] e none = refl

@@ -19,3 +19,5 @@ pub mod Wires
 pub mod Grammar
 pub mod RowKinds
 pub mod Readings
+pub mod Pieces
+pub mod Inputs

@@ -14,7 +14,7 @@ use Rattle.replay_cmd.specs.declared.one_line.AnyLine.{AnyLine}
 use Rattle.replay_cmd.specs.declared.one_line.AnyLine.TheVariants.{File, Session, Event}
 use Rattle.replay_cmd.specs.declared.reading.Reader.{Reader}
 use Rattle.replay_cmd.specs.Schedules.{IsOfNobody, Lines}
-use Rattle.replay_cmd.specs.Grammar.{IsAsked, IsEventRow, IsFileRow, IsSessionRow, most_bytes, most_rows, says, words_of}
+use Rattle.replay_cmd.specs.Grammar.{AreRows, IsAsked, IsEventRow, IsFileRow, IsSessionRow, most_bytes, most_rows, rows_of, says, words_of}
 
 -- the text asks for this, by a token that expires at that moment
 abbrev pub Asks : List ℕ → ℕ → ForeignAsk → Type 0
@@ -97,3 +97,18 @@ pub record IsTaken (row : List ℕ) (old new : Reader) : Type 0 where
 abbrev pub IsRefused : List ℕ → Reader → Type 0
 IsRefused row old =
     (most_rows ≤ old.rows) ⊎ ((most_bytes < length row) ⊎ ((says row ≡ true) × ((line : AnyLine) → IsLine row line → Fits (lines_in old) line → ⊥)))
+
+-- lines that look alike from behind
+pub record Alike (a b : Lines) : Type 0 where
+  pub names : names_of a.files ≡ names_of b.files
+  pub sessions : a.sessions ≡ b.sessions
+  pub events : length a.events ≡ length b.events
+
+-- The rows that were read are those of the lines that the reader has, and of no others that look different from behind.
+pub record IsSoFar (text rest : List ℕ) (reader : Reader) : Type 0 where
+  pub done : List (List ℕ)
+  pub splits : rows_of text ≡ done ++ rows_of rest
+  pub good : AreRows done (lines_in reader)
+  pub only : (other : Lines) → AreRows done other → Alike (lines_in reader) other
+  pub count : reader.rows ≡ length done
+  pub names : HasNames reader.names reader.files.items

@@ -1,14 +1,15 @@
 //! Schedules, read from a text.
-ghost use Rattle.std.specs.Prelude.{◌≡◌, [], ℕ, false, IsTrue, IfOk, Err};
+ghost use Rattle.std.specs.Prelude.{◌≡◌, ◌↔◌, ◌≤◌, ◌+◌, [], ℕ, false, IsTrue, IfOk, Err};
 ghost use Rattle.replay_cmd.specs.declared.one_line.AnyLine.TheVariants.{File, Session, Event};
 ghost use Rattle.replay_cmd.specs.declared.reading.ScheduleFault.TheVariants.{BadLine};
-ghost use Rattle.replay_cmd.specs.Grammar.{IsBadLine, IsText, says};
+ghost use Rattle.replay_cmd.specs.Grammar.{IsBadLine, IsText, most_rows, says};
 ghost use Rattle.replay_cmd.specs.Readings.{Fits, HasNames, IsAdded, IsRefused, IsTaken, lines_in};
+ghost use Rattle.replay_cmd.specs.Schedules.{IsSchedule};
 
 use crate::fitting::{is_known, note, suits};
 use crate::one_line::{AnyLine, line_read};
+use crate::pieces::PieceReader;
 use crate::schedule::{EventLine, FileLine, Schedule, SessionLine};
-use crate::splitting::first_row;
 use std::alloc::Global;
 use std::collections::BTreeSet;
 use thiserror::Error;
@@ -18,7 +19,7 @@ use wopi_text::Memory;
 const MOST_ROWS: u64 = 16_000;
 
 /// The most bytes of a line, without its line feed.
-const MOST_BYTES: usize = 20_000;
+pub(crate) const MOST_BYTES: usize = 20_000;
 
 /// The most sessions.
 const MOST_SESSIONS: usize = 64;
@@ -55,7 +56,7 @@ fn says(row: &[u8]) -> bool
 }
 
 impl Reader {
-    fn new(alloc: Global) -> Reader
+    pub(crate) fn new(alloc: Global) -> Reader
         ensures none { (result.files.items ≡ []) × (result.sessions.items ≡ []) × (result.events.items ≡ []) }
         ensures names { HasNames result.names result.files.items }
         ensures rows { result.rows ≡ 0 }
@@ -71,7 +72,7 @@ impl Reader {
     }
 
     /// Takes the next line, and tells whether it is a good one.
-    fn take(&mut self, row: &[u8]) -> Result<bool, Memory>
+    pub(crate) fn take(&mut self, row: &[u8]) -> Result<bool, Memory>
         requires names { HasNames self.old.names self.old.files.items }
         ensures good { IfOk result (λ good. IsTrue good → IsTaken row.now self.old self.new) }
         ensures bad { IfOk result (λ good. good ≡ false → IsRefused row.now self.old × (self.new.rows ≡ self.old.rows)) }
@@ -94,6 +95,29 @@ impl Reader {
         }
         self.rows += 1;
         Ok(true)
+    }
+
+    /// Whether there may be no line more.
+    pub(crate) fn is_full(&self) -> bool
+        ensures { IsTrue result ↔ (most_rows ≤ self.now.rows) }
+    {
+        self.rows >= MOST_ROWS
+    }
+
+    /// The number of the next line.
+    pub(crate) fn next(&self) -> u64
+        requires { self.now.rows ≤ most_rows }
+        ensures { result ≡ self.now.rows + 1 }
+    {
+        self.rows + 1
+    }
+
+    /// The schedule of the lines that were taken.
+    pub(crate) fn finish(self) -> Schedule
+        requires { IsSchedule (lines_in self) }
+        ensures { result ≡ lines_in self }
+    {
+        Schedule::new(self.files, self.sessions, self.events)
     }
 
     /// Adds a line, if it can stand here.
@@ -164,20 +188,10 @@ impl Schedule {
         ensures text { IfOk result (λ schedule. IsText text.now schedule) }
         ensures bad { (line : ℕ) → result ≡ Err (BadLine line) → IsBadLine text.now line }
     {
-        let mut reader = Reader::new(alloc);
-        let mut rest = text;
-        'rows: while let Some((row, behind)) = first_row(rest) {
-            match reader.take(row) {
-                Ok(true) => {}
-                Ok(false) => {
-                    return Err(ScheduleFault::BadLine {
-                        line: reader.rows + 1,
-                    });
-                }
-                Err(Memory) => return Err(ScheduleFault::Memory),
-            }
-            rest = behind;
+        let mut pieces = PieceReader::new(alloc);
+        match pieces.take_all(text) {
+            Ok(()) => return pieces.finish(),
+            Err(fault) => return Err(fault),
         }
-        Ok(Schedule::new(reader.files, reader.sessions, reader.events))
     }
 }

@@ -1,19 +1,19 @@
 -- The statuses of `replay`, and the texts that it writes.
 use Rattle.std.proofs.Common.{◌≡◌, ◌≢◌, ◌⊎◌, ℕ, List, [], Option, sym, ◌∙◌, subst, arith, inl, inr}
-use Rattle.std.specs.Io.KnownBytes.{Appends}
+use Rattle.std.specs.Io.KnownBytes.{Appends, IsAtEnd}
 use Rattle.outside.specs.Stream.{GrewByPrefix}
 use Rattle.wopi_world.specs.Safe.{IsSafe}
 use Rattle.replay_cmd.specs.Schedules.{Lines}
 use Rattle.replay_cmd.specs.Runs.{setting_of, world_of}
 use Rattle.replay_cmd.specs.Worlds.{IsTextOf}
-use Rattle.replay_cmd.specs.Grammar.{IsText}
+use Rattle.replay_cmd.specs.Inputs.{IsWholeInput}
 use Rattle.replay_cmd.specs.Trace.{trace_text}
 use Rattle.wopi_program.specs.declared.outside_world.Outside.{Outside}
 use Rattle.wopi_program.specs.declared.replay_words.ReplayAsk.{ReplayAsk}
 use Rattle.wopi_program.specs.declared.replay_words.ReplayAsk.TheVariants.{Input, Generated}
 use Rattle.wopi_program.specs.Meanings.{Meanings}
-use Rattle.wopi_program.specs.Edit.{Tells}
-use Rattle.wopi_program.specs.Replay.{AskReplays, InputReplays, IsTold, ReplayEnds, Replays, TextReplays}
+use Rattle.wopi_program.specs.Edit.{Tells, bad_line}
+use Rattle.wopi_program.specs.Replay.{AskReplays, InputReplays, IsTold, ReplayEnds, Replays}
 
 -- ---- statuses
 
@@ -44,23 +44,15 @@ bad-not n other held held' status last (inl (seven, grew)) is = other.3 (sym is 
 bad-not n other held held' status last (inr (some, inl (four, front, rest, same, more))) is = other.1 (sym is ∙ four)
 bad-not n other held held' status last (inr (some, inr (six, more))) is = other.2 (sym is ∙ six)
 
-text-not : {K : Type 0} (n : ℕ) → IsOther n → (held : K → Option (List ℕ)) (text : List ℕ) (status : ℕ) (output output' : K)
-    → TextReplays held text status output output' → status ≢ n
-text-not n other held text status output output' (inl (six, kept)) is = other.2 (sym is ∙ six)
-text-not n other held text status output output' (inr (inl bad)) is = bad-not n other (held output) (held output') status _ bad.told is
-text-not n other held text status output output' (inr (inr traced)) is = told-not n other trace_text traced.lines status (held output) (held output') traced.told is
-
--- a text that was read gives no status of a failed read
-pub text_not_3 : {K : Type 0} (held : K → Option (List ℕ)) (text : List ℕ) (status : ℕ) (output output' : K) → TextReplays held text status output output' → status ≢ 3
-text_not_3 held text status output output' replays is = text-not 3 three_is_other held text status output output' replays is
-
 input-not-2 : {K : Type 0} (held : K → Option (List ℕ)) (left left' : Option (List ℕ)) (status : ℕ) (output output' : K)
     → InputReplays held left left' status output output' → status ≢ 2
-input-not-2 held left left' status output output' (inl unread) two = elim unread.statuses [
+input-not-2 held left left' status output output' (inl unrun) two = elim unrun.statuses [
   | inl three ↦ absurd (omega (arith, three, two))
   | inr six ↦ absurd (omega (arith, six, two))
 ]
-input-not-2 held left left' status output output' (inr read) two = text-not 2 two_is_other held read.text status output output' read.replays two
+input-not-2 held left left' status output output' (inr (inl bad)) two = bad-not 2 two_is_other (held output) (held output') status _ bad.told two
+input-not-2 held left left' status output output' (inr (inr traced)) two =
+    told-not 2 two_is_other trace_text traced.lines status (held output) (held output') traced.told two
 
 ask-not-2 : {S K : Type 0} (left : S → Option (List ℕ)) (held : K → Option (List ℕ)) (ask : ReplayAsk) (status : ℕ) (input input' : S) (output output' : K)
     → AskReplays left held ask status input input' output output' → status ≢ 2
@@ -90,8 +82,17 @@ told_of text_of lines text shown status held held' safe (names, are, is) same (i
   told = inr (four, subst (λ l. GrewByPrefix held held' l) (same ∙ is) (cut four));
 }
 
--- the trace of a text that was read
-pub traced_of : {K : Type 0} (held : K → Option (List ℕ)) (text : List ℕ) (lines : Lines) (status : ℕ) (output output' : K)
-    → IsText text lines → Replays held trace_text lines status output output' → TextReplays held text status output output'
-traced_of held text lines status output output' read (inl kept) = inl kept
-traced_of held text lines status output output' read (inr told) = inr (inr (record { lines = lines; read = read; told = told }))
+-- a schedule that was read has no status of a failed read
+pub replays_not_3 : {K : Type 0} (held : K → Option (List ℕ)) (lines : Lines) (status : ℕ) (output output' : K)
+    → Replays held trace_text lines status output output' → status ≢ 3
+replays_not_3 held lines status output output' replays is = replays-not 3 three_is_other held trace_text lines status output output' replays is
+
+-- and neither has a bad one
+pub bad_not_3 : (held held' : Option (List ℕ)) (status number : ℕ) → Tells held held' status 7 [] (bad_line number) → status ≢ 3
+bad_not_3 held held' status number told is = bad-not 3 three_is_other held held' status (bad_line number) told is
+
+-- the trace of an input that was read
+pub traced_of : {K : Type 0} (held : K → Option (List ℕ)) (left left' : Option (List ℕ)) (lines : Lines) (status : ℕ) (output output' : K)
+    → IsWholeInput left lines → IsAtEnd left' → Replays held trace_text lines status output output' → InputReplays held left left' status output output'
+traced_of held left left' lines status output output' read whole (inl wanting) = inl (record { statuses = inr wanting.0; output_is = wanting.1 })
+traced_of held left left' lines status output output' read whole (inr told) = inr (inr (record { lines = lines; read = read; whole = whole; told = told }))

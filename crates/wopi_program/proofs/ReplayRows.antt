@@ -1,7 +1,5 @@
--- The words of `replay`, and a whole input.
-use Rattle.std.proofs.Common.{◌≡◌, ℕ, ◌<◌, ◌≤◌, ◌^◌, List, [], ◌∷◌, ◌++◌, Option, None, Some, length, get_or, take, codes, decimal, refl, sym, ap, subst, ◌∙◌, append_assoc, append-nil, arith}
-use Rattle.std.specs.Io.KnownBytes.{Consumes, IsAtEnd}
-use Rattle.outside.specs.Stream.{Are}
+-- The words of `replay`.
+use Rattle.std.proofs.Common.{◌≡◌, ℕ, ◌<◌, ◌≤◌, ◌^◌, List, [], ◌∷◌, None, Some, length, get_or, codes, decimal, sym, ap, ◌∙◌, arith}
 use Rattle.wopi_text.specs.Decimals.{decimal_of}
 use Rattle.wopi_text.proofs.Decimals.{decimal_of-some, decimal_of-decimal}
 use Rattle.wopi_program.specs.declared.replay_words.ReplayAsk.{ReplayAsk}
@@ -45,28 +43,3 @@ few_events words (Generated seed' count') row seed count is =
     let same : count' ≡ count = cc is in
     let few = row.count_is in
     omega (arith, same, few)
-
--- ---- a whole input
-
-pub consumed_on : (left mid left' : Option (List ℕ)) (front piece : List ℕ) → Consumes left mid front → Consumes mid left' piece → Consumes left left' (front ++ piece)
-consumed_on None mid left' front piece a b = tt
-consumed_on (Some left) None left' front piece a b = absurd a
-consumed_on (Some left) (Some mid) None front piece a b = absurd b
-consumed_on (Some left) (Some mid) (Some left') front piece a b = a ∙ ap (λ l. front ++ l) b ∙ sym (append_assoc front piece left')
-
-pub consumed_none : (left : Option (List ℕ)) → Consumes left left []
-consumed_none None = tt
-consumed_none (Some left) = refl
-
-pub consumed_whole : (left left' : Option (List ℕ)) (front : List ℕ) → Consumes left left' front → IsAtEnd left' → Are left front
-consumed_whole None left' front a end = tt
-consumed_whole (Some left) None front a end = absurd a
-consumed_whole (Some left) (Some rest) front a end = a ∙ ap (λ l. front ++ l) end ∙ append-nil front
-
--- a read of no bytes ends it
-pub read_to_end : (left mid left' : Option (List ℕ)) (text piece : List ℕ) (count : ℕ) → Consumes left mid text → Consumes mid left' (take count piece)
-    → count ≡ 0 → IsAtEnd left' → Are left text
-read_to_end left mid left' text piece count before read zero end =
-    let none : take count piece ≡ [] = ap (λ n. take n piece) zero in
-    let all : Consumes left left' (text ++ []) = consumed_on left mid left' text [] before (subst (λ l. Consumes mid left' l) none read) in
-    consumed_whole left left' text (subst (λ l. Consumes left left' l) (append-nil text) all) end

@@ -2,13 +2,13 @@
 use Rattle.std.specs.Prelude.{◌≡◌, ◌⊎◌, ℕ, List, [], Option}
 use Rattle.std.specs.Io.KnownBytes.{Appends, IsAtEnd}
 use Rattle.outside.specs.Faults.{Rose}
-use Rattle.outside.specs.Stream.{Are, GrewByPrefix}
+use Rattle.outside.specs.Stream.{GrewByPrefix}
 use Rattle.wopi_model.specs.Shard.{AreNames}
 use Rattle.wopi_world.specs.Safe.{IsSafe}
 use Rattle.replay_cmd.specs.Schedules.{Lines}
 use Rattle.replay_cmd.specs.Runs.{setting_of, world_of}
 use Rattle.replay_cmd.specs.Generator.{generated}
-use Rattle.replay_cmd.specs.Grammar.{IsBadLine, IsText}
+use Rattle.replay_cmd.specs.Inputs.{IsBadInput, IsWholeInput}
 use Rattle.replay_cmd.specs.Trace.{summary_text, trace_text}
 use Rattle.wopi_program.specs.declared.outside_world.Outside.{Outside}
 use Rattle.wopi_program.specs.declared.replay_words.ReplayAsk.{ReplayAsk}
@@ -29,38 +29,28 @@ pub record IsTold (text_of : List (List ℕ) → Lines → List ℕ) (lines : Li
 abbrev pub Replays : {K : Type 0} → (K → Option (List ℕ)) → (List (List ℕ) → Lines → List ℕ) → Lines → ℕ → K → K → Type 0
 Replays held text_of lines status output output' = ((status ≡ 6) × (output' ≡ output)) ⊎ IsTold text_of lines status (held output) (held output')
 
--- The text is these lines, and their trace was told.
-pub record IsTraced {K : Type 0} (held : K → Option (List ℕ)) (text : List ℕ) (status : ℕ) (output output' : K) : Type 0 where
+-- The input, which was read to its end, is these lines, and their trace was told.
+pub record IsTraced {K : Type 0} (held : K → Option (List ℕ)) (left left' : Option (List ℕ)) (status : ℕ) (output output' : K) : Type 0 where
   pub lines : Lines
-  pub read : IsText text lines
+  pub read : IsWholeInput left lines
+  pub whole : IsAtEnd left'
   pub told : IsTold trace_text lines status (held output) (held output')
 
--- The text has its first bad line here.
-pub record IsBad {K : Type 0} (held : K → Option (List ℕ)) (text : List ℕ) (status : ℕ) (output output' : K) : Type 0 where
+-- The input has its first bad line here, whatever follows it.
+pub record IsBad {K : Type 0} (held : K → Option (List ℕ)) (left : Option (List ℕ)) (status : ℕ) (output output' : K) : Type 0 where
   pub number : ℕ
-  pub bad : IsBadLine text number
+  pub bad : IsBadInput left number
   pub told : Tells (held output) (held output') status 7 [] (bad_line number)
 
--- what became of a text; memory may be wanted before anything is written
-abbrev pub TextReplays : {K : Type 0} → (K → Option (List ℕ)) → List ℕ → ℕ → K → K → Type 0
-TextReplays held text status output output' =
-    ((status ≡ 6) × (output' ≡ output)) ⊎ (IsBad held text status output output' ⊎ IsTraced held text status output output')
-
--- The whole input, which was read to its end, is this text.
-pub record HasRead {K : Type 0} (held : K → Option (List ℕ)) (left left' : Option (List ℕ)) (status : ℕ) (output output' : K) : Type 0 where
-  pub text : List ℕ
-  pub text_is : Are left text
-  pub whole : IsAtEnd left'
-  pub replays : TextReplays held text status output output'
-
--- The input could not be read, or there was no memory for it: nothing was written.
-pub record IsNotRead {K : Type 0} (status : ℕ) (output output' : K) : Type 0 where
+-- The input could not be read, or memory was wanted: nothing was written.
+pub record IsNotRun {K : Type 0} (status : ℕ) (output output' : K) : Type 0 where
   pub statuses : (status ≡ 3) ⊎ (status ≡ 6)
   pub output_is : output' ≡ output
 
 -- what became of the schedule that an input is
 abbrev pub InputReplays : {K : Type 0} → (K → Option (List ℕ)) → Option (List ℕ) → Option (List ℕ) → ℕ → K → K → Type 0
-InputReplays held left left' status output output' = IsNotRead status output output' ⊎ HasRead held left left' status output output'
+InputReplays held left left' status output output' =
+    IsNotRun status output output' ⊎ (IsBad held left status output output' ⊎ IsTraced held left left' status output output')
 
 -- what became of the schedule that was asked for; one that is made from two numbers leaves the input as it is
 abbrev pub AskReplays : {S K : Type 0} → (S → Option (List ℕ)) → (K → Option (List ℕ)) → ReplayAsk → ℕ → S → S → K → K → Type 0

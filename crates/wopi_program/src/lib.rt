@@ -1,11 +1,12 @@
 //! The program: what its words ask for, and what it does with the outside world.
 //!
-//! [`run`] is the whole program but for the making of the real streams, folders and clocks. It is
-//! generic in all that it meets, so that its contract speaks of the bytes that were read and
-//! written. The command `once` answers the requests of its input, one after another, on its output;
-//! `serve` answers those of many connections by workers, and then writes its host's journal on the
-//! output; `edit` runs the script of its input over a sheet at a host; `replay` runs a schedule of
-//! sessions in memory and writes what it shows; `token` writes the text of an access token.
+//! [`run`] is the whole program but for the making of the real streams, folders, listeners, dialer
+//! and clocks. It is generic in all that it meets, so that its contract speaks of the bytes that were
+//! read and written. The command `once` answers the requests of its input, one after another, on its
+//! output; `serve` answers those of many connections by workers, and then writes its host's journal
+//! on the output; `edit` runs the script of its input over a sheet at a host; `replay` runs a
+//! schedule of sessions in memory and writes what it shows; `token` writes the text of an access
+//! token.
 #![tactic(auto)]
 
 mod command;
@@ -16,7 +17,6 @@ mod notes;
 mod once;
 mod once_words;
 mod outside_world;
-mod reading;
 mod replay;
 mod replay_words;
 mod serve;

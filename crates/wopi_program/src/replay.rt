@@ -3,16 +3,17 @@ ghost use Rattle.std.specs.Prelude.{◌≡◌, ◌≤◌, ℕ, List, map, string
 ghost use Rattle.outside.specs.Faults.{Rose};
 ghost use Rattle.replay_cmd.specs.Generator.{generated};
 ghost use Rattle.replay_cmd.specs.Trace.{summary_text, trace_text};
-ghost use Rattle.wopi_program.specs.Replay.{AskReplays, InputReplays, ReplayEnds, Replays, TextReplays};
+ghost use Rattle.wopi_program.specs.Replay.{AskReplays, InputReplays, ReplayEnds, Replays};
 ghost use Rattle.wopi_program.specs.Words.{IsRow};
 
 use crate::edit::{note_edit, refuse_script};
-use crate::reading::read_whole;
 use crate::replay_words::{ReplayAsk, replay_words};
 use crate::telling::say;
 use crate::{Command, Outside};
-use outside::{Clock, Dialer, Folder, Listener, OutFault, Sink, Source};
-use replay_cmd::{Schedule, ScheduleFault, Straight, World, generate, summary_text, trace_text};
+use outside::{Clock, Dialer, Folder, Listener, Sink, Source};
+use replay_cmd::{
+    InputFault, Schedule, Straight, World, generate, read_schedule, summary_text, trace_text,
+};
 use std::alloc::Global;
 
 /// Runs a schedule, writes what each of its events showed and how it left the files, and gives the
@@ -45,28 +46,17 @@ fn write_summary<K: Sink>(alloc: Global, schedule: &Schedule, output: &mut K) ->
     say(output, text.as_slice())
 }
 
-/// Runs the schedule that a text is, or tells its first bad line, and gives the status.
-fn replay_text<K: Sink>(alloc: Global, text: &[u8], output: &mut K) -> u8
-    ensures replays { TextReplays K.held text.now result output.old output.new }
-    ensures cause { result ≡ 4 → Rose (K.write_faults output.old) (K.write_faults output.new) }
-{
-    match Schedule::read(alloc, text) {
-        Ok(schedule) => return write_trace(alloc, &schedule, output),
-        Err(ScheduleFault::BadLine { line }) => return refuse_script(alloc, output, line),
-        Err(ScheduleFault::Memory) => return 6,
-    }
-}
-
-/// Runs the schedule that the whole input is, and gives the status.
+/// Runs the schedule that the whole input is, or tells its first bad line, and gives the status.
 fn replay_input<S: Source, K: Sink>(alloc: Global, input: &mut S, output: &mut K) -> u8
     ensures replays { InputReplays K.held (S.left input.old) (S.left input.new) result output.old output.new }
     ensures read_cause { result ≡ 3 → Rose (S.read_faults input.old) (S.read_faults input.new) }
     ensures write_cause { result ≡ 4 → Rose (K.write_faults output.old) (K.write_faults output.new) }
 {
-    match read_whole(alloc, input) {
-        Ok(text) => return replay_text(alloc, &text, output),
-        Err(OutFault::Failed) => return 3,
-        Err(OutFault::Memory) => return 6,
+    match read_schedule(alloc, input) {
+        Ok(schedule) => return write_trace(alloc, &schedule, output),
+        Err(InputFault::BadLine { line }) => return refuse_script(alloc, output, line),
+        Err(InputFault::Read) => return 3,
+        Err(InputFault::Memory) => return 6,
     }
 }
 

@@ -1,6 +1,8 @@
 //! The program over fakes in memory: each request and its reply to the byte.
 mod chunks;
+mod demos;
 mod edits;
+mod endless;
 mod faults;
 mod gates;
 mod limits;
@@ -15,7 +17,7 @@ ghost use Rattle.outside.specs.Script.{all_moments};
 
 use crate::{Outside, run, serve_ask};
 use outside::{
-    Folder, MemFolder, MemListener, MemSink, MemSource, Pair, ScriptClock, ScriptDialer,
+    Folder, MemFolder, MemListener, MemSink, MemSource, Pair, ScriptClock, ScriptDialer, Source,
 };
 use std::alloc::Global;
 use std::sync::Wait;
@@ -24,7 +26,10 @@ use wopi_text::{Bytes, Memory};
 
 pub type Links = MemListener<Pair<MemSource, MemSink>>;
 
-pub type Fakes = Outside<MemSource, MemSink, MemFolder, Links, ScriptDialer, ScriptClock>;
+/// What the program meets, with an input of this type.
+pub type Met<S> = Outside<S, MemSink, MemFolder, Links, ScriptDialer, ScriptClock>;
+
+pub type Fakes = Met<MemSource>;
 
 /// The words of a run.
 pub const ONCE: [&str; 4] = ["once", ".", "4a656665", "http://localhost:8880"];
@@ -122,11 +127,11 @@ pub fn fakes(alloc: Global, given: &Given) -> Result<Fakes, Memory>
 }
 
 /// Runs the program with these words, which aren't those of `serve`, where it meets this.
-pub fn run_over<R: Threads + Wait + Sync>(
+pub fn run_over<R: Threads + Wait + Sync, S: Source + Drop>(
     rt: &R,
     alloc: Global,
     words: &[String],
-    mut outside: Fakes,
+    mut outside: Met<S>,
 ) -> Result<Left, Memory>
     requires folders { length outside.folders.items ≡ 1 }
     requires clocks { length outside.clocks.items ≡ 1 }
@@ -145,11 +150,11 @@ pub fn run_over<R: Threads + Wait + Sync>(
 }
 
 /// The same of words that are given as texts.
-pub fn run_in<R: Threads + Wait + Sync>(
+pub fn run_in<R: Threads + Wait + Sync, S: Source + Drop>(
     rt: &R,
     alloc: Global,
     list: &[&str],
-    outside: Fakes,
+    outside: Met<S>,
 ) -> Result<Left, Memory>
     requires folders { length outside.folders.items ≡ 1 }
     requires clocks { length outside.clocks.items ≡ 1 }

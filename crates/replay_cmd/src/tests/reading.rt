@@ -261,3 +261,25 @@ fn a_line_ends_at_20_000_bytes(rt: HostRuntime) -> Result<(), Fail> {
     comment.push(b'x')?;
     expect_bad(&rt, rt.alloc(), &comment, 1)
 }
+
+#[test]
+fn contents_and_ids_have_their_greatest_lengths(rt: HostRuntime) -> Result<(), Fail> {
+    let alloc = rt.alloc();
+    let longest = [
+        (b"file 61 ".as_slice(), b'0', 2 * 8_192, 2 * 8_193),
+        (b"foreign 1 9 lock 62 ".as_slice(), b'x', 256, 257),
+    ];
+    for (front, byte, most, more) in longest {
+        let mut line = front.to_vec(alloc)?;
+        line.resize(front.len().saturating_add(most), byte)?;
+        let schedule = Schedule::read(alloc, &line)?;
+        let lines = schedule
+            .files()
+            .len()
+            .saturating_add(schedule.events().len());
+        assert_eq!(rt; lines, 1);
+        line.resize(front.len().saturating_add(more), byte)?;
+        expect_bad(&rt, alloc, &line, 1)?;
+    }
+    Ok(())
+}

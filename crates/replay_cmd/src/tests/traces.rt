@@ -139,6 +139,65 @@ fn the_trace_shows_the_reply_that_came(rt: HostRuntime) -> Result<(), Fail> {
     expect_over(&rt, alloc, &mut wire, BEGUN, shown)
 }
 
+/// What comes in place of the messages on a wire, what a schedule does behind its file and its
+/// session, and the trace.
+struct OverWire {
+    instead: &'static [Option<&'static [u8]>],
+    lines: &'static [u8],
+    shown: &'static [u8],
+}
+
+const OVER_WIRES: [OverWire; 4] = [
+    // What somebody else asks goes over the wire too.
+    OverWire {
+        instead: &[Some(b"GET /wopi/folders HTTP/1.1\r\nHost: x\r\n\r\n")],
+        lines: b"foreign 0 9000000 info 612e637376\n",
+        shown: b"reply 1 404\nend 612e637376 v1 - 312c320a\n",
+    },
+    // A request that is cut off.
+    OverWire {
+        instead: &[Some(b"GET /wopi/folders HTTP/1.1\r\nHo")],
+        lines: b"foreign 0 9000000 info 612e637376\n",
+        shown: b"reply 1 400\nend 612e637376 v1 - 312c320a\n",
+    },
+    // A body of one byte more than there may be.
+    OverWire {
+        instead: &[Some(b"POST / HTTP/1.1\r\nHost: x\r\nContent-Length: 16777217\r\n\r\n")],
+        lines: b"open 1\ndeliver 1 0\n",
+        shown: b"send 1 info\nreply 1 413\nend 612e637376 v1 - 312c320a\n",
+    },
+    // A reply that can't be read counts as no answer, so the request is sent again.
+    OverWire {
+        instead: &[None, Some(b"HTP")],
+        lines: b"open 1\ndeliver 1 0\nanswer 1\n",
+        shown: b"send 1 info\nreply 1 200 v1 4\nsend 2 info\nend 612e637376 v1 - 312c320a\n",
+    },
+];
+
+/// A wire that carries these in place of its messages, where there are any.
+fn wire_of(alloc: Global, instead: &[Option<&[u8]>]) -> Result<ScriptWire, Fail> {
+    let mut messages = Vec::new(alloc);
+    for message in instead {
+        match message {
+            Some(bytes) => messages.push(Some(Bytes::from_slice(alloc, bytes)?))?,
+            None => messages.push(None)?,
+        }
+    }
+    Ok(ScriptWire::new(messages))
+}
+
+#[test]
+fn what_comes_over_a_wire_is_answered_as_it_came(rt: HostRuntime) -> Result<(), Fail> {
+    let alloc = rt.alloc();
+    for row in &OVER_WIRES {
+        let mut text = b"file 612e637376 312c320a\nsession 612e637376 n 9000000\n".to_vec(alloc)?;
+        text.extend_from_slice(row.lines)?;
+        let mut wire = wire_of(alloc, row.instead)?;
+        expect_over(&rt, alloc, &mut wire, &text, row.shown)?;
+    }
+    Ok(())
+}
+
 #[test]
 fn the_summary_of_no_event(rt: HostRuntime) -> Result<(), Fail> {
     let alloc = rt.alloc();

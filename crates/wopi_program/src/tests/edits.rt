@@ -16,11 +16,11 @@ const INFO: &[u8] =
 const CONTENTS: &[u8] =
     b"HTTP/1.1 200 OK\r\nContent-Length: 4\r\nX-WOPI-ItemVersion: v1\r\n\r\n1,2\n";
 
-const V1: &[u8] = b"HTTP/1.1 200 OK\r\nContent-Length: 0\r\nX-WOPI-ItemVersion: v1\r\n\r\n";
+const VERSION_1: &[u8] = b"HTTP/1.1 200 OK\r\nContent-Length: 0\r\nX-WOPI-ItemVersion: v1\r\n\r\n";
 
-const V2: &[u8] = b"HTTP/1.1 200 OK\r\nContent-Length: 0\r\nX-WOPI-ItemVersion: v2\r\n\r\n";
+const VERSION_2: &[u8] = b"HTTP/1.1 200 OK\r\nContent-Length: 0\r\nX-WOPI-ItemVersion: v2\r\n\r\n";
 
-const V3: &[u8] = b"HTTP/1.1 200 OK\r\nContent-Length: 0\r\nX-WOPI-ItemVersion: v3\r\n\r\n";
+const VERSION_3: &[u8] = b"HTTP/1.1 200 OK\r\nContent-Length: 0\r\nX-WOPI-ItemVersion: v3\r\n\r\n";
 
 const LOCKED: &[u8] =
     b"HTTP/1.1 409 Conflict\r\nContent-Length: 0\r\nX-WOPI-Lock: other\r\nX-WOPI-LockFailureReason: locked\r\n\r\n";
@@ -40,21 +40,25 @@ struct Row {
 const ROWS: [Row; 9] = [
     Row {
         script: b"open\nset 1 2 9\nsave\nset 1 1 7\nsave\nclose",
-        replies: &[INFO, V1, CONTENTS, V2, V2, V3, V3],
+        replies: &[
+            INFO, VERSION_1, CONTENTS, VERSION_2, VERSION_2, VERSION_3, VERSION_3,
+        ],
         status: 0,
         output: b"opened v1 1\nsaved v2\nsaved v3\nclosed\n",
         requests: 7,
     },
     Row {
         script: b"open\nset 1 2 9\nsave\nset 1 1 7\nsave\nsaveas b.csv\nclose\n",
-        replies: &[INFO, V1, CONTENTS, V2, V2, V3, COPIED, V3],
+        replies: &[
+            INFO, VERSION_1, CONTENTS, VERSION_2, VERSION_2, VERSION_3, COPIED, VERSION_3,
+        ],
         status: 0,
         output: b"opened v1 1\nsaved v2\nsaved v3\nsaved as b.csv\nclosed\n",
         requests: 8,
     },
     Row {
         script: b"show\nopen\ninsrow 1\nundo\nundo\nshow\nclose\n",
-        replies: &[INFO, V1, CONTENTS, V1],
+        replies: &[INFO, VERSION_1, CONTENTS, VERSION_1],
         status: 0,
         output: b"not open\nopened v1 1\nnothing to undo\n1,2\nclosed\n",
         requests: 4,
@@ -89,7 +93,7 @@ const ROWS: [Row; 9] = [
     },
     Row {
         script: b"open\nsaveas b.csv\nclose",
-        replies: &[INFO, V1, CONTENTS],
+        replies: &[INFO, VERSION_1, CONTENTS],
         status: 9,
         output: b"opened v1 1\nno answer\n",
         requests: 4,
@@ -136,7 +140,7 @@ fn scripts_have_their_outputs_requests_and_statuses(rt: HostRuntime) -> Result<(
 fn the_sheet_is_sent_as_it_is_then(rt: HostRuntime) -> Result<(), Fail> {
     let alloc = rt.alloc();
     let script = b"open\nset 1 2 9\nsave";
-    let left = edit(&rt, alloc, script, &[INFO, V1, CONTENTS, V2])?;
+    let left = edit(&rt, alloc, script, &[INFO, VERSION_1, CONTENTS, VERSION_2])?;
     let put = format!(in alloc;
         "POST /wopi/files/612e637376/contents?access_token={TOKEN} HTTP/1.1\r\nHost: localhost:8880\r\n\
 X-WOPI-Override: PUT\r\nX-WOPI-Lock: n-1\r\nContent-Length: 4\r\nConnection: close\r\n\r\n1,9\n"

@@ -2,9 +2,9 @@
 use super::{ONCE, joined, once, requests, run_with, whole};
 use std::test::Fail;
 
-const V1: &str = "HTTP/1.1 200 OK\r\nContent-Length: 0\r\nX-WOPI-ItemVersion: v1\r\n\r\n";
+const VERSION_1: &str = "HTTP/1.1 200 OK\r\nContent-Length: 0\r\nX-WOPI-ItemVersion: v1\r\n\r\n";
 
-const V2: &str = "HTTP/1.1 200 OK\r\nContent-Length: 0\r\nX-WOPI-ItemVersion: v2\r\n\r\n";
+const VERSION_2: &str = "HTTP/1.1 200 OK\r\nContent-Length: 0\r\nX-WOPI-ItemVersion: v2\r\n\r\n";
 
 const BAD: &str = "HTTP/1.1 400 Bad Request\r\nContent-Length: 0\r\n\r\n";
 
@@ -51,9 +51,9 @@ const ROWS: [Row; 12] = [
         shows: "the first id takes the lock and another is told of it",
         requests: &[LOCK, LOCK_2, LOCK],
         replies: &[
-            V1,
+            VERSION_1,
             "HTTP/1.1 409 Conflict\r\nContent-Length: 0\r\nX-WOPI-Lock: L1\r\nX-WOPI-LockFailureReason: locked\r\n\r\n",
-            V1,
+            VERSION_1,
         ],
         name: "a.csv",
         kept: "1,2\n",
@@ -66,7 +66,7 @@ const ROWS: [Row; 12] = [
             "X-WOPI-Override: LOCK\r\nX-WOPI-Lock: {\"S\":\"0e6cb0ad\",\"F\":4}\r\n",
             "",
         ]],
-        replies: &[V1],
+        replies: &[VERSION_1],
         name: "a.csv",
         kept: "1,2\n",
     },
@@ -78,8 +78,8 @@ const ROWS: [Row; 12] = [
             ["GET", "/contents", "", ""],
         ],
         replies: &[
-            V1,
-            V2,
+            VERSION_1,
+            VERSION_2,
             "HTTP/1.1 200 OK\r\nContent-Length: 4\r\nContent-Type: application/octet-stream\r\nX-WOPI-ItemVersion: v2\r\n\r\n1,9\n",
         ],
         name: "a.csv",
@@ -139,10 +139,10 @@ const ROWS: [Row; 12] = [
             LOCK_2,
         ],
         replies: &[
-            V1,
-            V1,
+            VERSION_1,
+            VERSION_1,
             "HTTP/1.1 409 Conflict\r\nContent-Length: 0\r\nX-WOPI-Lock: L2\r\nX-WOPI-LockFailureReason: lock id spent\r\n\r\n",
-            V1,
+            VERSION_1,
             "HTTP/1.1 409 Conflict\r\nContent-Length: 0\r\nX-WOPI-Lock: \r\nX-WOPI-LockFailureReason: lock id spent\r\n\r\n",
         ],
         name: "a.csv",
@@ -274,7 +274,7 @@ fn a_refused_request_is_answered_and_the_connection_goes_on(rt: HostRuntime) -> 
         let output = left.output.as_slice();
         assert_eq!(rt; left.status, 0, "{refused}");
         assert!(rt; output.starts_with(line.as_bytes()), "{refused}");
-        assert!(rt; output.ends_with(V1.as_bytes()), "{refused}");
+        assert!(rt; output.ends_with(VERSION_1.as_bytes()), "{refused}");
     }
     Ok(())
 }

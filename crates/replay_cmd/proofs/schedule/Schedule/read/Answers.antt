@@ -1,22 +1,23 @@
-use Rattle.std.proofs.Common.{◌≡◌, ◌∷◌, ◌+◌, sym, ap, ◌∙◌, subst}
-use Rattle.replay_cmd.specs.Grammar.{IsBadLine, rows_of}
-use Rattle.replay_cmd.specs.Readings.{IsRefused, IsTaken}
-use Rattle.replay_cmd.proofs.ReadSteps.{begun, refused, taken}
+use Rattle.std.proofs.Common.{◌≡◌, [], Err, subst}
+use Rattle.replay_cmd.specs.declared.reading.ScheduleFault.{ScheduleFault}
+use Rattle.replay_cmd.specs.declared.reading.ScheduleFault.TheVariants.{BadLine}
+use Rattle.replay_cmd.specs.Pieces.{IsRead}
+use Rattle.replay_cmd.proofs.PieceLemmas.{read_bad, read_fault, read_good}
 use Rattle.replay_cmd.proofs.schedule.Schedule.read.Goals as goal
 
-pub rows-init : goal.rows-init
-rows-init c = begun c.args.text.now c.new-reader.result c.new-reader.ensures.none c.new-reader.ensures.names c.new-reader.ensures.rows
+pub finish-requires : goal.finish-requires
+finish-requires c = (c.args.text.now, c.in-Ok.ensures.taken [] c.new-pieces.ensures.come)
 
-pub returns-in-Ok-false-clause-bad : goal.returns-in-Ok-false-clause-bad
-returns-in-Ok-false-clause-bad c = λ line e.
-    let next : rows_of c.rows.rest.now ≡ c.in-Some.row.now ∷ rows_of c.in-Some.behind.now = c.in-Some.ensures.some in
-    let bad : IsRefused c.in-Some.row.now c.rows.reader × (c.take.new.self.rows ≡ c.rows.reader.rows) = c.in-Ok-false.ensures.bad c.in-Ok-false.field-0-test in
-    let same : c.take.new.self.rows + 1 ≡ line = cc e in
-    let first = refused c.args.text.now c.rows.rest.now c.in-Some.row.now (rows_of c.in-Some.behind.now) c.rows.reader c.rows.invariant next bad.0 in
-    subst (IsBadLine c.args.text.now) (sym (ap (λ n. n + 1) bad.1) ∙ same) first
+pub returns-in-Ok-clause-text : goal.returns-in-Ok-clause-text
+returns-in-Ok-clause-text c =
+    read_good c.args.text.now c.finish.result (c.finish.ensures c.args.text.now (c.in-Ok.ensures.taken [] c.new-pieces.ensures.come))
 
-pub rows-preserved : goal.rows-preserved
-rows-preserved c =
-    let next : rows_of c.rows.rest.now ≡ c.in-Some.row.now ∷ rows_of c.in-Some.behind.now = c.in-Some.ensures.some in
-    let good : IsTaken c.in-Some.row.now c.rows.reader c.take.new.self = c.in-Ok-true.ensures.good c.in-Ok-true.field-0-test in
-    taken c.args.text.now c.rows.rest.now c.in-Some.behind.now c.in-Some.row.now c.rows.reader c.take.new.self c.rows.invariant next good
+pub returns-in-Ok-clause-bad : goal.returns-in-Ok-clause-bad
+returns-in-Ok-clause-bad c =
+    read_bad c.args.text.now c.finish.result (c.finish.ensures c.args.text.now (c.in-Ok.ensures.taken [] c.new-pieces.ensures.come))
+
+pub returns-in-Err-clause-bad : goal.returns-in-Err-clause-bad
+returns-in-Err-clause-bad c = λ line e.
+    let same : c.in-Err.fault ≡ BadLine line = cc e in
+    subst (λ (fault : ScheduleFault). IsRead c.args.text.now (Err fault)) same
+    (read_fault c.args.text.now c.in-Err.fault (c.in-Err.ensures.taken [] c.new-pieces.ensures.come))

@@ -1,0 +1,116 @@
+//! A schedule, read from an input piece by piece.
+ghost use Rattle.std.specs.Prelude.{◌≡◌, ◌≤◌, ◌<◌, ◌+◌, ℕ, List, Option, Err, IfErr, IfOk, OnErr, OnOk, take, vec_len};
+ghost use Rattle.std.specs.Io.KnownBytes.{Consumes, IsAtEnd};
+ghost use Rattle.outside.specs.Faults.{Rose};
+ghost use Rattle.replay_cmd.specs.Inputs.{HasTaken, IsInputRead, fault_of, input_result};
+ghost use Rattle.replay_cmd.specs.Pieces.{IsReady, room_of};
+
+use crate::pieces::PieceReader;
+use crate::reading::ScheduleFault;
+use crate::schedule::Schedule;
+use outside::{Failed, Source};
+use std::alloc::Global;
+use wopi_text::Memory;
+
+/// The most bytes of one read.
+const PIECE: usize = 65_536;
+
+/// Why an input gave no schedule.
+#[derive(Clone, Copy, Debug, PartialEq, Eq)]
+pub enum InputFault {
+    /// The line with this number, counted from 1, is the first that can't stand where it does.
+    BadLine { line: u64 },
+    /// The input could not be read.
+    Read,
+    Memory,
+}
+
+/// The schedule that all the bytes of an input are. It is read to its end, or to the piece in which
+/// its first bad line shows; that no more is read than that piece is meant, and in no clause.
+pub fn read_schedule<S: Source>(alloc: Global, source: &mut S) -> Result<Schedule, InputFault>
+    ensures read { IsInputRead (S.left source.old) result }
+    ensures whole { OnOk result (IsAtEnd (S.left source.new)) }
+    ensures beside { S.beside_reads source.new ≡ S.beside_reads source.old }
+    ensures never_falls { S.read_faults source.old ≤ S.read_faults source.new }
+    ensures failed { result ≡ Err InputFault.Read → Rose (S.read_faults source.old) (S.read_faults source.new) }
+{
+    let Ok(mut piece) = room(alloc) else {
+        return Err(InputFault::Memory);
+    };
+    let mut pieces = PieceReader::new(alloc);
+    'pieces: loop {
+        match take_piece(source, &mut pieces, &mut piece) {
+            Ok(0) => return input_result(pieces.finish()),
+            Ok(_) => {}
+            Err(fault) => return Err(fault),
+        }
+    }
+}
+
+/// Reads once, and takes what came; 0 says that the input ended.
+fn take_piece<S: Source>(
+    source: &mut S,
+    pieces: &mut PieceReader,
+    piece: &mut Vec<u8>,
+) -> Result<usize, InputFault>
+    requires ready { IsReady pieces.old.reader }
+    requires room { 0 < vec_len piece.old }
+    ensures on { IfOk result (λ count. (left : Option (List ℕ)) → HasTaken left (S.left source.old) pieces.old → HasTaken left (S.left source.new) pieces.new) }
+    ensures end { IfOk result (λ count. count ≡ 0 → IsAtEnd (S.left source.new)) }
+    ensures refused { IfErr result (λ fault. (left : Option (List ℕ)) → HasTaken left (S.left source.old) pieces.old → IsInputRead left (Err fault)) }
+    ensures ready { OnOk result (IsReady pieces.new.reader) }
+    ensures smaller { IfOk result (λ count. room_of pieces.new + count ≤ room_of pieces.old) }
+    ensures room { vec_len piece.new ≡ vec_len piece.old }
+    ensures beside { S.beside_reads source.new ≡ S.beside_reads source.old }
+    ensures never_falls { S.read_faults source.old ≤ S.read_faults source.new }
+    ensures failed { result ≡ Err InputFault.Read → Rose (S.read_faults source.old) (S.read_faults source.new) }
+{
+    match read_into(source, piece) {
+        Ok(count) => match pieces.take_all(&piece[..count]) {
+            Ok(()) => return Ok(count),
+            Err(fault) => return Err(fault_of(fault)),
+        },
+        Err(Failed) => return Err(InputFault::Read),
+    }
+}
+
+/// Reads once into the vector.
+fn read_into<S: Source>(source: &mut S, piece: &mut Vec<u8>) -> Result<usize, Failed>
+    requires { 0 < vec_len piece.old }
+    ensures fits { IfOk result (λ count. count ≤ vec_len piece.new) }
+    ensures bytes { IfOk result (λ count. Consumes (S.left source.old) (S.left source.new) (take count piece.new.items)) }
+    ensures end { IfOk result (λ count. count ≡ 0 → IsAtEnd (S.left source.new)) }
+    ensures room { vec_len piece.new ≡ vec_len piece.old }
+    ensures beside { S.beside_reads source.new ≡ S.beside_reads source.old }
+    ensures never_falls { S.read_faults source.old ≤ S.read_faults source.new }
+    ensures failed { OnErr result (Rose (S.read_faults source.old) (S.read_faults source.new)) }
+{
+    source.read(&mut piece[0..])
+}
+
+/// Where a piece of the input goes.
+fn room(alloc: Global) -> Result<Vec<u8>, Memory>
+    ensures { IfOk result (λ piece. vec_len piece ≡ 65536) }
+{
+    let mut piece = Vec::new(alloc);
+    piece.resize(PIECE, 0u8)?;
+    Ok(piece)
+}
+
+fn fault_of(fault: ScheduleFault) -> InputFault
+    ensures { result ≡ fault_of fault }
+{
+    match fault {
+        ScheduleFault::BadLine { line } => InputFault::BadLine { line },
+        ScheduleFault::Memory => InputFault::Memory,
+    }
+}
+
+fn input_result(read: Result<Schedule, ScheduleFault>) -> Result<Schedule, InputFault>
+    ensures { result ≡ input_result read }
+{
+    match read {
+        Ok(schedule) => Ok(schedule),
+        Err(fault) => Err(fault_of(fault)),
+    }
+}
