@@ -5,6 +5,7 @@ pub mod AskLemmas
 pub mod Turning
 pub mod Calling
 pub mod Rulings
+pub mod ReplyLemmas
 pub mod OneReply
 pub mod Delivered
 pub mod Shown
@@ -29,3 +30,4 @@ mod LastRow
 mod ReadSteps
 mod FittingLines
 mod OneReading
+mod OneSchedule
