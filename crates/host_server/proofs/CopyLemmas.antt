@@ -11,6 +11,7 @@ use Rattle.wopi_headers.specs.declared.answer.Answer.{Answer}
 use Rattle.wopi_headers.specs.declared.ask.Target.{Target}
 use Rattle.wopi_headers.specs.declared.ask.Target.TheVariants.{Suggested, Relative}
 use Rattle.put_relative.specs.CopyNames.{IsTidy, copy_name}
+use Rattle.wopi_acts.specs.Answers.{status_only, ruling_told}
 use Rattle.host_core.specs.Caller.{Sight}
 use Rattle.host_server.specs.declared.desk.Desk.{Desk}
 use Rattle.host_server.specs.declared.copying.Copying.{Copying}
@@ -18,7 +19,7 @@ use Rattle.host_server.specs.declared.calling.Called.TheVariants.{Ruled, Full}
 use Rattle.host_server.specs.declared.creating.Outcome.{Outcome}
 use Rattle.host_server.specs.declared.creating.Outcome.TheVariants as outcome
 use Rattle.host_server.specs.Deeds.{Deed, Made, Blocked, IsOf, Does}
-use Rattle.host_server.specs.Telling.{status_only, journal_full, ruling_told}
+use Rattle.host_server.specs.Telling.{journal_full}
 use Rattle.host_server.specs.Copies as copies
 use Rattle.host_server.specs.Copies.{CanBeHad, asked_name, create, create_as, file_told, decision_told, look, overwrites, tries, IsTaken, Tried, Copied}
 use Rattle.host_server.specs.Calls.{Calls, Tells}

@@ -13,13 +13,15 @@ use Rattle.wopi_headers.specs.declared.ask.Op.TheVariants as op
 use Rattle.wopi_headers.specs.declared.ask.Target.{Target}
 use Rattle.wopi_headers.specs.Operations.{AsksFor, IsRefusal}
 use Rattle.access_tokens.specs.TokenText.{IsSigned}
+use Rattle.wopi_acts.specs.Acts.{act_of}
+use Rattle.wopi_acts.specs.Answers.{status_only, ruling_told}
 use Rattle.host_core.specs.Caller.{Sight}
 use Rattle.host_server.specs.declared.desk.Desk.{Desk}
 use Rattle.host_server.specs.declared.calling.Called.TheVariants.{Ruled as RuledCall, Full}
 use Rattle.host_server.specs.Deeds.{Deed, Made, Blocked, Does}
 use Rattle.host_server.specs.Answering as answering
-use Rattle.host_server.specs.Answering.{act_of, call_of, copying_of, Ruled, Answered}
-use Rattle.host_server.specs.Telling.{status_only, journal_full, is_info, info_told, ruling_told, told_of, told}
+use Rattle.host_server.specs.Answering.{call_of, copying_of, Ruled, Answered}
+use Rattle.host_server.specs.Telling.{journal_full, is_info, info_told, told_of, told}
 use Rattle.host_server.specs.Copies.{Copied}
 use Rattle.host_server.specs.Calls as calls
 use Rattle.host_server.specs.Calls.{Calls, TellsCall, IsBegun, Tells}

@@ -1,8 +1,7 @@
 -- What a request is answered, and what is done for it (MS-WOPI; that an unreadable token is 401 and a full shard 500 is own).
-use Rattle.std.specs.Prelude.{ℕ, ◌≡◌, List, [], ◌∷◌, Option, None, Some}
+use Rattle.std.specs.Prelude.{ℕ, ◌≡◌, List, [], ◌∷◌, Some}
 use Rattle.wopi_model.specs.declared.token.Token.{Token}
 use Rattle.wopi_model.specs.declared.calls.Act.{Act}
-use Rattle.wopi_model.specs.declared.calls.Act.TheVariants as act
 use Rattle.wopi_model.specs.declared.calls.Call.{Call}
 use Rattle.wopi_model.specs.Shard.{Entry}
 use Rattle.wopi_http.specs.declared.message.Request.{Request}
@@ -13,25 +12,14 @@ use Rattle.wopi_headers.specs.declared.ask.Op.TheVariants as op
 use Rattle.wopi_headers.specs.declared.ask.Target.{Target}
 use Rattle.wopi_headers.specs.Operations.{AsksFor, IsRefusal}
 use Rattle.access_tokens.specs.TokenText.{IsSigned}
+use Rattle.wopi_acts.specs.Acts.{act_of}
+use Rattle.wopi_acts.specs.Answers.{status_only}
 use Rattle.host_core.specs.Caller.{Sight}
 use Rattle.host_server.specs.declared.desk.Desk.{Desk}
 use Rattle.host_server.specs.declared.copying.Copying.{Copying}
 use Rattle.host_server.specs.Deeds.{Deed, Made, Blocked, IsFull, IsOf}
-use Rattle.host_server.specs.Telling.{status_only, journal_full, told}
+use Rattle.host_server.specs.Telling.{journal_full, told}
 use Rattle.host_server.specs.Copies.{Copied}
-
--- the one act of an operation, with the request's body; PutRelativeFile is more than one
-abbrev pub act_of : Op → List ℕ → Option Act
-act_of op.Info body = Some act.Info
-act_of (op.Get most) body = Some (act.Get most)
-act_of (op.Put lock) body = Some (act.Put lock body)
-act_of (op.Lock id) body = Some (act.Lock id)
-act_of op.GetLock body = Some act.GetLock
-act_of (op.Refresh id) body = Some (act.Refresh id)
-act_of (op.Unlock id) body = Some (act.Unlock id)
-act_of (op.Relock old id) body = Some (act.Relock old id)
-act_of (op.PutRelative target) body = None
-act_of op.Delete body = Some act.Delete
 
 abbrev pub call_of : Ask → Token → Act → Call
 call_of ask token asked = record { name = ask.file; token = token; act = asked }

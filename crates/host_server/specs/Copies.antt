@@ -16,11 +16,12 @@ use Rattle.wopi_headers.specs.declared.ask.Target.TheVariants.{Suggested, Relati
 use Rattle.access_tokens.specs.TokenText.{token_text}
 use Rattle.file_info.specs.Relative.{relative_text}
 use Rattle.put_relative.specs.CopyNames.{IsTidy, copy_name, tidied}
+use Rattle.wopi_acts.specs.Answers.{status_only, ruling_told}
 use Rattle.host_core.specs.Caller.{Sight}
 use Rattle.host_server.specs.declared.desk.Desk.{Desk}
 use Rattle.host_server.specs.declared.copying.Copying.{Copying}
 use Rattle.host_server.specs.Deeds.{Deed, Made, Blocked, IsFull, IsOf}
-use Rattle.host_server.specs.Telling.{status_only, journal_full, ruling_told}
+use Rattle.host_server.specs.Telling.{journal_full}
 
 -- the name that a target asks for
 abbrev pub asked_name : List ℕ → Target → List ℕ

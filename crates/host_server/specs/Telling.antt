@@ -1,6 +1,5 @@
--- What is told of a call. (MS-WOPI, CheckFileInfo and GetFile; what a body says of a fault, and the name of the owner, are own.)
-use Rattle.std.specs.Prelude.{ℕ, Bool, true, false, List, [], Option, None, Some, codes, unwrap_or, ◌==◌, if◌then◌else◌}
-use Rattle.wopi_text.specs.declared.lock_field.LockField.TheVariants.{Absent}
+-- What is told of a call. (MS-WOPI, CheckFileInfo; what the body says where a shard is full, and the name of the owner, are own.)
+use Rattle.std.specs.Prelude.{ℕ, Bool, true, false, List, None, codes, unwrap_or, ◌==◌, if◌then◌else◌}
 use Rattle.wopi_model.specs.declared.token.Token.{Token}
 use Rattle.wopi_model.specs.declared.calls.Act.{Act}
 use Rattle.wopi_model.specs.declared.calls.Act.TheVariants as act
@@ -8,41 +7,15 @@ use Rattle.wopi_model.specs.declared.calls.Call.{Call}
 use Rattle.wopi_model.specs.declared.calls.Ruling.{Ruling}
 use Rattle.wopi_model.specs.Shard.{Entry}
 use Rattle.wopi_headers.specs.declared.answer.Answer.{Answer}
-use Rattle.wopi_headers.specs.declared.answer.BodyKind.{BodyKind}
-use Rattle.wopi_headers.specs.declared.answer.BodyKind.TheVariants.{None as NoBody, Json, Octets, Plain}
+use Rattle.wopi_headers.specs.declared.answer.BodyKind.TheVariants.{Json, Plain}
 use Rattle.wopi_headers.specs.Replies.{version_text}
+use Rattle.wopi_acts.specs.Answers.{status_only, ruling_told}
 use Rattle.file_info.specs.declared.info.Info.{Info}
 use Rattle.file_info.specs.Info.{info_text}
-
--- an answer that tells nothing but its status
-abbrev pub status_only : ℕ → Answer
-status_only status = record { status = status; lock = Absent; reason = None; version = None; kind = NoBody; body = [] }
 
 -- the answer where a shard takes no more
 abbrev pub journal_full : Answer
 journal_full = record (status_only 500) { kind = Plain; body = codes "journal full" }
-
--- the body that tells a ruling: the contents of a file, or what failed
-abbrev pub body_of : Ruling → List ℕ
-body_of ruling = if ruling.status == 500 then codes "store fault" else unwrap_or ruling.contents []
-
-abbrev pub kind_of_contents : Option (List ℕ) → BodyKind
-kind_of_contents None = NoBody
-kind_of_contents (Some contents) = Octets
-
-abbrev pub kind_of : Ruling → BodyKind
-kind_of ruling = if ruling.status == 500 then Plain else kind_of_contents ruling.contents
-
--- the answer that tells a ruling and the contents that it has
-abbrev pub ruling_told : Ruling → Answer
-ruling_told ruling = record {
-  status = ruling.status;
-  lock = ruling.lock;
-  reason = ruling.reason;
-  version = ruling.version;
-  kind = kind_of ruling;
-  body = body_of ruling;
-}
 
 -- what CheckFileInfo tells the holder of a token of the file of that name
 abbrev pub info_of : List ℕ → Token → ℕ → ℕ → Info

@@ -6,6 +6,7 @@ use Rattle.wopi_headers.specs.declared.ask.Target.{Target}
 use Rattle.wopi_model.specs.declared.calls.Call.{Call}
 use Rattle.wopi_model.specs.declared.calls.Ruling.{Ruling}
 use Rattle.wopi_model.specs.Shard.{Entry}
+use Rattle.wopi_acts.specs.Acts.{act_of}
 use Rattle.host_core.specs.Caller.{Sight}
 use Rattle.host_server.specs.declared.answering.Task.{Task}
 use Rattle.host_server.specs.declared.answering.Task.TheVariants.{One, Copy}
@@ -15,7 +16,6 @@ use Rattle.host_server.specs.declared.creating.Outcome.{Outcome}
 use Rattle.host_server.specs.declared.creating.Outcome.TheVariants as outcome
 use Rattle.host_server.specs.Deeds.{Made, Blocked, IsFull, IsOf, Does}
 use Rattle.host_server.specs.Copies.{CanBeHad, asked_name, IsTaken, AreTaken, Decides}
-use Rattle.host_server.specs.Answering.{act_of}
 
 -- what an operation with that body is for the host
 abbrev pub IsTask : Op → List ℕ → Task → Type 0

@@ -2,7 +2,8 @@
 ghost use Rattle.std.specs.Prelude.{◌≡◌, ◌==◌, [], IfOk, codes, unwrap_or, if◌then◌else◌};
 ghost use Rattle.wopi_headers.specs.declared.answer.BodyKind.TheVariants.{Plain};
 ghost use Rattle.file_info.specs.Info.{HasTexts};
-ghost use Rattle.host_server.specs.Telling.{status_only, journal_full, kind_of_contents, ruling_told, info_of, info_told};
+ghost use Rattle.wopi_acts.specs.Answers.{status_only, kind_of_contents, ruling_told};
+ghost use Rattle.host_server.specs.Telling.{journal_full, info_of, info_told};
 
 use access_tokens::Token;
 use file_info::{Info, info_text};

@@ -5,11 +5,14 @@ use Rattle.std.specs.List.{slice_get, flat_map}
 use Rattle.std.proofs.lemmas.List.{length-map, flat_map_more}
 use Rattle.std.proofs.Math.Seq.{take-length}
 use Rattle.std.proofs.lemmas.List.Sums.{sum_by-cons, sum_by-append}
+use Rattle.wopi_model.specs.Shard as shard
 use Rattle.wopi_model.specs.Shard.{Shard, AreNames, at_moment}
+use Rattle.wopi_headers.specs.declared.answer.Answer.{Answer}
 use Rattle.wopi_world.specs.Requests.{Client}
 use Rattle.wopi_world.specs.World as in_world
 use Rattle.wopi_world.specs.World.{World, Setting}
 use Rattle.host_core.specs.Value.{Book, state_of}
+use Rattle.host_server.specs.declared.desk.Desk.{Desk}
 use Rattle.replay_cmd.specs.declared.history.Item.{Item}
 use Rattle.replay_cmd.specs.declared.replies.Reply.{Reply}
 use Rattle.replay_cmd.specs.declared.member.Request.{Request}
@@ -28,7 +31,7 @@ use Rattle.replay_cmd.specs.Words.{line_text, file_shown}
 use Rattle.replay_cmd.specs.Trace.{ends_text, is_saved, saved_by, counts_text, trace_text, summary_text}
 use Rattle.replay_cmd.specs.Worlds.{IsRunOf, IsTextOf}
 use Rattle.replay_cmd.specs.Ends.{ends_in, TellsEnds, count_text, conflicts_in, saved_by_one, counts_in}
-use Rattle.replay_cmd.proofs.Taken.{AreReplies-length}
+use Rattle.replay_cmd.proofs.ReplyLemmas.{AreReplies-length, answer_status}
 use Rattle.replay_cmd.proofs.Delivered.{get_within}
 
 -- the names and the files are those of the world
@@ -52,14 +55,15 @@ length_either true false x xs y ys e h = cc
 length_either false true x xs y ys e h = cc
 
 -- as many conflicts
-same_conflicts : (requests : List in_world.Request) (kept : List Reply) (replies : List in_world.Reply) → AreReplies requests kept replies
+same_conflicts : (desk : Desk) (history : List shard.Item) (requests : List in_world.Request) (kept : List Reply) (replies : List in_world.Reply) → AreReplies desk history requests kept replies
     → conflicts_in kept ≡ length (filter (λ reply. reply.ruling.status == 409) replies)
-same_conflicts requests [] [] h = refl
-same_conflicts requests [] (r ∷ replies) h = absurd h
-same_conflicts requests (k ∷ kept) [] h = absurd h
-same_conflicts requests (k ∷ kept) (r ∷ replies) h =
+same_conflicts desk history requests [] [] h = refl
+same_conflicts desk history requests [] (r ∷ replies) h = absurd h
+same_conflicts desk history requests (k ∷ kept) [] h = absurd h
+same_conflicts desk history requests (k ∷ kept) (r ∷ replies) h =
+    let status : k.answer.status ≡ r.ruling.status = ap (λ (a : Answer). a.status) h.0.answer ∙ answer_status desk h.0.entry r.ruling in
     length_either (k.answer.status == 409) (r.ruling.status == 409) k (filter (λ reply. reply.answer.status == 409) kept) r (filter (λ reply. reply.ruling.status == 409) replies)
-    (ap (λ (n : ℕ). n == 409) h.0.status) (same_conflicts requests kept replies h.1)
+    (ap (λ (n : ℕ). n == 409) status) (same_conflicts desk history requests kept replies h.1)
 
 -- as many Saved
 same_saved : (told : List in_world.Told) → length (filter (λ one. is_saved one.outcome) (map told_kept told)) ≡ length (filter (λ one. is_saved one.outcome) told)
@@ -106,18 +110,18 @@ clients_length [] number = refl
 clients_length (session ∷ sessions) number = ap suc (clients_length sessions (number + 1))
 
 -- the counts are those of the world
-pub counts_shown : {F : Type 0} (setting : Setting) (key : List ℕ) (book : Book F) (history : List Item) (requests : List Request) (replies : List Reply) (members : List Member) (world : World)
-    → Shows setting key book history requests replies members world → (sessions : List SessionLine) → setting.clients ≡ clients_from 1 sessions
+pub counts_shown : {F : Type 0} (setting : Setting) (desk : Desk) (book : Book F) (history : List Item) (requests : List Request) (replies : List Reply) (members : List Member) (world : World)
+    → Shows setting desk book history requests replies members world → (sessions : List SessionLine) → setting.clients ≡ clients_from 1 sessions
     → counts_in requests replies members ≡ counts_text world (length sessions)
-counts_shown setting key book history requests replies members world shows sessions clients_are =
+counts_shown setting desk book history requests replies members world shows sessions clients_are =
     let sent : length requests ≡ length world.requests = ap length shows.sessions.sent ∙ length-map world.requests (request_kept setting.clients) in
-    let made : length replies ≡ length world.replies = AreReplies-length world.requests replies world.replies shows.answers in
-    let conflicts = same_conflicts world.requests replies world.replies shows.answers in
+    let made : length replies ≡ length world.replies = AreReplies-length desk world.history world.requests replies world.replies shows.answers in
+    let conflicts = same_conflicts desk world.history world.requests replies world.replies shows.answers in
     let clients : length setting.clients ≡ length sessions = ap length clients_are ∙ clients_length sessions 1 in
     let count : length members ≡ length sessions = shows.sessions.count ∙ clients in
     let saved : sum_by saved_by_one members ≡ saved_by world (length sessions) =
     ap (sum_by saved_by_one) (sym (take-length members)) ∙ ap (λ (n : ℕ). sum_by saved_by_one (take n members)) count
-    ∙ sym (saved_upto key setting.clients members requests world shows.sessions (length sessions) (omega (arith, clients))) in
+    ∙ sym (saved_upto desk.key setting.clients members requests world shows.sessions (length sessions) (omega (arith, clients))) in
     let text : ℕ → ℕ → ℕ → ℕ → List ℕ = λ a b c d.
     count_text (codes "requests") a ++ count_text (codes "replies") b ++ count_text (codes "conflicts") c ++ count_text (codes "saved") d in
     ap (λ (n : ℕ). text n (length replies) (conflicts_in replies) (sum_by saved_by_one members)) sent
@@ -138,5 +142,5 @@ pub summary_told : (lines : Lines) (kept : KeptWorld) → IsRunOf lines kept →
 summary_told lines kept run old new is told =
     let stage = kept.stage in
     let ends = ends_shown stage.host.shard (world_of lines) run.stage.host old new told in
-    let counts = counts_shown (setting_of lines) stage.desk.key stage.host.shard stage.history.items stage.requests.items stage.replies.items stage.members.items (world_of lines) run.stage lines.sessions refl in
+    let counts = counts_shown (setting_of lines) stage.desk stage.host.shard stage.history.items stage.requests.items stage.replies.items stage.members.items (world_of lines) run.stage lines.sessions refl in
     (ends.0, ends.1, ends.2 ∙ ap (λ (t : List ℕ). t ++ ends_text ends.0 (world_of lines)) (is ∙ counts))

@@ -7,7 +7,7 @@ use Rattle.wopi_model.specs.Safety.{Presents}
 use Rattle.wopi_headers.specs.declared.ask.Op.{Op}
 use Rattle.wopi_headers.specs.declared.ask.Op.TheVariants as op
 use Rattle.save_session.specs.LockIds.{BeginsWith}
-use Rattle.wopi_world.specs.Requests.{act_with}
+use Rattle.wopi_acts.specs.Acts.{act_with}
 use Rattle.replay_cmd.specs.declared.schedule.SessionLine.{SessionLine}
 use Rattle.replay_cmd.specs.Readings.{BeginsWithDash, HasNonce, IsOfSession, is_among}
 use Rattle.replay_cmd.specs.Schedules.{IsOfNobody}

@@ -10,11 +10,12 @@ use Rattle.outside.specs.Folder.{all_differ}
 use Rattle.outside.proofs.Distinct.{all_differ-push, all_differ-remove, bytes_eq-swap}
 use Rattle.replay_cmd.specs.declared.schedule.FileLine.{FileLine}
 use Rattle.replay_cmd.specs.declared.schedule.SessionLine.{SessionLine}
+use Rattle.replay_cmd.specs.declared.schedule.Wish.TheVariants as wish
 use Rattle.replay_cmd.specs.declared.schedule.EventLine.{EventLine}
 use Rattle.replay_cmd.specs.declared.schedule.EventLine.TheVariants as line
 use Rattle.replay_cmd.specs.declared.one_line.AnyLine.{AnyLine}
 use Rattle.replay_cmd.specs.declared.one_line.AnyLine.TheVariants.{File, Session, Event}
-use Rattle.replay_cmd.specs.Schedules.{IsEvent, IsSchedule, Lines}
+use Rattle.replay_cmd.specs.Schedules.{IsEvent, IsSchedule, Lines, most_contents}
 use Rattle.replay_cmd.specs.Grammar.{AreRows, Each, IsEventRow, IsFileRow, IsSessionRow, most_bytes, most_rows, says}
 use Rattle.replay_cmd.specs.Readings.{Fits, IsInOrder, IsLine, Suits, is_among, names_of, with_line}
 use Rattle.replay_cmd.proofs.FittingLines.{among_none, none_among, nonces_of}
@@ -121,7 +122,11 @@ count_of rows lines are =
 -- ---- schedules
 
 pub event_of : (sessions : List SessionLine) (row : List ℕ) (event : EventLine) → IsEventRow row event → Suits sessions event → IsEvent sessions event
-event_of sessions row (line.Asks s wish) is suits = suits
+event_of sessions row (line.Asks s wish.Start) is suits = (suits, tt)
+event_of sessions row (line.Asks s wish.Read) is suits = (suits, tt)
+event_of sessions row (line.Asks s (wish.Save contents)) is suits = (suits, is.1.0.short)
+event_of sessions row (line.Asks s wish.Refresh) is suits = (suits, tt)
+event_of sessions row (line.Asks s wish.Close) is suits = (suits, tt)
 event_of sessions row (line.Deliver request moment) is suits = is.1
 event_of sessions row (line.Answer reply) is suits = tt
 event_of sessions row (line.Lose s) is suits = suits
@@ -131,7 +136,7 @@ event_of sessions row (line.Foreign moment ask) is suits =
     (is.moment_is, record { expires = is.expires; short = contents.short; target = is.asked.target; bodies = is.asked.bodies; others = suits })
 
 suits_of : (sessions : List SessionLine) (event : EventLine) → IsEvent sessions event → Suits sessions event
-suits_of sessions (line.Asks s wish) is = is
+suits_of sessions (line.Asks s wish) is = is.0
 suits_of sessions (line.Deliver request moment) is = tt
 suits_of sessions (line.Answer reply) is = tt
 suits_of sessions (line.Lose s) is = is
@@ -146,6 +151,7 @@ grown lines row (File file) is fits old few =
       files_differ = ap all_differ (map-append (λ (f : FileLine). f.name) lines.files (file ∷ [])) ∙ all_differ-push (names_of lines.files) file.name old.files_differ fits.2;
       nonces_differ = old.nonces_differ;
       names = all_more _ lines.files file old.names is.name;
+      contents = all_more (λ (f : FileLine). length f.contents ≤ most_contents) lines.files file old.contents is.contents.short;
       nonces = old.nonces;
       few_sessions = old.few_sessions;
       few_lines = omega (arith, n, few);
@@ -160,6 +166,7 @@ grown lines row (Session session) is fits old few =
       nonces_differ =
           ap all_differ (map-append (λ (s : SessionLine). s.nonce) lines.sessions (session ∷ [])) ∙ all_differ-push (nonces_of lines.sessions) session.nonce old.nonces_differ (none_among lines.sessions session.nonce fits.2);
       names = old.names;
+      contents = old.contents;
       nonces = all_more _ lines.sessions session old.nonces is.nonce;
       few_sessions = omega (arith, n, room);
       few_lines = omega (arith, n, few);
@@ -172,6 +179,7 @@ grown lines row (Event event) is fits old few =
       files_differ = old.files_differ;
       nonces_differ = old.nonces_differ;
       names = old.names;
+      contents = old.contents;
       nonces = old.nonces;
       few_sessions = old.few_sessions;
       few_lines = omega (arith, n, few);
@@ -188,6 +196,7 @@ shrunk lines (File file) order new =
       files_differ = differ_front (names_of lines.files) file.name (ap all_differ (sym (map-append (λ (f : FileLine). f.name) lines.files (file ∷ []))) ∙ new.files_differ);
       nonces_differ = new.nonces_differ;
       names = (all_front _ lines.files file new.names).0;
+      contents = (all_front (λ (f : FileLine). length f.contents ≤ most_contents) lines.files file new.contents).0;
       nonces = new.nonces;
       few_sessions = new.few_sessions;
       few_lines = omega (arith, n, few);
@@ -203,6 +212,7 @@ shrunk lines (Session session) order new =
       nonces_differ =
           differ_front (nonces_of lines.sessions) session.nonce (ap all_differ (sym (map-append (λ (s : SessionLine). s.nonce) lines.sessions (session ∷ []))) ∙ new.nonces_differ);
       names = new.names;
+      contents = new.contents;
       nonces = (all_front _ lines.sessions session new.nonces).0;
       few_sessions = omega (arith, n, room);
       few_lines = omega (arith, n, few);
@@ -216,6 +226,7 @@ shrunk lines (Event event) order new =
       files_differ = new.files_differ;
       nonces_differ = new.nonces_differ;
       names = new.names;
+      contents = new.contents;
       nonces = new.nonces;
       few_sessions = new.few_sessions;
       few_lines = omega (arith, n, few);

@@ -5,6 +5,7 @@ pub mod AskLemmas
 pub mod Turning
 pub mod Calling
 pub mod Rulings
+pub mod ReplyLemmas
 pub mod OneReply
 pub mod Delivered
 pub mod Shown
@@ -31,3 +32,4 @@ mod FittingLines
 mod OneReading
 mod PieceLemmas
 mod InputLemmas
+mod OneSchedule

@@ -31,6 +31,7 @@ no_rows = record {
     files_differ = refl;
     nonces_differ = refl;
     names = tt;
+    contents = tt;
     nonces = tt;
     few_sessions = omega arith;
     few_lines = omega arith;
@@ -39,7 +40,7 @@ no_rows = record {
   };
 }
 
-no_items : {T : Type 0} (xs : List T) → length xs ≤ 0 → [] ≡ xs
+pub no_items : {T : Type 0} (xs : List T) → length xs ≤ 0 → [] ≡ xs
 no_items [] h = refl
 no_items (x ∷ xs) h = absurd (omega (arith, h))
 

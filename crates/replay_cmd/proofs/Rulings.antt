@@ -7,7 +7,7 @@ use Rattle.wopi_model.specs.declared.calls.Act.{Act}
 use Rattle.wopi_model.specs.declared.calls.Act.TheVariants as act
 use Rattle.wopi_model.specs.declared.calls.Call.{Call}
 use Rattle.wopi_model.specs.declared.calls.Ruling.{Ruling}
-use Rattle.wopi_model.specs.Act.{lock_act, presents_spent}
+use Rattle.wopi_model.specs.Act.{is_create, lock_act, presents_spent}
 use Rattle.wopi_model.specs.File.{File}
 use Rattle.wopi_model.specs.LockTable.{verdict}
 use Rattle.wopi_model.specs.Settle.{settled}
@@ -18,8 +18,10 @@ use Rattle.wopi_headers.specs.declared.answer.Answer.{Answer}
 use Rattle.wopi_headers.specs.declared.ask.Op.{Op}
 use Rattle.wopi_headers.specs.declared.ask.Op.TheVariants as op
 use Rattle.host_core.specs.Value.{Book}
-use Rattle.host_server.specs.Answering.{act_of}
-use Rattle.host_server.specs.Telling.{told_of, ruling_told, info_told, is_info}
+use Rattle.wopi_acts.specs.Acts.{act_of}
+use Rattle.wopi_acts.specs.Answers.{ruling_told}
+use Rattle.wopi_acts.proofs.Telling.{told_body}
+use Rattle.host_server.specs.Telling.{told_of, info_told, is_info}
 use Rattle.wopi_world.specs.World as in_world
 use Rattle.wopi_world.specs.World.{World, enters, replied, ruling_in, ruling_at}
 use Rattle.wopi_world.proofs.Lists.{get_new}
@@ -27,7 +29,7 @@ use Rattle.replay_cmd.specs.Hosts.{StandsFor}
 use Rattle.replay_cmd.specs.Words.{numbered_shown}
 use Rattle.replay_cmd.specs.Replying.{file_in, TellsAccepted, Tells}
 use Rattle.replay_cmd.specs.Trace.{made_shown, reply_shown}
-use Rattle.replay_cmd.proofs.Calling.{told_status, told_lock, told_reason, told_body}
+use Rattle.replay_cmd.proofs.Calling.{told_status, told_lock, told_reason}
 
 -- the world has just replied, and the answer tells the ruling of its reply
 pub record Replied (world after : World) (file : File) (asked : Op) (a : Answer) : Type 0 where
@@ -114,6 +116,19 @@ plain_act (op.Unlock id) body own e other = ap is_info (sym (some_act _ own e))
 plain_act (op.Relock old id) body own e other = ap is_info (sym (some_act _ own e))
 plain_act (op.PutRelative target) body own e other = cc
 plain_act op.Delete body own e other = ap is_info (sym (some_act _ own e))
+
+-- the one act of an operation makes no copy
+pub no_copy : (asked : Op) (body : List ℕ) (own : Act) → act_of asked body ≡ Some own → is_create own ≡ false
+no_copy op.Info body own e = ap is_create (sym (some_act _ own e))
+no_copy (op.Get most) body own e = ap is_create (sym (some_act _ own e))
+no_copy (op.Put lock) body own e = ap is_create (sym (some_act _ own e))
+no_copy (op.Lock id) body own e = ap is_create (sym (some_act _ own e))
+no_copy op.GetLock body own e = ap is_create (sym (some_act _ own e))
+no_copy (op.Refresh id) body own e = ap is_create (sym (some_act _ own e))
+no_copy (op.Unlock id) body own e = ap is_create (sym (some_act _ own e))
+no_copy (op.Relock old id) body own e = ap is_create (sym (some_act _ own e))
+no_copy (op.PutRelative target) body own e = cc
+no_copy op.Delete body own e = ap is_create (sym (some_act _ own e))
 
 -- the answer to a call tells its ruling
 pub call_tells : (file : File) (asked : Op) (body : List ℕ) (call : Call) (ruling : Ruling) → act_of asked body ≡ Some call.act → ruling.status ≢ 500

@@ -15,7 +15,7 @@ use Rattle.wopi_headers.specs.declared.ask.Op.{Op}
 use Rattle.wopi_headers.specs.declared.ask.Op.TheVariants as op
 use Rattle.wopi_headers.specs.declared.ask.Target.TheVariants.{Suggested, Relative}
 use Rattle.save_session.specs.LockIds.{BeginsWith}
-use Rattle.wopi_world.specs.Requests.{act_with}
+use Rattle.wopi_acts.specs.Acts.{act_with}
 use Rattle.replay_cmd.specs.declared.schedule.FileLine.{FileLine}
 use Rattle.replay_cmd.specs.declared.schedule.SessionLine.{SessionLine}
 use Rattle.replay_cmd.specs.declared.schedule.EventLine.TheVariants as line
@@ -29,24 +29,24 @@ use Rattle.replay_cmd.proofs.RowForms.{four_same, three_same}
 
 -- ---- what the words want
 
-abbrev first_word : List (List ℕ) → List ℕ
+abbrev pub first_word : List (List ℕ) → List ℕ
 first_word [] = []
 first_word (word ∷ words) = word
 
-abbrev second_word : List (List ℕ) → List ℕ
+abbrev pub second_word : List (List ℕ) → List ℕ
 second_word (one ∷ word ∷ words) = word
 second_word _ = []
 
-abbrev third_word : List (List ℕ) → List ℕ
+abbrev pub third_word : List (List ℕ) → List ℕ
 third_word (one ∷ two ∷ word ∷ words) = word
 third_word _ = []
 
-abbrev behind_three : List (List ℕ) → List (List ℕ)
+abbrev pub behind_three : List (List ℕ) → List (List ℕ)
 behind_three (one ∷ two ∷ three ∷ words) = words
 behind_three _ = []
 
 -- 4 for a file, 3 for a session, 2 for somebody else, 1 for an event of a session, 0 for the rest
-abbrev kind_of : List ℕ → ℕ
+abbrev pub kind_of : List ℕ → ℕ
 kind_of word =
     if bytes_eq word (codes "file") then 4
     else if bytes_eq word (codes "session") then 3
@@ -54,7 +54,7 @@ kind_of word =
     else if is_among (codes "open" ∷ codes "read" ∷ codes "save" ∷ codes "refresh" ∷ codes "close" ∷ codes "lose" ∷ []) word then 1
     else 0
 
-abbrev kind_in : List (List ℕ) → ℕ
+abbrev pub kind_in : List (List ℕ) → ℕ
 kind_in words = kind_of (first_word words)
 
 -- the ids of locks that the words of an operation have
@@ -101,7 +101,7 @@ place_by count s form = (
 
 -- ---- locks
 
-no_bytes : (x y : List ℕ) → (x ≡ y → ⊥) → bytes_eq x y ≡ false
+pub no_bytes : (x y : List ℕ) → (x ≡ y → ⊥) → bytes_eq x y ≡ false
 no_bytes x y other = go (bytes_eq x y) refl where
   go : (b : Bool) → bytes_eq x y ≡ b → bytes_eq x y ≡ false
   go true h = absurd (other ((bytes_eq-Decides x y).0 h))
@@ -192,7 +192,7 @@ fits_alike a b (Session session) alike fits = (
 )
 fits_alike a b (Event event) alike fits = subst (λ (sessions : List SessionLine). Fits (record { files = a.files; sessions = sessions; events = a.events }) (Event event)) alike.sessions fits
 
-abbrev HasKind : AnyLine → ℕ → Type 0
+abbrev pub HasKind : AnyLine → ℕ → Type 0
 HasKind (File file) kind = kind ≡ 4
 HasKind (Session session) kind = kind ≡ 3
 HasKind (Event event) kind = kind ≤ 2
@@ -206,7 +206,7 @@ one_two = omega arith
 zero_two : 0 ≤ 2
 zero_two = omega arith
 
-kind_is : (row : List ℕ) (one : AnyLine) → IsLine row one → HasKind one (kind_in (words_of row))
+pub kind_is : (row : List ℕ) (one : AnyLine) → IsLine row one → HasKind one (kind_in (words_of row))
 kind_is row (File file) is = ap kind_in is.words
 kind_is row (Session session) is = ap kind_in is.words
 kind_is row (Event (line.Asks s wish.Start)) is = subst (λ (k : ℕ). k ≤ 2) (sym (ap kind_in is.1)) one_two
@@ -220,7 +220,7 @@ kind_is row (Event (line.Lose s)) is = subst (λ (k : ℕ). k ≤ 2) (sym (ap ki
 kind_is row (Event (line.Ticks moment)) is = subst (λ (k : ℕ). k ≤ 2) (sym (ap kind_in is.1)) zero_two
 kind_is row (Event (line.Foreign moment ask)) is = subst (λ (k : ℕ). k ≤ 2) (sym (ap kind_in is.words)) two
 
-session_same : (row : List ℕ) (one other : SessionLine) → IsSessionRow row one → IsSessionRow row other → one ≡ other
+pub session_same : (row : List ℕ) (one other : SessionLine) → IsSessionRow row one → IsSessionRow row other → one ≡ other
 session_same row one other is too =
     let words = four_same (words_of row) _ _ _ _ _ _ _ _ is.words too.words in
     let file = id_of-injective one.file other.file is.file too.file words.1 in

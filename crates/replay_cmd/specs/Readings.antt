@@ -4,7 +4,7 @@ use Rattle.std.specs.List.{list_any, slice_get}
 use Rattle.save_session.specs.LockIds.{BeginsWith}
 use Rattle.std.specs.Str.{bytes_eq}
 use Rattle.std.specs.BTreeSet.{BTreeSet, contains_text}
-use Rattle.wopi_world.specs.Requests.{act_with}
+use Rattle.wopi_acts.specs.Acts.{act_with}
 use Rattle.replay_cmd.specs.declared.schedule.FileLine.{FileLine}
 use Rattle.replay_cmd.specs.declared.schedule.SessionLine.{SessionLine}
 use Rattle.replay_cmd.specs.declared.schedule.ForeignAsk.{ForeignAsk}

@@ -66,7 +66,7 @@ fn now_words(alloc: Global, now: u64) -> Result<Vec<Bytes>, Memory>
 
 impl Stage {
     /// Asks a session for something. The words of its line say what it did, or that it isn't there.
-    pub fn ask(&mut self, session: u64, wish: &Wish) -> Result<Vec<Bytes>, Memory>
+    pub(crate) fn ask(&mut self, session: u64, wish: &Wish) -> Result<Vec<Bytes>, Memory>
         ensures { IfOk result (λ words. Follows (event.Asks session (wish_of wish.now)) (session_shown session (input_of (wish_of wish.now))) self.old self.new words.items) }
     {
         let Some(_) = member_at(&self.members, session) else {
@@ -85,7 +85,7 @@ impl Stage {
     }
 
     /// No answer comes to a session. The words of its line say what it did, or that it isn't there.
-    pub fn lose(&mut self, session: u64) -> Result<Vec<Bytes>, Memory>
+    pub(crate) fn lose(&mut self, session: u64) -> Result<Vec<Bytes>, Memory>
         ensures { IfOk result (λ words. Follows (event.Lose session) (session_shown session NoAnswer) self.old self.new words.items) }
     {
         let Some(_) = member_at(&self.members, session) else {
@@ -104,7 +104,7 @@ impl Stage {
 
     /// Hands the reply at a place to the session that waits for it. The words of its line say what the
     /// session did, that nobody waits for the reply, or that there is none.
-    pub fn answer<W: Wire>(&mut self, wire: &mut W, place: u64) -> Result<Vec<Bytes>, Memory>
+    pub(crate) fn answer<W: Wire>(&mut self, wire: &mut W, place: u64) -> Result<Vec<Bytes>, Memory>
         ensures follows { W.is_straight wire.old ≡ true → IfOk result (λ words. Follows (event.Answer place) (answer_shown place) self.old self.new words.items) }
         ensures straight { W.is_straight wire.old ≡ true → W.is_straight wire.new ≡ true }
     {
@@ -141,7 +141,7 @@ impl Stage {
     }
 
     /// Time goes on to a moment. The words of its line tell the time then.
-    pub fn tick(&mut self, moment: u64) -> Result<Vec<Bytes>, Memory>
+    pub(crate) fn tick(&mut self, moment: u64) -> Result<Vec<Bytes>, Memory>
         requires { IsMoment moment }
         ensures { IfOk result (λ words. Follows (event.Ticks moment) (now_shown moment) self.old self.new words.items) }
     {

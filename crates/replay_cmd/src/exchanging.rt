@@ -49,7 +49,7 @@ fn answer_request(
 
 /// Writes what is asked as a request, carries it to the host, and gives the host's answer. What comes
 /// and is no message gets the status of its refusal, 400 where nothing came.
-pub fn exchange<W: Wire>(
+pub(crate) fn exchange<W: Wire>(
     alloc: Global,
     host: &mut Watched,
     desk: &Desk,

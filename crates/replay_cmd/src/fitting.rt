@@ -3,7 +3,7 @@ ghost use Rattle.std.specs.Prelude.{◌≡◌, ◌↔◌, ◌||◌, ℕ, List, n
 ghost use Rattle.std.specs.BTreeSet.{contains_text};
 ghost use Rattle.std.specs.Str.{bytes_eq};
 ghost use Rattle.save_session.specs.LockIds.{BeginsWith};
-ghost use Rattle.wopi_world.specs.Requests.{act_with};
+ghost use Rattle.wopi_acts.specs.Acts.{act_with};
 ghost use Rattle.replay_cmd.specs.Readings.{BeginsWithDash, HasNonce, IsOfSession, Suits};
 ghost use Rattle.replay_cmd.specs.Schedules.{IsOfNobody};
 

@@ -45,13 +45,14 @@ mod wire;
 mod words;
 mod world;
 
-pub use exchanging::exchange;
 pub use generating::generate;
 pub use history::Item;
 pub use input::{InputFault, read_schedule};
 pub use member::{Member, Request, Told};
 pub use reading::ScheduleFault;
-pub use reading_laws::{a_schedule_has_no_bad_line, a_text_has_one_bad_line};
+pub use reading_laws::{
+    a_schedule_has_no_bad_line, a_text_has_one_bad_line, a_text_is_one_schedule,
+};
 pub use replies::Reply;
 pub use schedule::{EventLine, FileLine, ForeignAsk, Reference, Schedule, SessionLine, Wish};
 pub use stage::Stage;

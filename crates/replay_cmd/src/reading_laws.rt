@@ -12,3 +12,8 @@ pub fn a_schedule_has_no_bad_line()
 pub fn a_text_has_one_bad_line()
     ensures { (text : List ℕ) (number other : ℕ) → IsBadLine text number → IsBadLine text other → number ≡ other }
 {}
+
+/// A text is one schedule at most.
+pub fn a_text_is_one_schedule()
+    ensures { (text : List ℕ) (lines other : Lines) → IsText text lines → IsText text other → lines ≡ other }
+{}

@@ -4,6 +4,9 @@ use Rattle.std.proofs.lemmas.Bool.{cond_both, eqb-true, or_parts, and_parts}
 use Rattle.std.specs.List.{slice_get}
 use Rattle.wopi_model.specs.declared.calls.Ruling.{Ruling}
 use Rattle.wopi_model.specs.Shard.{Shard, Item, Step, Entry, Along}
+use Rattle.wopi_headers.specs.declared.answer.Answer.{Answer}
+use Rattle.wopi_acts.specs.Answers.{ruling_told}
+use Rattle.wopi_acts.proofs.Telling.{told_body}
 use Rattle.save_session.specs.LockIds.{lock_id}
 use Rattle.save_session.specs.declared.state.Phase.{Phase}
 use Rattle.save_session.specs.declared.output.Outcome.{Outcome}
@@ -18,7 +21,7 @@ use Rattle.save_session.specs.declared.state.Goal.TheVariants.{Start as ForStart
 use Rattle.save_session.specs.declared.state.SessionOp.{SessionOp}
 use Rattle.save_session.specs.declared.state.SessionOp.TheVariants as op_of
 use Rattle.save_session.specs.declared.state.Turn.{Turn}
-use Rattle.wopi_world.specs.Requests.{Client, Wish, Start, Read, Save, Refresh, Close, input_of, answer_of, sent_with, Sent, Info, TakeLock, Get, Put, Relock, RefreshLock, Unlock}
+use Rattle.wopi_world.specs.Requests.{Client, Wish, Start, Read, Save, Refresh, Close, input_of, sent_with, Sent, Info, TakeLock, Get, Put, Relock, RefreshLock, Unlock}
 use Rattle.save_session.specs.Session.{ignores, sends, tells, ends, has_next, relocks, puts, saves, settles_then, is_new_phase, is_new, is_working_phase, is_free, unanswered_while, unanswered, refused, was_read, continues_with, with_next, continues, names, says_spent, reply_to, answered_while, answered, stepped}
 use Rattle.save_session.specs.declared.input.Input.{Input}
 use Rattle.save_session.specs.declared.input.Input.TheVariants as input
@@ -181,7 +184,7 @@ module _ (client : Client) (start shard : Shard) (history : List Item) (sent : S
         quiet = refl;
       }
 
-  refused_holds : (session : State) → Known session → (reply : Ruling) → Holds (refused session (answer_of reply))
+  refused_holds : (session : State) → Known session → (reply : Ruling) → Holds (refused session (ruling_told reply))
   refused_holds session k reply =
       cond_both (reply.status == 401) (ends session TokenDead) (cond (reply.status == 404) (ends session Gone) (tells session (HostFault reply.status))) Holds
       (λ e. ends_holds session k TokenDead tt)
@@ -328,11 +331,10 @@ module _ (client : Client) (start shard : Shard) (history : List Item) (sent : S
         quiet = refl;
       }
 
-  was_read_holds : (session : State) → Known session → session.phase ≢ Ended → sent Get → (goal : Goal) (reply : Ruling) →
-      IsFresh client start shard history (unwrap_or reply.contents []) → Holds (was_read session goal (answer_of reply))
+  was_read_holds : (session : State) → Known session → session.phase ≢ Ended → sent Get → (goal : Goal) (reply : Answer) →
+      IsFresh client start shard history reply.body → Holds (was_read session goal reply)
   was_read_holds session k not get ForStart reply fresh =
-      let contents = unwrap_or reply.contents [] in
-      let one : Told = record { number = session.number; outcome = Opened reply.version; contents = contents } in
+      let one : Told = record { number = session.number; outcome = Opened reply.version; contents = reply.body } in
       let first : WasHeldIn client 1 shard = k.ops Get get in
       record {
         ops = λ o s. op_more client shard told one session.number session.used o (k.ops o s);
@@ -340,10 +342,10 @@ module _ (client : Client) (start shard : Shard) (history : List Item) (sent : S
         phase = (first, number_held session.phase session.number first not k.phase, (length told, one, reply.version, get_new told one, refl));
         quiet = refl;
       }
-  was_read_holds session k not get ForRead reply fresh = read_only session k (Some (unwrap_or reply.contents [])) reply.version
-  was_read_holds session k not get ForSave reply fresh = read_only session k (Some (unwrap_or reply.contents [])) reply.version
-  was_read_holds session k not get ForRefresh reply fresh = read_only session k (Some (unwrap_or reply.contents [])) reply.version
-  was_read_holds session k not get ForClose reply fresh = read_only session k (Some (unwrap_or reply.contents [])) reply.version
+  was_read_holds session k not get ForRead reply fresh = read_only session k (Some reply.body) reply.version
+  was_read_holds session k not get ForSave reply fresh = read_only session k (Some reply.body) reply.version
+  was_read_holds session k not get ForRefresh reply fresh = read_only session k (Some reply.body) reply.version
+  was_read_holds session k not get ForClose reply fresh = read_only session k (Some reply.body) reply.version
 
   -- the session as it goes on under its next id
   next_sends : (session : State) → Known session → session.phase ≡ Working → WasHeldIn client (session.number + 1) shard → (goal : Goal) (op : SessionOp) →
@@ -360,7 +362,7 @@ module _ (client : Client) (start shard : Shard) (history : List Item) (sent : S
         waits_for = wait;
       }
 
-  relocked_holds : (session : State) → Known session → session.phase ≡ Working → WasHeldIn client (session.number + 1) shard → (goal : Goal) (reply : Ruling) → Holds (continues_with session goal (answer_of reply))
+  relocked_holds : (session : State) → Known session → session.phase ≡ Working → WasHeldIn client (session.number + 1) shard → (goal : Goal) (reply : Ruling) → Holds (continues_with session goal (ruling_told reply))
   relocked_holds session k working held ForStart reply = tt
   relocked_holds session k working held ForRead reply = tt
   relocked_holds session k working held ForSave reply =
@@ -369,69 +371,71 @@ module _ (client : Client) (start shard : Shard) (history : List Item) (sent : S
   relocked_holds session k working held ForRefresh reply = next_sends session k working held ForRefresh (op_of.Refresh (session.number + 1)) tt tt tt
   relocked_holds session k working held ForClose reply = next_sends session k working held ForClose (op_of.Unlock (session.number + 1)) tt tt tt
 
-  continues_holds : (session : State) → Known session → session.phase ≡ Working → WasHeldIn client (session.number + 1) shard → (goal : Goal) (reply : Ruling) → Holds (continues session goal (answer_of reply))
+  continues_holds : (session : State) → Known session → session.phase ≡ Working → WasHeldIn client (session.number + 1) shard → (goal : Goal) (reply : Ruling) → Holds (continues session goal (ruling_told reply))
   continues_holds session k working held goal reply =
-      cond_both (has_next session.number) (continues_with session goal (answer_of reply)) (ignores session (input.Reply (answer_of reply))) Holds
+      cond_both (has_next session.number) (continues_with session goal (ruling_told reply)) (ignores session (input.Reply (ruling_told reply))) Holds
       (λ e. relocked_holds session k working held goal reply) (λ e. tt)
 
   reply_holds : (session : State) → Known session → (goal : Goal) (op : SessionOp) (reply : Ruling) → WaitHolds session.phase session.number (sent_with session.body op) →
-      sent (sent_with session.body op) → ReplyHolds client start shard history (sent_with session.body op) reply → Holds (reply_to client.nonce session goal op (answer_of reply))
+      sent (sent_with session.body op) → ReplyHolds client start shard history (sent_with session.body op) reply → Holds (reply_to client.nonce session goal op (ruling_told reply))
   reply_holds session k goal op_of.Info reply wait s r =
-      cond_both (reply.status == 200) (sends session goal op_of.TakeLock) (refused session (answer_of reply)) Holds
+      cond_both (reply.status == 200) (sends session goal op_of.TakeLock) (refused session (ruling_told reply)) Holds
       (λ e. sends_holds session k goal op_of.TakeLock tt tt wait) (λ e. refused_holds session k reply)
   reply_holds session k goal op_of.TakeLock reply wait s r =
-      cond_both (reply.status == 200) (sends session goal op_of.Get) (cond (reply.status == 409) (tells session (InConflict reply.lock reply.reason)) (refused session (answer_of reply))) Holds
+      cond_both (reply.status == 200) (sends session goal op_of.Get) (cond (reply.status == 409) (tells session (InConflict reply.lock reply.reason)) (refused session (ruling_told reply))) Holds
       (λ e. sends_holds session k goal op_of.Get (r (eqb-true reply.status 200 e)) tt wait)
-      (λ e. cond_both (reply.status == 409) (tells session (InConflict reply.lock reply.reason)) (refused session (answer_of reply)) Holds
+      (λ e. cond_both (reply.status == 409) (tells session (InConflict reply.lock reply.reason)) (refused session (ruling_told reply)) Holds
       (λ e2. tells_holds session k (InConflict reply.lock reply.reason) tt) (λ e2. refused_holds session k reply))
   reply_holds session k goal op_of.Get reply wait s r =
-      cond_both (reply.status == 200) (was_read session goal (answer_of reply)) (refused session (answer_of reply)) Holds
-      (λ e. was_read_holds session k wait s goal reply (r (eqb-true reply.status 200 e))) (λ e. refused_holds session k reply)
+      cond_both (reply.status == 200) (was_read session goal (ruling_told reply)) (refused session (ruling_told reply)) Holds
+      (λ e. let ok = eqb-true reply.status 200 e in
+      was_read_holds session k wait s goal (ruling_told reply) (subst (IsFresh client start shard history) (sym (told_body reply (λ fault. omega (arith, ok, fault)))) (r ok)))
+      (λ e. refused_holds session k reply)
   reply_holds session k goal (op_of.Put j) reply wait s r =
       cond_both (reply.status == 200) (tells session (Saved reply.version))
-      (cond (reply.status == 409) (ends session (LockLost reply.lock reply.reason)) (cond (reply.status == 413) (tells session TooLarge) (refused session (answer_of reply)))) Holds
+      (cond (reply.status == 409) (ends session (LockLost reply.lock reply.reason)) (cond (reply.status == 413) (tells session TooLarge) (refused session (ruling_told reply)))) Holds
       (λ e. tells_holds session k (Saved reply.version) (subst (λ (n : ℕ). WasSaved client history n reply.version) wait.1 (r (eqb-true reply.status 200 e))))
-      (λ e. cond_both (reply.status == 409) (ends session (LockLost reply.lock reply.reason)) (cond (reply.status == 413) (tells session TooLarge) (refused session (answer_of reply))) Holds
+      (λ e. cond_both (reply.status == 409) (ends session (LockLost reply.lock reply.reason)) (cond (reply.status == 413) (tells session TooLarge) (refused session (ruling_told reply))) Holds
       (λ e2. ends_holds session k (LockLost reply.lock reply.reason) tt)
-      (λ e2. cond_both (reply.status == 413) (tells session TooLarge) (refused session (answer_of reply)) Holds
+      (λ e2. cond_both (reply.status == 413) (tells session TooLarge) (refused session (ruling_told reply)) Holds
       (λ e3. tells_holds session k TooLarge tt) (λ e3. refused_holds session k reply)))
   reply_holds session k goal (op_of.Relock j) reply wait s r =
       let held : WasHeldIn client (j + 1) shard → WasHeldIn client (session.number + 1) shard = λ h. subst (λ (n : ℕ). WasHeldIn client (n + 1) shard) wait.1 h in
       let lost : Turn = ends session (LockLost reply.lock reply.reason) in
       let named : Bool = names reply.lock (lock_id client.nonce (session.number + 1)) in
       let test : Bool = has_next session.number && named in
-      cond_both (reply.status == 200) (continues session goal (answer_of reply))
-      (cond (reply.status == 409) (cond test (continues session goal (answer_of reply)) lost) (refused session (answer_of reply))) Holds
+      cond_both (reply.status == 200) (continues session goal (ruling_told reply))
+      (cond (reply.status == 409) (cond test (continues session goal (ruling_told reply)) lost) (refused session (ruling_told reply))) Holds
       (λ e. continues_holds session k wait.0 (held (r.0 (eqb-true reply.status 200 e))) goal reply)
-      (λ e. cond_both (reply.status == 409) (cond test (continues session goal (answer_of reply)) lost) (refused session (answer_of reply)) Holds
-      (λ e2. cond_both test (continues session goal (answer_of reply)) lost Holds
+      (λ e. cond_both (reply.status == 409) (cond test (continues session goal (ruling_told reply)) lost) (refused session (ruling_told reply)) Holds
+      (λ e2. cond_both test (continues session goal (ruling_told reply)) lost Holds
       (λ e3. continues_holds session k wait.0
       (held (r.1 (eqb-true reply.status 409 e2)
       (subst (λ (n : ℕ). names reply.lock (lock_id client.nonce (n + 1)) ≡ true) (sym wait.1) (and_parts (has_next session.number) named e3).1))) goal reply)
       (λ e3. ends_holds session k (LockLost reply.lock reply.reason) tt))
       (λ e2. refused_holds session k reply))
   reply_holds session k goal (op_of.Refresh j) reply wait s r =
-      cond_both (reply.status == 200) (tells session Refreshed) (cond (reply.status == 409) (ends session (LockLost reply.lock reply.reason)) (refused session (answer_of reply))) Holds
+      cond_both (reply.status == 200) (tells session Refreshed) (cond (reply.status == 409) (ends session (LockLost reply.lock reply.reason)) (refused session (ruling_told reply))) Holds
       (λ e. tells_holds session k Refreshed tt)
-      (λ e. cond_both (reply.status == 409) (ends session (LockLost reply.lock reply.reason)) (refused session (answer_of reply)) Holds
+      (λ e. cond_both (reply.status == 409) (ends session (LockLost reply.lock reply.reason)) (refused session (ruling_told reply)) Holds
       (λ e2. ends_holds session k (LockLost reply.lock reply.reason) tt) (λ e2. refused_holds session k reply))
   reply_holds session k goal (op_of.Unlock j) reply wait s r =
       let lost : Turn = ends session (LockLost reply.lock reply.reason) in
       cond_both (reply.status == 200) (ends session Closed)
-      (cond (reply.status == 409) (cond (says_spent reply.reason) (ends session Closed) lost) (refused session (answer_of reply))) Holds
+      (cond (reply.status == 409) (cond (says_spent reply.reason) (ends session Closed) lost) (refused session (ruling_told reply))) Holds
       (λ e. ends_holds session k Closed tt)
-      (λ e. cond_both (reply.status == 409) (cond (says_spent reply.reason) (ends session Closed) lost) (refused session (answer_of reply)) Holds
+      (λ e. cond_both (reply.status == 409) (cond (says_spent reply.reason) (ends session Closed) lost) (refused session (ruling_told reply)) Holds
       (λ e2. cond_both (says_spent reply.reason) (ends session Closed) lost Holds
       (λ e3. ends_holds session k Closed tt) (λ e3. ends_holds session k (LockLost reply.lock reply.reason) tt))
       (λ e2. refused_holds session k reply))
 
   answered_while_holds : (waits : Option Waiting) (session : State) → Known session → session.waits ≡ waits → (reply : Ruling) →
-      ((w : Waiting) → session.waits ≡ Some w → ReplyHolds client start shard history (sent_with session.body w.op) reply) → Holds (answered_while client.nonce waits session (answer_of reply))
+      ((w : Waiting) → session.waits ≡ Some w → ReplyHolds client start shard history (sent_with session.body w.op) reply) → Holds (answered_while client.nonce waits session (ruling_told reply))
   answered_while_holds None session k e reply r = tt
   answered_while_holds (Some w) session k e reply r =
       let wait = k.waits w e in
       reply_holds session k w.goal w.op reply wait.0 wait.1 (r w e)
 
   pub answered_holds : (session : State) → Known session → (reply : Ruling) →
-      ((w : Waiting) → session.waits ≡ Some w → ReplyHolds client start shard history (sent_with session.body w.op) reply) → Holds (answered client.nonce session (answer_of reply))
+      ((w : Waiting) → session.waits ≡ Some w → ReplyHolds client start shard history (sent_with session.body w.op) reply) → Holds (answered client.nonce session (ruling_told reply))
   answered_holds session k reply r = answered_while_holds session.waits session k refl reply r

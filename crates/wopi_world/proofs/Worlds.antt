@@ -15,16 +15,17 @@ use Rattle.wopi_model.specs.Shard.{Shard, Opening, Item, Tick, IsAllowed, Along,
 use Rattle.wopi_model.proofs.Replacing.{Along-weaker, keeps_contents}
 use Rattle.wopi_model.proofs.Conflicts.{tells_why}
 use Rattle.wopi_model.proofs.Histories.{after-append, Along-append}
+use Rattle.wopi_acts.specs.Answers.{ruling_told}
 use Rattle.save_session.specs.LockIds.{lock_id}
 use Rattle.save_session.specs.declared.state.State.{State}
 use Rattle.save_session.specs.declared.state.Effect.{Effect}
 use Rattle.save_session.specs.declared.state.Effect.TheVariants.{Sends, Tells, Ignores}
 use Rattle.save_session.specs.declared.state.Turn.{Turn}
-use Rattle.wopi_world.specs.Requests.{Client, input_of, act_of, call_of, answer_of, sent_with, Sent, Info, TakeLock, Get, Put, Relock, RefreshLock, Unlock}
+use Rattle.wopi_world.specs.Requests.{Client, input_of, act_of, call_of, sent_with, Sent, Info, TakeLock, Get, Put, Relock, RefreshLock, Unlock}
 use Rattle.save_session.specs.declared.input.Input.TheVariants.{Reply as Replies, NoAnswer}
 use Rattle.save_session.specs.Session.{stepped}
 use Rattle.save_session.proofs.Naming.{begins_with_nonce, same_nonce}
-use Rattle.wopi_world.specs.World.{Setting, Request, Reply, Member, World, first_shard, first_world, Event, Asks, Deliver, Answer, Lose, Foreign, Ticks, Entry, Fault, Refused, ruling_in, item_of, with_item, enters, delivered_by, delivered, replied, Ask, Unread, One, Copy, asks_one, is_taken, tries, foreign, takes, turns, for_client, is_asked, answers_sender, answers_place, answers, refuses, comes, run_from, run}
+use Rattle.wopi_world.specs.World.{Setting, Request, Reply, Member, World, first_shard, first_world, Event, Asks, Deliver, Answer, Lose, Foreign, Ticks, Entry, Fault, Refused, ruling_in, next_stamp, entry_of, item_of, with_item, enters, delivered_by, delivered, replied, Ask, Unread, One, Copy, asks_one, is_taken, tries, foreign, takes, turns, for_client, is_asked, answers_sender, answers_place, answers, refuses, comes, run_from, run}
 use Rattle.wopi_world.specs.Valid.{IsOfNoSession, AskIsOfNoSession, IsValidEvent, IsValid}
 use Rattle.wopi_world.specs.Safe.{IsSave, SavesAreOrdered, IsSafe}
 use Rattle.wopi_world.proofs.Held.{held_id, own_number, under-settled, gone-settled}
@@ -94,23 +95,23 @@ own_reply : (setting : Setting) (client : Client) (s : ℕ) (world : World) (op 
     ReplyHolds client (first_shard setting) (enters world (call_of client op) moment).shard (enters world (call_of client op) moment).history op (ruling_in world (call_of client op) moment)
 own_reply setting client s world Info moment h sent = tt
 own_reply setting client s world TakeLock moment h sent =
-    reply_to_lock client world.shard moment (length world.history + 1) (ruling_in world (call_of client TakeLock) moment)
+    reply_to_lock client world.shard moment (next_stamp world) (ruling_in world (call_of client TakeLock) moment)
     (ruling_allowed world.faulty (at_moment world.shard moment) (call_of client TakeLock)) h.ground.staged
 own_reply setting client s world Get moment h sent =
-    reply_to_get client (first_shard setting) world.shard (enters world (call_of client Get) moment).history moment (length world.history + 1) (ruling_in world (call_of client Get) moment)
+    reply_to_get client (first_shard setting) world.shard (enters world (call_of client Get) moment).history moment (next_stamp world) (ruling_in world (call_of client Get) moment)
     (ruling_allowed world.faulty (at_moment world.shard moment) (call_of client Get)) h.ground.staged (h.knows.ops Get sent)
 own_reply setting client s world (Put j d) moment h sent = λ status. (
   length world.history,
-  record { stamp = length world.history + 1; pass = 0; moment = moment; call = call_of client (Put j d); ruling = ruling_in world (call_of client (Put j d)) moment },
+  entry_of world (call_of client (Put j d)) moment,
   d,
   get_new world.history (item_of world (call_of client (Put j d)) moment),
   (refl, refl, status),
   refl,
 )
 own_reply setting client s world (Relock j) moment h sent = (
-  reply_to_relock client world.shard j moment (length world.history + 1) (ruling_in world (call_of client (Relock j)) moment)
+  reply_to_relock client world.shard j moment (next_stamp world) (ruling_in world (call_of client (Relock j)) moment)
       (ruling_allowed world.faulty (at_moment world.shard moment) (call_of client (Relock j))) h.ground.staged,
-  conflict_with_next client world.shard (Relock j) (j + 1) moment (length world.history + 1) (ruling_in world (call_of client (Relock j)) moment)
+  conflict_with_next client world.shard (Relock j) (j + 1) moment (next_stamp world) (ruling_in world (call_of client (Relock j)) moment)
       (ruling_allowed world.faulty (at_moment world.shard moment) (call_of client (Relock j))) h.ground.staged,
 )
 own_reply setting client s world (RefreshLock j) moment h sent = tt
@@ -244,14 +245,14 @@ asked_only (Some own) place h = ap (λ (n : ℕ). Some n) (eqb-true own place h)
 
 abbrev answered_in : World → List ℕ → ℕ → Ruling → ℕ → World
 answered_in world nonce place ruling n =
-    cond (is_asked (world.members n).asked place) (turns world n (stepped nonce (world.members n).session (Replies (answer_of ruling)))) world
+    cond (is_asked (world.members n).asked place) (turns world n (stepped nonce (world.members n).session (Replies (ruling_told ruling)))) world
 
 own_answered : (setting : Setting) (client : Client) (s : ℕ) (world : World) (p : ℕ) (reply : Reply) (place : ℕ) → IsKept setting client s world →
     slice_get world.replies p ≡ Some reply → reply.request ≡ Some place → IsKept setting client s (answered_in world client.nonce place reply.ruling s)
 own_answered setting client s world p reply place h e request =
     let member = world.members s in
-    cond_both (is_asked member.asked place) (turns world s (stepped client.nonce member.session (Replies (answer_of reply.ruling)))) world (IsKept setting client s)
-    (λ t. own_turns setting client s world (stepped client.nonce member.session (Replies (answer_of reply.ruling))) h
+    cond_both (is_asked member.asked place) (turns world s (stepped client.nonce member.session (Replies (ruling_told reply.ruling)))) world (IsKept setting client s)
+    (λ t. own_turns setting client s world (stepped client.nonce member.session (Replies (ruling_told reply.ruling))) h
     (answered_holds client (first_shard setting) world.shard world.history (WasSent s world.requests) member.told member.session h.knows reply.ruling
     (λ w waits. h.replies_hold p reply place (sent_with member.session.body w.op) e request (h.asked place w (asked_only member.asked place t) waits))))
     (λ f. h)
@@ -259,7 +260,7 @@ own_answered setting client s world p reply place h e request =
 others_answered : (setting : Setting) (client : Client) (s t : ℕ) (world : World) (nonce : List ℕ) (place : ℕ) (ruling : Ruling) → t ≢ s → IsKept setting client s world →
     IsKept setting client s (answered_in world nonce place ruling t)
 others_answered setting client s t world nonce place ruling apart h =
-    let turn = stepped nonce (world.members t).session (Replies (answer_of ruling)) in
+    let turn = stepped nonce (world.members t).session (Replies (ruling_told ruling)) in
     cond_both (is_asked (world.members t).asked place) (turns world t turn) world (IsKept setting client s)
     (λ e. others_take setting client s t world turn.session turn.effect apart h) (λ f. h)
 
@@ -486,7 +487,7 @@ fair-sender setting world place ruling (Some one) f =
     let member = world.members one.sender in
     fair-client setting world (slice_get setting.clients one.sender) (λ other. answered_in world other.nonce place ruling one.sender) f
     (λ other.
-    let turn = stepped other.nonce member.session (Replies (answer_of ruling)) in
+    let turn = stepped other.nonce member.session (Replies (ruling_told ruling)) in
     cond_both (is_asked member.asked place) (turns world one.sender turn) world (Fair setting)
     (λ e. fair-takes setting world one.sender member turn.session turn.effect f) (λ e. f))
 

@@ -1,5 +1,5 @@
 -- A history of a running shard, as events of a world.
-use Rattle.std.specs.Prelude.{◌≡◌, ⊤, List, [], ◌∷◌, ◌==◌, if◌then◌else◌}
+use Rattle.std.specs.Prelude.{◌≡◌, ⊤, ℕ, ◌+◌, List, [], ◌∷◌, ◌==◌, if◌then◌else◌}
 use Rattle.wopi_model.specs.Shard.{Item, Tick, Step}
 use Rattle.wopi_model.specs.Shard as shard
 use Rattle.wopi_world.specs.World.{Event, Ticks, Entry, Fault}
@@ -24,3 +24,8 @@ abbrev pub AreSameItems : List Item → List Item → Type 0
 AreSameItems [] [] = ⊤
 AreSameItems (item ∷ items) (other ∷ others) = IsSameItem item other × AreSameItems items others
 AreSameItems _ _ = ⊥
+
+-- the entries are of pass 0, and their stamps count them, on from that number
+abbrev pub AreCounted : ℕ → List shard.Entry → Type 0
+AreCounted count [] = ⊤
+AreCounted count (entry ∷ entries) = (entry.stamp ≡ count + 1) × (entry.pass ≡ 0) × AreCounted (count + 1) entries

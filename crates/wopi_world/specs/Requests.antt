@@ -1,15 +1,9 @@
--- What a session asks the host, and what it is answered, as values.
-use Rattle.std.specs.Prelude.{ℕ, List, [], Option, None, Some, unwrap_or}
-use Rattle.wopi_headers.specs.declared.answer.Answer.{Answer}
-use Rattle.wopi_headers.specs.declared.answer.BodyKind.{BodyKind}
-use Rattle.wopi_headers.specs.declared.answer.BodyKind.TheVariants as kind
-use Rattle.wopi_headers.specs.declared.ask.Op.{Op}
-use Rattle.wopi_headers.specs.declared.ask.Op.TheVariants as ask
+-- What a session asks the host, as values.
+use Rattle.std.specs.Prelude.{ℕ, List, [], Option, unwrap_or}
 use Rattle.wopi_model.specs.declared.token.Token.{Token}
 use Rattle.wopi_model.specs.declared.calls.Act.{Act}
-use Rattle.wopi_model.specs.declared.calls.Act.TheVariants as act
 use Rattle.wopi_model.specs.declared.calls.Call.{Call}
-use Rattle.wopi_model.specs.declared.calls.Ruling.{Ruling}
+use Rattle.wopi_acts.specs.Acts.{act_with}
 use Rattle.save_session.specs.declared.input.Input.{Input}
 use Rattle.save_session.specs.declared.input.Input.TheVariants as input
 use Rattle.save_session.specs.declared.state.SessionOp.{SessionOp}
@@ -69,38 +63,10 @@ abbrev pub body : Sent → List ℕ
 body (Put number contents) = contents
 body _ = []
 
--- The one act that an operation with that body is for the host; a copy, which no session asks for, begins with a look. (MS-WOPI.)
-abbrev pub act_with : List ℕ → Op → Act
-act_with contents ask.Info = act.Info
-act_with contents (ask.Get most) = act.Get most
-act_with contents (ask.Put lock) = act.Put lock contents
-act_with contents (ask.Lock id) = act.Lock id
-act_with contents ask.GetLock = act.GetLock
-act_with contents (ask.Refresh id) = act.Refresh id
-act_with contents (ask.Unlock id) = act.Unlock id
-act_with contents (ask.Relock old id) = act.Relock old id
-act_with contents (ask.PutRelative target) = act.Look
-act_with contents ask.Delete = act.Delete
-
+-- the one act that a session's request is for the host
 abbrev pub act_of : List ℕ → Sent → Act
 act_of nonce sent = act_with (body sent) (op_of nonce (operation sent))
 
 -- the one call that a session's request makes
 abbrev pub call_of : Client → Sent → Call
 call_of client sent = record { name = client.token.file; token = client.token; act = act_of client.nonce sent }
-
-abbrev pub kind_of : Option (List ℕ) → BodyKind
-kind_of None = kind.None
-kind_of (Some contents) = kind.Octets
-
--- A ruling as a session is answered. It looks at the body of a read alone, so the texts of other bodies are left out.
-abbrev pub answer_of : Ruling → Answer
-answer_of ruling =
-    record {
-      status = ruling.status;
-      lock = ruling.lock;
-      reason = ruling.reason;
-      version = ruling.version;
-      kind = kind_of ruling.contents;
-      body = unwrap_or ruling.contents [];
-    }

@@ -7,7 +7,9 @@ use Rattle.wopi_model.specs.declared.calls.Call.{Call}
 use Rattle.wopi_model.specs.declared.calls.Ruling.{Ruling}
 use Rattle.wopi_model.specs.Act.{is_stored}
 use Rattle.wopi_model.specs.Step.{Decision, Accept, decision, ruling_of, store_fault, bare}
-use Rattle.wopi_model.specs.Shard.{Shard, Opening, Item, Tick, Step, opened_shard, at_moment, happens}
+use Rattle.wopi_model.specs.Shard as shard
+use Rattle.wopi_model.specs.Shard.{Shard, Opening, Item, Tick, Step, opened_shard, at_moment, happens, entries}
+use Rattle.wopi_acts.specs.Answers.{ruling_told}
 use Rattle.save_session.specs.declared.output.Outcome.{Outcome}
 use Rattle.save_session.specs.declared.state.State.{State}
 use Rattle.save_session.specs.declared.state.Effect.{Effect}
@@ -15,7 +17,7 @@ use Rattle.save_session.specs.declared.state.Effect.TheVariants.{Sends, Tells, I
 use Rattle.save_session.specs.declared.state.Turn.{Turn}
 use Rattle.save_session.specs.declared.input.Input.TheVariants.{Reply as Replies, NoAnswer}
 use Rattle.save_session.specs.Session.{new_session, stepped}
-use Rattle.wopi_world.specs.Requests.{Client, Wish, Sent, input_of, sent_with, call_of, answer_of}
+use Rattle.wopi_world.specs.Requests.{Client, Wish, Sent, input_of, sent_with, call_of}
 
 pub record Setting : Type 0 where
   pub opening : Opening
@@ -103,9 +105,17 @@ ruling_at faulty at call =
 abbrev pub ruling_in : World → Call → ℕ → Ruling
 ruling_in world call moment = ruling_at world.faulty (at_moment world.shard moment) call
 
+-- entries are stamped by their number
+abbrev pub next_stamp : World → ℕ
+next_stamp world = length (entries world.history) + 1
+
+-- the entry that a call at a moment makes
+abbrev pub entry_of : World → Call → ℕ → shard.Entry
+entry_of world call moment =
+    record { stamp = next_stamp world; pass = 0; moment = moment; call = call; ruling = ruling_in world call moment }
+
 abbrev pub item_of : World → Call → ℕ → Item
-item_of world call moment =
-    Step (record { stamp = length world.history + 1; pass = 0; moment = moment; call = call; ruling = ruling_in world call moment })
+item_of world call moment = Step (entry_of world call moment)
 
 abbrev pub with_item : World → Item → World
 with_item world item = record world { shard = happens world.shard item; history = world.history ++ item ∷ [] }
@@ -178,12 +188,14 @@ abbrev pub is_asked : Option ℕ → ℕ → Bool
 is_asked None place = false
 is_asked (Some own) place = own == place
 
+-- The session is answered with what tells the ruling. It looks at no body but a read's, so what the bodies of a fault or of
+-- CheckFileInfo say is left out.
 abbrev pub answers_sender : Setting → World → ℕ → Ruling → Option Request → World
 answers_sender setting world place ruling None = world
 answers_sender setting world place ruling (Some request) =
     for_client world (slice_get setting.clients request.sender) (λ client.
     if is_asked (world.members request.sender).asked place
-    then turns world request.sender (stepped client.nonce (world.members request.sender).session (Replies (answer_of ruling)))
+    then turns world request.sender (stepped client.nonce (world.members request.sender).session (Replies (ruling_told ruling)))
     else world)
 
 abbrev pub answers_place : Setting → World → Ruling → Option ℕ → World

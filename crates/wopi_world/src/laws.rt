@@ -1,8 +1,8 @@
 //! What holds of every world, as contracts of functions that do nothing.
 ghost use Rattle.std.specs.List.{slice_get};
 ghost use Rattle.std.specs.Prelude.{◌≡◌, ℕ, List, Some};
-ghost use Rattle.wopi_model.specs.Shard.{Item, Legal};
-ghost use Rattle.wopi_world.specs.Journals.{events_of, AreSameItems};
+ghost use Rattle.wopi_model.specs.Shard.{Item, Legal, entries};
+ghost use Rattle.wopi_world.specs.Journals.{events_of, AreSameItems, AreCounted};
 ghost use Rattle.wopi_world.specs.Requests.{Client, Sent, call_of};
 ghost use Rattle.wopi_world.specs.World.{Setting, World, Event, IsSameHistory, comes, run};
 ghost use Rattle.wopi_world.specs.World as event;
@@ -29,4 +29,11 @@ pub fn deliver_is_entry()
 pub fn entries_run()
     ensures { (setting : Setting) (history : List Item) → Legal setting.opening setting.opened history →
         AreSameItems history (run setting (events_of history)).history }
+{}
+
+/// A legal history whose stamps count its entries, and which has no other pass than 0, is that
+/// world's history to the last field.
+pub fn counted_entries_run()
+    ensures { (setting : Setting) (history : List Item) → Legal setting.opening setting.opened history → AreCounted 0 (entries history) →
+        history ≡ (run setting (events_of history)).history }
 {}

@@ -10,7 +10,7 @@ pub returns-in_default-clause-follows : goal.returns-in_default-clause-follows
 returns-in_default-clause-follows g c =
     let stage = c.args.self.now in
     λ straight setting world shows.
-    absent setting stage.desk.key stage.host.shard stage.history.items stage.requests.items stage.replies.items stage.members.items world shows c.args.place
+    absent setting stage.desk stage.host.shard stage.history.items stage.requests.items stage.replies.items stage.members.items world shows c.args.place
     c.in_ok-absent.absent.items (not_found c.deref.result.now stage.replies.items c.args.place c.deref.ensures.value c.in_default.ensures) c.in_ok-absent.ensures
 
 pub returns-in_default-request-clause-follows : goal.returns-in_default-request-clause-follows
@@ -18,7 +18,7 @@ returns-in_default-request-clause-follows g c =
     let stage = c.args.self.now in
     let reply = c.in-Some.reply.now in
     λ straight setting world shows.
-    late_foreign setting stage.desk.key stage.host.shard stage.history.items stage.requests.items stage.replies.items stage.members.items world shows c.args.place
+    late_foreign setting stage.desk stage.host.shard stage.history.items stage.requests.items stage.replies.items stage.members.items world shows c.args.place
     reply (looked_up c.deref.result.now stage.replies.items c.args.place reply c.deref.ensures.value c.in-Some.ensures) c.in_ok-late.late.items (is_none reply.request c.in_default-request.not-Some) c.in_ok-late.ensures
 
 pub returns-in_default-request_at-clause-follows : goal.returns-in_default-request_at-clause-follows
@@ -27,7 +27,7 @@ returns-in_default-request_at-clause-follows g c =
     let reply = c.in-Some.reply.now in
     let asked = c.in-Some-request.asked in
     λ straight setting world shows.
-    late_request setting stage.desk.key stage.host.shard stage.history.items stage.requests.items stage.replies.items stage.members.items world shows c.args.place
+    late_request setting stage.desk stage.host.shard stage.history.items stage.requests.items stage.replies.items stage.members.items world shows c.args.place
     reply (looked_up c.deref.result.now stage.replies.items c.args.place reply c.deref.ensures.value c.in-Some.ensures) asked c.in-Some-request.is
     c.in_ok-late-2.late.items (not_found c.deref-2.result.now stage.requests.items asked c.deref-2.ensures.value c.in_default-request_at.ensures) c.in_ok-late-2.ensures
 
@@ -38,7 +38,7 @@ returns-in_default-member_at-clause-follows g c =
     let asked = c.in-Some-request.asked in
     let request = c.in-Some-request_at.request.now in
     λ straight setting world shows.
-    late_member setting stage.desk.key stage.host.shard stage.history.items stage.requests.items stage.replies.items stage.members.items world shows c.args.place
+    late_member setting stage.desk stage.host.shard stage.history.items stage.requests.items stage.replies.items stage.members.items world shows c.args.place
     reply (looked_up c.deref.result.now stage.replies.items c.args.place reply c.deref.ensures.value c.in-Some.ensures) asked c.in-Some-request.is
     request (looked_up c.deref-2.result.now stage.requests.items asked request c.deref-2.ensures.value c.in-Some-request_at.ensures)
     c.in_ok-late-3.late.items (not_found c.deref-3.result.now stage.members.items request.sender c.deref-3.ensures.value c.in_default-member_at.ensures) c.in_ok-late-3.ensures
@@ -51,7 +51,7 @@ returns-then-not-waits_for-clause-follows g c =
     let request = c.in-Some-request_at.request.now in
     let member = c.in-Some-member_at.member.now in
     λ straight setting world shows.
-    late_waiting setting stage.desk.key stage.host.shard stage.history.items stage.requests.items stage.replies.items stage.members.items world shows c.args.place
+    late_waiting setting stage.desk stage.host.shard stage.history.items stage.requests.items stage.replies.items stage.members.items world shows c.args.place
     reply (looked_up c.deref.result.now stage.replies.items c.args.place reply c.deref.ensures.value c.in-Some.ensures) asked c.in-Some-request.is
     request (looked_up c.deref-2.result.now stage.requests.items asked request c.deref-2.ensures.value c.in-Some-request_at.ensures)
     member (looked_up c.deref-3.result.now stage.members.items request.sender member c.deref-3.ensures.value c.in-Some-member_at.ensures) c.in_ok-late-4.late.items (sym c.if-not-waits_for.ensures) c.in_ok-late-4.ensures
@@ -73,7 +73,7 @@ returns-clause-follows g c =
     let member = c.in-Some-member_at.member.now in
     let after = c.step_at.new in
     λ straight setting world shows.
-    took_answer setting stage.desk.key stage.host.shard stage.history.items stage.requests.items stage.replies.items stage.members.items world shows c.args.place
+    took_answer setting stage.desk stage.host.shard stage.history.items stage.requests.items stage.replies.items stage.members.items world shows c.args.place
     reply (looked_up c.deref.result.now stage.replies.items c.args.place reply c.deref.ensures.value c.in-Some.ensures) asked c.in-Some-request.is
     request (looked_up c.deref-2.result.now stage.requests.items asked request c.deref-2.ensures.value c.in-Some-request_at.ensures)
     member (looked_up c.deref-3.result.now stage.members.items request.sender member c.deref-3.ensures.value c.in-Some-member_at.ensures)
