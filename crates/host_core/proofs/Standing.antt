@@ -152,11 +152,11 @@ archive-stays opening made before after old new archive stays within = record {
 
 -- the shard after a step
 pub stands-step : {F : Type 0} (book : Book F) (before after : Ledger) (start now now' : Option Files) (began count count' : ℕ) (call : Call) (pass floor moment : ℕ) (ruling : Ruling) (folder' : F)
-    → Stands book before.last before.first_files before.files.items before.versions start now began count
+    → Stands book before.last before.first_files before.files.items before.versions.list start now began count
     → book.opened ≡ before.opened → book.time ≡ before.time → IsMoment moment → IsTaken book.only call.name → length book.made ≢ book.capacity
     → Takes before after call pass floor moment ruling → StoresAs now now' call ruling → count ≤ count' → (ruling.status ≡ 500 → Rose count count')
     → Stands (record book { made = book.made ++ made_by before call pass floor moment ruling ∷ []; time = max book.time moment; folder = folder' })
-    after.last after.first_files after.files.items after.versions start now' began count'
+    after.last after.first_files after.files.items after.versions.list start now' began count'
 stands-step book before after start now now' began count count' call pass floor moment ruling folder' stands opened time m own room takes stores le fault =
     let steps : TakesStep before.files.items after.files.items call book.opened (max book.time moment) ruling =
     subst (λ (o : ℕ). TakesStep before.files.items after.files.items call o (max book.time moment) ruling) (sym opened)
@@ -166,15 +166,15 @@ stands-step book before after start now now' began count count' call pass floor 
     let made' = book.made ++ made_by before call pass floor moment ruling ∷ [] in
     record {
       keeps =
-          subst (λ (x : Made). Reflects book.opening book.opened book.capacity (book.made ++ x ∷ []) (max book.time moment) after.last (kept_in after.versions) after.files.items) same
-          (subst (λ (l : ℕ). Reflects book.opening book.opened book.capacity (book.made ++ one ∷ []) (max book.time moment) l (kept_in after.versions) after.files.items) (sym takes.last)
+          subst (λ (x : Made). Reflects book.opening book.opened book.capacity (book.made ++ x ∷ []) (max book.time moment) after.last (kept_in after.versions.list) after.files.items) same
+          (subst (λ (l : ℕ). Reflects book.opening book.opened book.capacity (book.made ++ one ∷ []) (max book.time moment) l (kept_in after.versions.list) after.files.items) (sym takes.last)
           (subst (λ (b : ℕ). Reflects book.opening book.opened book.capacity (book.made ++ one ∷ []) (max book.time moment) (max before.last floor + 1) b after.files.items) (sym takes.kept)
-          (keeps-step book.opening book.opened book.capacity book.made book.time before.last (kept_in before.versions) before.files.items after.files.items stands.keeps call pass floor moment ruling m steps)));
+          (keeps-step book.opening book.opened book.capacity book.made book.time before.last (kept_in before.versions.list) before.files.items after.files.items stands.keeps call pass floor moment ruling m steps)));
       folder = agrees-step book.only start now now' before.files.items after.files.items call before.opened (max before.time moment) ruling stands.folder own takes.steps stores;
       faults = rose-step began count count' book.made (made_by before call pass floor moment ruling) stands.faults le fault;
       timely = λ h.
           subst (λ (x : Made). GoesByEntries book.opened (book.made ++ x ∷ []) (max book.time moment)) same (goes-push book.opened book.made one book.time (stands.timely h) refl);
-      archive = archive-step book.opening book.made (made_by before call pass floor moment ruling) before.files.items after.files.items before.versions after.versions stands.archive takes.stays takes.archived takes.within;
+      archive = archive-step book.opening book.made (made_by before call pass floor moment ruling) before.files.items after.files.items before.versions.list after.versions.list stands.archive takes.stays takes.archived takes.within;
       first = takes.first ∙ stands.first;
       few = let more = made_long book.made (made_by before call pass floor moment ruling) in let old = stands.few in let grown = takes.few in omega (arith, more, old, grown);
       places = let more = made_long book.made (made_by before call pass floor moment ruling) in let old = stands.places in below_full (length book.made) _ book.capacity more old room;
@@ -182,18 +182,18 @@ stands-step book before after start now now' began count count' call pass floor 
 
 -- and after one that was refused
 pub stands-stays : {F : Type 0} (book : Book F) (before after : Ledger) (start now now' : Option Files) (began count count' : ℕ) (folder' : F)
-    → Stands book before.last before.first_files before.files.items before.versions start now began count
+    → Stands book before.last before.first_files before.files.items before.versions.list start now began count
     → Stays before after → folder.Keeps now now' → count ≤ count'
-    → Stands (record book { folder = folder' }) after.last after.first_files after.files.items after.versions start now' began count'
+    → Stands (record book { folder = folder' }) after.last after.first_files after.files.items after.versions.list start now' began count'
 stands-stays book before after start now now' began count count' folder' stands stays keeps le = record {
   keeps =
-      subst (λ (l : ℕ). Reflects book.opening book.opened book.capacity book.made book.time l (kept_in after.versions) after.files.items) (sym stays.last)
+      subst (λ (l : ℕ). Reflects book.opening book.opened book.capacity book.made book.time l (kept_in after.versions.list) after.files.items) (sym stays.last)
       (subst (λ (v : List Version). Reflects book.opening book.opened book.capacity book.made book.time before.last (kept_in v) after.files.items) (sym stays.versions)
-      (keeps-stays book.opening book.opened book.capacity book.made book.time before.last (kept_in before.versions) before.files.items after.files.items stands.keeps stays.files));
+      (keeps-stays book.opening book.opened book.capacity book.made book.time before.last (kept_in before.versions.list) before.files.items after.files.items stands.keeps stays.files));
   folder = agrees-stays book.only start now now' before.files.items after.files.items stands.folder stays.files keeps;
   faults = rose-stays began (faults_in book.made) count count' stands.faults le;
   timely = stands.timely;
-  archive = archive-stays book.opening book.made before.files.items after.files.items before.versions after.versions stands.archive stays.stays stays.within;
+  archive = archive-stays book.opening book.made before.files.items after.files.items before.versions.list after.versions.list stands.archive stays.stays stays.within;
   first = stays.first ∙ stands.first;
   few = let old = stands.few in let same = stays.few in omega (arith, old, same);
   places = stands.places;

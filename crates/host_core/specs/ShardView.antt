@@ -28,7 +28,7 @@ left_of p = record { opening = opening_of p.opening.value.items; made = p.entrie
 
 -- what a shard leaves has its contents among its versions
 pub record IsLeft {F : Type 0} (p : past.Inside F) : Type 0 where
-  pub archive : IsArchive (opening_of p.opening.value.items) p.entries.items p.files.items p.versions
+  pub archive : IsArchive (opening_of p.opening.value.items) p.entries.items p.files.items p.versions.list
   pub first : p.first_files ≡ length (opening_of p.opening.value.items)
   pub inside : p.first_files ≤ length p.files.items
   pub few : length p.files.items ≤ 2 ^ 32

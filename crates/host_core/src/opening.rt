@@ -127,10 +127,11 @@ fn stock_one(alloc: Global, stock: &mut Stock, file: ReadFile) -> Result<(), Mem
         return Err(Memory);
     }
     let ReadFile { name, contents } = file;
-    let kept = opened(alloc, &name, &contents);
+    let place = stock.versions.len();
+    let kept = opened(alloc, &name, &contents, place);
     let first = OpeningFile {
         name,
-        contents: Extent::of(&contents),
+        contents: Extent::of(&contents, place),
     };
     stock.opening.push(first)?;
     stock.files.push(kept)?;
@@ -141,13 +142,13 @@ fn stock_one(alloc: Global, stock: &mut Stock, file: ReadFile) -> Result<(), Mem
 }
 
 /// The file of a name that stood there at the opening.
-fn opened(alloc: Global, name: &FileName, contents: &Bytes) -> KeptFile
+fn opened(alloc: Global, name: &FileName, contents: &Bytes, place: usize) -> KeptFile
     ensures file { file_of result ≡ opened_with contents.now }
     ensures name { result.name ≡ name.now }
     ensures torn { result.torn ≡ false }
 {
     let mut file = unmet(alloc, name);
-    file.contents = Some(Extent::of(contents));
+    file.contents = Some(Extent::of(contents, place));
     file.version = 1;
     file
 }

@@ -48,7 +48,7 @@ impl<F: Folder> Model for Shard<F> {
 
     ghost view = { book_of };
 
-    ghost invariant = { λ s. Stands (book_of s) s.ledger.last s.ledger.first_files s.ledger.files.items s.ledger.versions (F.files s.start.value) (F.files s.folder) (F.faults s.start.value) (F.faults s.folder) };
+    ghost invariant = { λ s. Stands (book_of s) s.ledger.last s.ledger.first_files s.ledger.files.items s.ledger.versions.list (F.files s.start.value) (F.files s.folder) (F.faults s.start.value) (F.faults s.folder) };
 }
 
 impl<F: Folder> Shard<F> {

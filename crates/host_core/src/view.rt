@@ -34,7 +34,7 @@ fn standing_lock(lock: &Option<Lock>, now: u64) -> Option<&Lock>
 
 /// The bytes of a file, none where it doesn't exist.
 fn bytes_of<'a>(versions: &'a Versions, number: u32, file: &KeptFile) -> &'a [u8]
-    requires { IsHeld number file.now versions.now }
+    requires { IsHeld number file.now versions.now.list }
     ensures { result.now ≡ unwrap_or file.now.contents [] }
 {
     match contents_of(versions, number, file) {
@@ -51,7 +51,7 @@ pub fn view_of<'a>(
     now: u64,
 ) -> FileView<'a>
     requires moment { BeganAtMoment file.now.lock }
-    requires held { IsHeld number file.now versions.now }
+    requires held { IsHeld number file.now versions.now.list }
     ensures { IsViewOf result (settled (file_of file.now) now) file.now.torn }
 {
     FileView {

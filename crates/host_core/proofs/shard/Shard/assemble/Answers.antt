@@ -27,15 +27,15 @@ invariant_of-result g c =
     let count : length kept ≡ length opening = first_long stock c.requires.stock in
     let long : length opening ≡ length (opening_of c.of-opening.result.value.items) = ap length same in
     record {
-      keeps = subst (λ o. Reflects o c.args.opened c.args.capacity c.new.result.items c.args.opened 0 (kept_in stock.versions) kept) same
-          (subst (λ (m : List Made). Reflects opening c.args.opened c.args.capacity m c.args.opened 0 (kept_in stock.versions) kept) (sym c.new.ensures.items)
-          (keeps-start opening c.args.opened c.args.capacity (kept_in stock.versions) kept c.requires.moment c.requires.stock.files c.requires.stock.torn c.requires.stock.kept));
+      keeps = subst (λ o. Reflects o c.args.opened c.args.capacity c.new.result.items c.args.opened 0 (kept_in stock.versions.list) kept) same
+          (subst (λ (m : List Made). Reflects opening c.args.opened c.args.capacity m c.args.opened 0 (kept_in stock.versions.list) kept) (sym c.new.ensures.items)
+          (keeps-start opening c.args.opened c.args.capacity (kept_in stock.versions.list) kept c.requires.moment c.requires.stock.files c.requires.stock.torn c.requires.stock.kept));
       folder = subst (λ (only : Option ℕ). Agrees only (files start) (files c.args.folder) (files_of kept) (torn_in kept)) (sym c.of.ensures)
           (agrees_start c.args.only (files start) (files c.args.folder) opening kept c.requires.opening c.requires.same c.requires.stock.files);
       faults = subst (λ (m : List Made). RoseBy (faults start) (faults_in m) (faults c.args.folder)) (sym c.new.ensures.items) (rose-begin (faults start) (faults c.args.folder) c.requires.faults);
       timely = λ _. subst (λ (m : List Made). GoesByEntries c.args.opened m c.args.opened) (sym c.new.ensures.items) (record { timely = tt; time_is = refl });
-      archive = subst (λ o. IsArchive o c.new.result.items kept stock.versions) same
-          (subst (λ (m : List Made). IsArchive opening m kept stock.versions) (sym c.new.ensures.items) c.requires.stock.archive);
+      archive = subst (λ o. IsArchive o c.new.result.items kept stock.versions.list) same
+          (subst (λ (m : List Made). IsArchive opening m kept stock.versions.list) (sym c.new.ensures.items) c.requires.stock.archive);
       first = omega (arith, stock.files.ok.0, c.len.ensures, count, long);
       few = omega (arith, none, few, room);
       places = omega (arith, none);
@@ -46,5 +46,5 @@ returns-clause-lawful g c =
     let files = g.F.Folder.files in
     let faults = g.F.Folder.faults in
     let start = c.args.start.value in
-    lawful _ 0 c.len.result c.args.stock.files.items c.args.stock.versions
+    lawful _ 0 c.len.result c.args.stock.files.items c.args.stock.versions.list
     (files start) (files c.args.folder) (faults start) (faults c.args.folder) (invariant_of-result g c)

@@ -26,7 +26,7 @@ view_of-requires-clause-held g c =
     let kept = c.self.inside.ledger.files.items in
     let name = c.args.name.now in
     let first : IsFirst (is_named name) kept c.in-Some.place = rw c.deref.ensures.value at c.in-Some.ensures in
-    held_at kept c.self.inside.ledger.versions name c.in-Some.place c.index-file.result.now c.self.invariant.archive.stocked first c.index-file.ensures
+    held_at kept c.self.inside.ledger.versions.list name c.in-Some.place c.index-file.result.now c.self.invariant.archive.stocked first c.index-file.ensures
 
 pub returns-else-is_met-clause-met : goal.returns-else-is_met-clause-met
 returns-else-is_met-clause-met g c =
@@ -36,7 +36,7 @@ returns-else-is_met-clause-met g c =
     let name = c.args.name.now in
     let first : IsFirst (is_named name) kept c.in-Some.place = rw c.deref.ensures.value at c.in-Some.ensures in
     let here : files_of kept name ≡ file_of c.index-file.result.now = file_at file_of never_met kept name c.in-Some.place c.index-file.result.now first c.index-file.ensures in
-    let shown = shown-file book.opening book.opened book.capacity book.made book.time inside.ledger.last (kept_in inside.ledger.versions) kept c.self.invariant.keeps name in
+    let shown = shown-file book.opening book.opened book.capacity book.made book.time inside.ledger.last (kept_in inside.ledger.versions.list) kept c.self.invariant.keeps name in
     let zero : c.index-file.result.now.version ≡ 0 = let is_met = c.if-is_met.false in omega (arith, is_met) in
     let unmet : ((state_of c.args.self.now.opening c.args.self.now.opened c.args.self.now.made c.args.self.now.time).files name).version ≡ 0 =
     subst (λ (b : Book _). ((state_of b.opening b.opened b.made b.time).files name).version ≡ 0) c.self.view_is
@@ -51,7 +51,7 @@ returns-then-is_met-clause-met g c =
     let name = c.args.name.now in
     let first : IsFirst (is_named name) kept c.in-Some.place = rw c.deref.ensures.value at c.in-Some.ensures in
     let here : files_of kept name ≡ file_of c.index-file.result.now = file_at file_of never_met kept name c.in-Some.place c.index-file.result.now first c.index-file.ensures in
-    let shown = shown-file book.opening book.opened book.capacity book.made book.time inside.ledger.last (kept_in inside.ledger.versions) kept c.self.invariant.keeps name in
+    let shown = shown-file book.opening book.opened book.capacity book.made book.time inside.ledger.last (kept_in inside.ledger.versions.list) kept c.self.invariant.keeps name in
     let same : ((state_of c.args.self.now.opening c.args.self.now.opened c.args.self.now.made c.args.self.now.time).files name).version ≡ c.index-file.result.now.version =
     subst (λ (b : Book _). ((state_of b.opening b.opened b.made b.time).files name).version ≡ c.index-file.result.now.version) c.self.view_is
     (sym (ap (λ (f : File). f.version) shown) ∙ ap (λ (f : File). f.version) here) in
@@ -67,7 +67,7 @@ returns-then-is_met-clause-view g c =
     let first : IsFirst (is_named name) kept c.in-Some.place = rw c.deref.ensures.value at c.in-Some.ensures in
     let here : files_of kept name ≡ file_of c.index-file.result.now = file_at file_of never_met kept name c.in-Some.place c.index-file.result.now first c.index-file.ensures in
     let torn : torn_in kept name ≡ c.index-file.result.now.torn = file_at (λ (f : KeptFile). f.torn) false kept name c.in-Some.place c.index-file.result.now first c.index-file.ensures in
-    let shown = shown-file book.opening book.opened book.capacity book.made book.time inside.ledger.last (kept_in inside.ledger.versions) kept c.self.invariant.keeps name in
+    let shown = shown-file book.opening book.opened book.capacity book.made book.time inside.ledger.last (kept_in inside.ledger.versions.list) kept c.self.invariant.keeps name in
     subst (λ (b : Book _). IsViewOf c.view_of.result ((state_of b.opening b.opened b.made b.time).files name) (is_torn b.made name)) c.self.view_is
     (subst (λ (t : Bool). IsViewOf c.view_of.result ((state_of book.opening book.opened book.made book.time).files name) t) (sym torn ∙ c.self.invariant.keeps.torn name)
     (subst (λ (f : File). IsViewOf c.view_of.result f c.index-file.result.now.torn) (ap (λ (f : File). settled f book.time) (sym here) ∙ shown) c.view_of.ensures))

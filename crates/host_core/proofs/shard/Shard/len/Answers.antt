@@ -10,5 +10,5 @@ returns-clause-lawful g c =
     let faults = g.F.Folder.faults in
     let inside = c.self.inside in
     subst (λ book. IsLawful book (files book.start) (files book.folder) (faults book.start) (faults book.folder)) c.self.view_is
-    (lawful (book_of inside) inside.ledger.last inside.ledger.first_files inside.ledger.files.items inside.ledger.versions
+    (lawful (book_of inside) inside.ledger.last inside.ledger.first_files inside.ledger.files.items inside.ledger.versions.list
     (files inside.start.value) (files inside.folder) (faults inside.start.value) (faults inside.folder) c.self.invariant)

@@ -11,8 +11,8 @@ invariant_of-self g c =
     let inside = c.self.inside in
     let book = book_of inside in
     record {
-      keeps = subst (λ (t : ℕ). Reflects book.opening book.opened book.capacity book.made t inside.ledger.last (kept_in inside.ledger.versions) inside.ledger.files.items) (sym c.max-self-inside.ensures)
-          (keeps-tick book.opening book.opened book.capacity book.made book.time inside.ledger.last (kept_in inside.ledger.versions) inside.ledger.files.items c.self.invariant.keeps c.args.moment c.requires);
+      keeps = subst (λ (t : ℕ). Reflects book.opening book.opened book.capacity book.made t inside.ledger.last (kept_in inside.ledger.versions.list) inside.ledger.files.items) (sym c.max-self-inside.ensures)
+          (keeps-tick book.opening book.opened book.capacity book.made book.time inside.ledger.last (kept_in inside.ledger.versions.list) inside.ledger.files.items c.self.invariant.keeps c.args.moment c.requires);
       folder = c.self.invariant.folder;
       faults = c.self.invariant.faults;
       timely = λ h. absurd (cc (h, c.of.ensures));
@@ -27,5 +27,5 @@ returns-clause-lawful g c =
     let files = g.F.Folder.files in
     let faults = g.F.Folder.faults in
     let inside = c.self.inside in
-    lawful _ inside.ledger.last inside.ledger.first_files inside.ledger.files.items inside.ledger.versions
+    lawful _ inside.ledger.last inside.ledger.first_files inside.ledger.files.items inside.ledger.versions.list
     (files inside.start.value) (files inside.folder) (faults inside.start.value) (faults inside.folder) (invariant_of-self g c)
