@@ -11,8 +11,7 @@
 //! table. A chain is named by the place of its first id; an `add` or a `purge` gives the chain a new
 //! name, and the other chains stay.
 //!
-//! Only the two calls of `reserve` take memory. No crate uses this one yet: host_core still searches a
-//! list of files at each step.
+//! Only the two calls of `reserve` take memory.
 #![tactic(auto)]
 
 mod cells;

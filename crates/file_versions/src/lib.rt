@@ -4,19 +4,18 @@
 //! number of its file's name and by the file's version. A shard takes nothing out during a run, save
 //! to undo an `add` whose contents then couldn't be stored.
 //!
-//! The versions stand in a list, in the order in which they came, and a lookup goes through it. A
-//! step of a file costs one such lookup of two numbers each, over at most as many versions as the
-//! shard had opening files and takes entries.
+//! The versions stand in a list, in the order in which they came. No version of a file stands there
+//! twice, so whoever remembers at which place one was added finds it there in one step.
 #![tactic(auto)]
 
-ghost use Rattle.std.specs.Prelude.{◌≡◌, ◌+◌, ◌<◌, ◌++◌, ◌∷◌, [], length, None, IsNone, IfNone, IfSome, OnOk, OnErr, IfErr, MatchOption, option_map, ◌≤◌};
+ghost use Rattle.std.specs.Prelude.{◌≡◌, ◌+◌, ◌<◌, ◌++◌, ◌∷◌, [], length, None, IsNone, IfNone, IfSome, OnOk, OnErr, IfErr, MatchOption, option_map, vec_capacity, ◌≤◌};
 ghost use Rattle.wopi_model.specs.Host.{most_kept};
-ghost use Rattle.file_versions.specs.Versions.{kept_in, found, removed, IsKeptFull, handed_back, is_of};
+ghost use Rattle.file_versions.specs.Versions.{kept_in, found, removed, IsKeptFull, handed_back, is_of, IsMemory, AreApart};
 ghost use Rattle.file_versions.specs.Places.{IsFirst};
 
 use std::alloc::Global;
 use std::marker::Model;
-use wopi_text::Bytes;
+use wopi_text::{Bytes, Memory};
 
 /// The most bytes that are kept: 256 MiB.
 const MOST_KEPT: u64 = 268_435_456;
@@ -45,16 +44,15 @@ pub struct Versions {
 }
 
 impl Model for Versions {
-    ghost use Rattle.std.specs.Prelude.{◌≡◌, ◌≤◌, List};
-    ghost use Rattle.file_versions.specs.declared.Version.{Version};
-    ghost use Rattle.wopi_model.specs.Host.{most_kept};
-    ghost use Rattle.file_versions.specs.Versions.{kept_in};
+    ghost use Rattle.file_versions.specs.Versions.{Shelf};
 
-    ghost Value = { List Version };
+    ghost Value = { Shelf };
 
-    ghost view = { λ v. v.list.items };
+    ghost use Rattle.file_versions.specs.Shelf.{shelf_of, IsShelf};
 
-    ghost invariant = { λ v. (v.kept ≡ kept_in v.list.items) × (v.kept ≤ most_kept) };
+    ghost view = { shelf_of };
+
+    ghost invariant = { IsShelf };
 }
 
 /// Why contents were not added. Both hand them back.
@@ -68,7 +66,7 @@ pub enum AddFault {
 impl Versions {
     /// No versions yet.
     pub fn new(alloc: Global) -> Versions
-        ensures { result ≡ [] }
+        ensures { result.list ≡ [] }
     {
         Versions {
             list: Vec::new(alloc),
@@ -78,19 +76,38 @@ impl Versions {
 
     /// How many bytes are kept.
     pub fn kept(&self) -> u64
-        ensures { result ≡ kept_in self.now }
+        ensures { result ≡ kept_in self.now.list }
     {
         self.kept
     }
 
-    /// Keeps the contents of a version that isn't kept yet. An `Err` changes nothing.
-    pub fn add(&mut self, number: u32, version: u64, contents: Bytes) -> Result<(), AddFault>
-        requires { found self.old number version ≡ None }
-        ensures ok { OnOk result (self.new ≡ self.old ++ record { number = number; version = version; contents = contents } ∷ []) }
-        ensures room { OnOk result (kept_in self.old + length contents ≤ most_kept) }
+    /// How many versions are kept.
+    pub fn len(&self) -> usize
+        ensures { result ≡ length self.now.list }
+    {
+        self.list.len()
+    }
+
+    /// Makes room for so many more versions.
+    pub fn reserve(&mut self, n: usize) -> Result<(), Memory>
+        ensures room { OnOk result (n ≤ self.new.spare) }
+        ensures list { self.new.list ≡ self.old.list }
+        ensures spare { self.old.spare ≤ self.new.spare }
         ensures err { OnErr result (self.new ≡ self.old) }
+    {
+        Ok(self.list.reserve(n)?)
+    }
+
+    /// Keeps the contents of a version that isn't kept yet. An `Err` leaves the list.
+    pub fn add(&mut self, number: u32, version: u64, contents: Bytes) -> Result<(), AddFault>
+        requires { found self.old.list number version ≡ None }
+        ensures ok { OnOk result (self.new.list ≡ self.old.list ++ record { number = number; version = version; contents = contents } ∷ []) }
+        ensures room { OnOk result (kept_in self.old.list + length contents ≤ most_kept) }
+        ensures err { OnErr result (self.new.list ≡ self.old.list) }
         ensures back { IfErr result (λ fault. handed_back fault ≡ contents) }
-        ensures full { IfErr result (λ fault. IsKeptFull fault → most_kept < kept_in self.old + length contents) }
+        ensures full { IfErr result (λ fault. IsKeptFull fault → most_kept < kept_in self.old.list + length contents) }
+        ensures memory { IfErr result (λ fault. IsMemory fault → self.old.spare ≡ 0) }
+        ensures spare { self.old.spare ≤ self.new.spare + 1 }
     {
         let len = contents.as_slice().len() as u64;
         if len > MOST_KEPT - self.kept {
@@ -114,9 +131,17 @@ impl Versions {
 
     /// The contents of a version, if it is kept.
     pub fn at(&self, number: u32, version: u64) -> Option<&Bytes>
-        ensures { option_map (λ contents. contents.now) result ≡ found self.now number version }
+        ensures { option_map (λ contents. contents.now) result ≡ found self.now.list number version }
     {
-        match place_of(&self.list, number, version) {
+        self.near(0, number, version)
+    }
+
+    /// The contents of a version, if it is kept. It is looked for at a place first, counted from 0 in
+    /// the order in which the versions came, so that it costs one step where it stands there.
+    pub fn near(&self, place: usize, number: u32, version: u64) -> Option<&Bytes>
+        ensures { option_map (λ contents. contents.now) result ≡ found self.now.list number version }
+    {
+        match place_near(&self.list, place, number, version) {
             None => None,
             Some(place) => Some(&self.list[place].contents),
         }
@@ -124,8 +149,9 @@ impl Versions {
 
     /// Takes a version out again and hands its contents over, if it is kept: it undoes an `add`.
     pub fn remove(&mut self, number: u32, version: u64) -> Option<Bytes>
-        ensures value { result ≡ found self.old number version }
-        ensures rest { self.new ≡ removed self.old number version }
+        ensures value { result ≡ found self.old.list number version }
+        ensures rest { self.new.list ≡ removed self.old.list number version }
+        ensures spare { self.old.spare ≤ self.new.spare }
     {
         match take_out(&mut self.list, number, version) {
             None => None,
@@ -139,18 +165,33 @@ impl Versions {
 
 /// Takes a version out of the list.
 fn take_out(list: &mut Vec<Version>, number: u32, version: u64) -> Option<Bytes>
+    requires apart { AreApart list.old.items }
     ensures value { result ≡ found list.old.items number version }
     ensures rest { list.new.items ≡ removed list.old.items number version }
     ensures none { IfNone result (list.new.items ≡ list.old.items) }
     ensures kept { IfSome result (λ contents. kept_in list.old.items ≡ kept_in list.new.items + length contents) }
+    ensures capacity { vec_capacity list.new ≡ vec_capacity list.old }
+    ensures shorter { length list.new.items ≤ length list.old.items }
 {
-    match place_of(list, number, version) {
+    let last = list.len().saturating_sub(1);
+    match place_near(list, last, number, version) {
         None => None,
         Some(place) => {
             let Version { contents, .. } = list.remove(place);
             Some(contents)
         }
     }
+}
+
+/// The place of a version, which is looked for at one place first.
+fn place_near(list: &[Version], hint: usize, number: u32, version: u64) -> Option<usize>
+    requires { AreApart list.now }
+    ensures { MatchOption result (found list.now number version ≡ None) (IsFirst (is_of number version) list.now) }
+{
+    if hint < list.len() && list[hint].is_of(number, version) {
+        return Some(hint);
+    }
+    place_of(list, number, version)
 }
 
 /// The place of a version.

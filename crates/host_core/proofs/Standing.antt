@@ -18,7 +18,7 @@ use Rattle.wopi_model.specs.Act.{is_stored}
 use Rattle.wopi_model.specs.File.{File}
 use Rattle.wopi_model.specs.Settle.{settled}
 use Rattle.wopi_model.specs.Step.{after_step}
-use Rattle.host_core.specs.declared.file.KeptFile.{KeptFile}
+use Rattle.host_core.specs.Whole.{Whole, joined}
 use Rattle.host_core.specs.Entries.{Made, items_of}
 use Rattle.wopi_model.proofs.Histories.{Legal-tick}
 use Rattle.host_core.specs.Files.{files_of, torn_in}
@@ -26,8 +26,11 @@ use Rattle.host_core.specs.Store.{StoresAs, is_store_call, torn_after, brought}
 use Rattle.host_core.specs.Steps.{TakesStep, ShowsSame}
 use Rattle.host_core.specs.Value.{Book, Stands, IsLawful, state_of, is_torn, Reflects, Agrees, faults_in}
 use Rattle.host_core.specs.declared.ledger.Ledger.{Ledger}
-use Rattle.host_core.specs.Ledger.{Takes, Stays, made_by}
-use Rattle.host_core.proofs.History.{keeps-step, keeps-stays}
+use Rattle.host_core.specs.Ledger.{Takes, Stays, made_by, files_in, ended_in}
+use Rattle.kept_locks.specs.Locks.{Standing, all_ended}
+use Rattle.wopi_model.specs.Host.{new_bytes}
+use Rattle.host_core.proofs.History.{keeps-step, keeps-stays, keeps-tick, keeps-ended}
+use Rattle.host_core.proofs.Joining.{contents_any, torn_any, archive_any, long_joined}
 use Rattle.host_core.specs.Times.{GoesByEntries}
 use Rattle.host_core.proofs.Timing.{goes-push, legal-untimed}
 use Rattle.file_versions.specs.declared.Version.{Version}
@@ -51,7 +54,7 @@ pub rose-stays : (began times count count' : ℕ) → RoseBy began times count �
 rose-stays began times count count' rose le = omega (arith, rose, le)
 
 -- where nothing moves the folder agrees as before
-pub agrees-stays : (only : Option ℕ) (start now now' : Option Files) (files files' : List KeptFile) → Agrees only start now (files_of files) (torn_in files)
+pub agrees-stays : (only : Option ℕ) (start now now' : Option Files) (files files' : List Whole) → Agrees only start now (files_of files) (torn_in files)
     → ShowsSame files files' → folder.Keeps now now' → Agrees only start now' (files_of files') (torn_in files')
 agrees-stays only None None None files files' agrees same keeps = tt
 agrees-stays only None None (Some now') files files' agrees same keeps = absurd keeps
@@ -67,7 +70,7 @@ both : (b : Bool) → b ≡ true → b ≡ false → ⊥
 both b h e = cc
 
 -- after a step the folder agrees with the files after it
-pub agrees-step : (only : Option ℕ) (start now now' : Option Files) (files files' : List KeptFile) (call : Call) (opened time : ℕ) (ruling : Ruling) → Agrees only start now (files_of files) (torn_in files)
+pub agrees-step : (only : Option ℕ) (start now now' : Option Files) (files files' : List Whole) (call : Call) (opened time : ℕ) (ruling : Ruling) → Agrees only start now (files_of files) (torn_in files)
     → IsTaken only call.name → TakesStep files files' call opened time ruling → StoresAs now now' call ruling → Agrees only start now' (files_of files') (torn_in files')
 agrees-step only None None None files files' call opened time ruling agrees own takes stores = tt
 agrees-step only None None (Some now') files files' call opened time ruling agrees own takes stores = absurd stores.others
@@ -129,7 +132,7 @@ kept_push [] one names versions kept last = (last, tt)
 kept_push (first ∷ made) one names versions kept last = (kept.0, kept_push made one names versions kept.1 last)
 
 -- what is kept of the contents, with a step more
-archive-step : (opening : Opening) (made : List Made) (one : Made) (before after : List KeptFile) (old new : List Version) → IsArchive opening made before old
+archive-step : (opening : Opening) (made : List Made) (one : Made) (before after : List Whole) (old new : List Version) → IsArchive opening made before old
     → StaysKept before after old new → IsKept one.step.call one.step.ruling (names_of after) new → ((most : ℕ) → AreWithin most before → AreWithin (most + 1) after)
     → IsArchive opening (made ++ one ∷ []) after new
 archive-step opening made one before after old new archive stays kept within =
@@ -141,62 +144,13 @@ archive-step opening made one before after old new archive stays kept within =
       within = subst (λ (n : ℕ). AreWithin n after) more (within (1 + length made) archive.within);
     }
 
-archive-stays : (opening : Opening) (made : List Made) (before after : List KeptFile) (old new : List Version) → IsArchive opening made before old
+archive-stays : (opening : Opening) (made : List Made) (before after : List Whole) (old new : List Version) → IsArchive opening made before old
     → StaysKept before after old new → ((most : ℕ) → AreWithin most before → AreWithin most after) → IsArchive opening made after new
 archive-stays opening made before after old new archive stays within = record {
   stocked = stays.stocked;
   opened = stays.opened opening archive.opened;
   kept = kept_all made (names_of before) (names_of after) old new stays.kept archive.kept;
   within = within (1 + length made) archive.within;
-}
-
--- the shard after a step
-pub stands-step : {F : Type 0} (book : Book F) (before after : Ledger) (start now now' : Option Files) (began count count' : ℕ) (call : Call) (pass floor moment : ℕ) (ruling : Ruling) (folder' : F)
-    → Stands book before.last before.first_files before.files.items before.versions start now began count
-    → book.opened ≡ before.opened → book.time ≡ before.time → IsMoment moment → IsTaken book.only call.name → length book.made ≢ book.capacity
-    → Takes before after call pass floor moment ruling → StoresAs now now' call ruling → count ≤ count' → (ruling.status ≡ 500 → Rose count count')
-    → Stands (record book { made = book.made ++ made_by before call pass floor moment ruling ∷ []; time = max book.time moment; folder = folder' })
-    after.last after.first_files after.files.items after.versions start now' began count'
-stands-step book before after start now now' began count count' call pass floor moment ruling folder' stands opened time m own room takes stores le fault =
-    let steps : TakesStep before.files.items after.files.items call book.opened (max book.time moment) ruling =
-    subst (λ (o : ℕ). TakesStep before.files.items after.files.items call o (max book.time moment) ruling) (sym opened)
-    (subst (λ (t : ℕ). TakesStep before.files.items after.files.items call before.opened (max t moment) ruling) (sym time) takes.steps) in
-    let one : Made = record { time = max book.time moment; step = record { stamp = max before.last floor + 1; pass = pass; moment = moment; call = call; ruling = ruling } } in
-    let same : one ≡ made_by before call pass floor moment ruling = ap (λ (t : ℕ). made_at t before.last call pass floor moment ruling) time in
-    let made' = book.made ++ made_by before call pass floor moment ruling ∷ [] in
-    record {
-      keeps =
-          subst (λ (x : Made). Reflects book.opening book.opened book.capacity (book.made ++ x ∷ []) (max book.time moment) after.last (kept_in after.versions) after.files.items) same
-          (subst (λ (l : ℕ). Reflects book.opening book.opened book.capacity (book.made ++ one ∷ []) (max book.time moment) l (kept_in after.versions) after.files.items) (sym takes.last)
-          (subst (λ (b : ℕ). Reflects book.opening book.opened book.capacity (book.made ++ one ∷ []) (max book.time moment) (max before.last floor + 1) b after.files.items) (sym takes.kept)
-          (keeps-step book.opening book.opened book.capacity book.made book.time before.last (kept_in before.versions) before.files.items after.files.items stands.keeps call pass floor moment ruling m steps)));
-      folder = agrees-step book.only start now now' before.files.items after.files.items call before.opened (max before.time moment) ruling stands.folder own takes.steps stores;
-      faults = rose-step began count count' book.made (made_by before call pass floor moment ruling) stands.faults le fault;
-      timely = λ h.
-          subst (λ (x : Made). GoesByEntries book.opened (book.made ++ x ∷ []) (max book.time moment)) same (goes-push book.opened book.made one book.time (stands.timely h) refl);
-      archive = archive-step book.opening book.made (made_by before call pass floor moment ruling) before.files.items after.files.items before.versions after.versions stands.archive takes.stays takes.archived takes.within;
-      first = takes.first ∙ stands.first;
-      few = let more = made_long book.made (made_by before call pass floor moment ruling) in let old = stands.few in let grown = takes.few in omega (arith, more, old, grown);
-      places = let more = made_long book.made (made_by before call pass floor moment ruling) in let old = stands.places in below_full (length book.made) _ book.capacity more old room;
-    }
-
--- and after one that was refused
-pub stands-stays : {F : Type 0} (book : Book F) (before after : Ledger) (start now now' : Option Files) (began count count' : ℕ) (folder' : F)
-    → Stands book before.last before.first_files before.files.items before.versions start now began count
-    → Stays before after → folder.Keeps now now' → count ≤ count'
-    → Stands (record book { folder = folder' }) after.last after.first_files after.files.items after.versions start now' began count'
-stands-stays book before after start now now' began count count' folder' stands stays keeps le = record {
-  keeps =
-      subst (λ (l : ℕ). Reflects book.opening book.opened book.capacity book.made book.time l (kept_in after.versions) after.files.items) (sym stays.last)
-      (subst (λ (v : List Version). Reflects book.opening book.opened book.capacity book.made book.time before.last (kept_in v) after.files.items) (sym stays.versions)
-      (keeps-stays book.opening book.opened book.capacity book.made book.time before.last (kept_in before.versions) before.files.items after.files.items stands.keeps stays.files));
-  folder = agrees-stays book.only start now now' before.files.items after.files.items stands.folder stays.files keeps;
-  faults = rose-stays began (faults_in book.made) count count' stands.faults le;
-  timely = stands.timely;
-  archive = archive-stays book.opening book.made before.files.items after.files.items before.versions after.versions stands.archive stays.stays stays.within;
-  first = stays.first ∙ stands.first;
-  few = let old = stands.few in let same = stays.few in omega (arith, old, same);
-  places = stands.places;
 }
 
 agrees-state : (only : Option ℕ) (start now : Option Files) (files state : List ℕ → File) (torn torn' : List ℕ → Bool) → ((name : List ℕ) → (state name).contents ≡ (files name).contents) → ((name : List ℕ) → torn name ≡ torn' name)
@@ -206,8 +160,89 @@ agrees-state only None (Some now) files state torn torn' same tears agrees = abs
 agrees-state only (Some start) None files state torn torn' same tears agrees = absurd agrees
 agrees-state only (Some start) (Some now) files state torn torn' same tears agrees = (λ name named whole. agrees.0 name named (tears name ∙ whole) ∙ sym (same name), agrees.1)
 
+-- the shard after a step
+pub stands-step : {F : Type 0} (book : Book F) (before after : Ledger) (start now now' : Option Files) (began count count' : ℕ) (call : Call) (pass floor moment : ℕ) (ruling : Ruling) (folder' : F)
+    → Stands book before.last before.first_files (files_in before) before.versions.list start now began count
+    → book.opened ≡ before.opened → book.time ≡ before.time → IsMoment moment → IsTaken book.only call.name → length book.made ≢ book.capacity
+    → Takes before after call pass floor moment ruling → StoresAs now now' call ruling → count ≤ count' → (ruling.status ≡ 500 → Rose count count')
+    → Stands (record book { made = book.made ++ made_by before call pass floor moment ruling ∷ []; time = max book.time moment; folder = folder' })
+    after.last after.first_files (files_in after) after.versions.list start now' began count'
+stands-step book before after start now now' began count count' call pass floor moment ruling folder' stands opened time m own room takes stores le fault =
+    let later = max book.time moment in
+    let same_time : max before.time moment ≡ later = ap (λ (t : ℕ). max t moment) (sym time) in
+    let mid = joined before.files.items (all_ended later before.locks.files) in
+    let mid_is : ended_in before (max before.time moment) ≡ mid = ap (ended_in before) same_time in
+    let again : max later moment ≡ later = omega arith in
+    let steps : TakesStep mid (files_in after) call book.opened later ruling =
+    subst (λ (o : ℕ). TakesStep mid (files_in after) call o later ruling) (sym opened)
+    (subst (λ (t : ℕ). TakesStep mid (files_in after) call before.opened t ruling) same_time
+    (subst (λ (l : List Whole). TakesStep l (files_in after) call before.opened (max before.time moment) ruling) mid_is takes.steps)) in
+    let steps' = subst (λ (t : ℕ). TakesStep mid (files_in after) call book.opened t ruling) (sym again) steps in
+    let bytes = kept_in before.versions.list in
+    let one : Made = record { time = later; step = record { stamp = max before.last floor + 1; pass = pass; moment = moment; call = call; ruling = ruling } } in
+    let same : one ≡ made_by before call pass floor moment ruling = ap (λ (t : ℕ). made_at t before.last call pass floor moment ruling) time in
+    let made' = book.made ++ made_by before call pass floor moment ruling ∷ [] in
+    let mid_keeps : Reflects book.opening book.opened book.capacity book.made later before.last bytes mid =
+    keeps-ended book.opening book.opened book.capacity book.made later before.last bytes before.files.items before.locks.files
+    (keeps-tick book.opening book.opened book.capacity book.made book.time before.last bytes (files_in before) stands.keeps moment m) in
+    let mid_agrees : Agrees book.only start now (files_of mid) (torn_in mid) =
+    agrees-state book.only start now (files_of (files_in before)) (files_of mid) (torn_in (files_in before)) (torn_in mid)
+    (λ name. contents_any before.files.items (all_ended later before.locks.files) before.locks.files name)
+    (λ name. torn_any before.files.items before.locks.files (all_ended later before.locks.files) name) stands.folder in
+    let mid_archive : IsArchive book.opening book.made mid before.versions.list =
+    archive_any book.opening book.made before.files.items before.locks.files (all_ended later before.locks.files) before.versions.list stands.archive in
+    let stepped : Reflects book.opening book.opened book.capacity (book.made ++ one ∷ []) later (max before.last floor + 1) (bytes + (if ruling.status == 200 then new_bytes call.act else 0)) (files_in after) =
+    subst (λ (t : ℕ). Reflects book.opening book.opened book.capacity (book.made ++ record { time = t; step = one.step } ∷ []) t (max before.last floor + 1) (bytes + (if ruling.status == 200 then new_bytes call.act else 0)) (files_in after)) again
+    (keeps-step book.opening book.opened book.capacity book.made later before.last bytes mid (files_in after) mid_keeps call pass floor moment ruling m steps') in
+    record {
+      keeps =
+          subst (λ (x : Made). Reflects book.opening book.opened book.capacity (book.made ++ x ∷ []) later after.last (kept_in after.versions.list) (files_in after)) same
+          (subst (λ (l : ℕ). Reflects book.opening book.opened book.capacity (book.made ++ one ∷ []) later l (kept_in after.versions.list) (files_in after)) (sym takes.last)
+          (subst (λ (b : ℕ). Reflects book.opening book.opened book.capacity (book.made ++ one ∷ []) later (max before.last floor + 1) b (files_in after)) (sym takes.kept) stepped));
+      folder = agrees-step book.only start now now' mid (files_in after) call book.opened later ruling mid_agrees own steps stores;
+      faults = rose-step began count count' book.made (made_by before call pass floor moment ruling) stands.faults le fault;
+      timely = λ h.
+          subst (λ (x : Made). GoesByEntries book.opened (book.made ++ x ∷ []) (max book.time moment)) same (goes-push book.opened book.made one book.time (stands.timely h) refl);
+      archive = archive-step book.opening book.made (made_by before call pass floor moment ruling) mid (files_in after) before.versions.list after.versions.list mid_archive
+          (subst (λ (l : List Whole). StaysKept l (files_in after) before.versions.list after.versions.list) mid_is takes.stays) takes.archived
+          (λ most within. takes.within most (subst (AreWithin most) (sym mid_is) within));
+      first = takes.first ∙ stands.first;
+      few =
+          let more = made_long book.made (made_by before call pass floor moment ruling) in
+          let old = stands.few in
+          let grown = takes.few in
+          let was = long_joined before.files.items before.locks.files in
+          let is = long_joined after.files.items after.locks.files in
+          omega (arith, more, old, grown, was, is);
+      places = let more = made_long book.made (made_by before call pass floor moment ruling) in let old = stands.places in below_full (length book.made) _ book.capacity more old room;
+    }
+
+-- and after one that was refused
+pub stands-stays : {F : Type 0} (book : Book F) (before after : Ledger) (start now now' : Option Files) (began count count' : ℕ) (folder' : F)
+    → Stands book before.last before.first_files (files_in before) before.versions.list start now began count
+    → Stays before after → folder.Keeps now now' → count ≤ count'
+    → Stands (record book { folder = folder' }) after.last after.first_files (files_in after) after.versions.list start now' began count'
+stands-stays book before after start now now' began count count' folder' stands stays keeps le = record {
+  keeps =
+      subst (λ (l : ℕ). Reflects book.opening book.opened book.capacity book.made book.time l (kept_in after.versions.list) (files_in after)) (sym stays.last)
+      (subst (λ (v : List Version). Reflects book.opening book.opened book.capacity book.made book.time before.last (kept_in v) (files_in after)) (sym stays.versions)
+      (keeps-stays book.opening book.opened book.capacity book.made book.time before.last (kept_in before.versions.list) (files_in before) (files_in after) stands.keeps stays.files));
+  folder = agrees-stays book.only start now now' (files_in before) (files_in after) stands.folder stays.files keeps;
+  faults = rose-stays began (faults_in book.made) count count' stands.faults le;
+  timely = stands.timely;
+  archive = archive-stays book.opening book.made (files_in before) (files_in after) before.versions.list after.versions.list stands.archive stays.stays stays.within;
+  first = stays.first ∙ stands.first;
+  few =
+      let old = stands.few in
+      let same = stays.few in
+      let was = long_joined before.files.items before.locks.files in
+      let is = long_joined after.files.items after.locks.files in
+      omega (arith, old, same, was, is);
+  places = stands.places;
+}
+
 -- what holds of every shard
-pub lawful : {F : Type 0} (book : Book F) (last first : ℕ) (files : List KeptFile) (versions : List Version) (start now : Option Files) (began count : ℕ)
+pub lawful : {F : Type 0} (book : Book F) (last first : ℕ) (files : List Whole) (versions : List Version) (start now : Option Files) (began count : ℕ)
     → Stands book last first files versions start now began count → IsLawful book start now began count
 lawful book last first files versions start now began count stands = record {
   legal = Legal-tick book.opening book.opened (items_of book.made) book.time stands.keeps.legal;
@@ -247,3 +282,28 @@ book_stays book before after folder' opened capacity made time stays =
 
 pub rose-begin : (began count : ℕ) → began ≤ count → RoseBy began (faults_in []) count
 rose-begin began count le = omega (arith, le)
+
+-- when time goes on, and the locks that are over have ended
+pub stands-tick : {F : Type 0} (book : Book F) (ledger : Ledger) (start now : Option Files) (began count moment time : ℕ) (ss : List Standing) (ticked : Bool) → IsMoment moment
+    → time ≡ max book.time moment → ss ≡ all_ended time ledger.locks.files → ticked ≡ true
+    → Stands book ledger.last ledger.first_files (files_in ledger) ledger.versions.list start now began count
+    → Stands (record book { time = time; ticked = ticked }) ledger.last ledger.first_files (joined ledger.files.items ss) ledger.versions.list start now began count
+stands-tick book ledger start now began count moment time ss ticked m time_is ss_is ticks stands =
+    let files = ledger.files.items in
+    let ended = all_ended time ledger.locks.files in
+    let bytes = kept_in ledger.versions.list in
+    let passed : Reflects book.opening book.opened book.capacity book.made time ledger.last bytes (files_in ledger) =
+    subst (λ (t : ℕ). Reflects book.opening book.opened book.capacity book.made t ledger.last bytes (files_in ledger)) (sym time_is)
+    (keeps-tick book.opening book.opened book.capacity book.made book.time ledger.last bytes (files_in ledger) stands.keeps moment m) in
+    record {
+      keeps = subst (λ (l : List Standing). Reflects book.opening book.opened book.capacity book.made time ledger.last bytes (joined files l)) (sym ss_is)
+          (keeps-ended book.opening book.opened book.capacity book.made time ledger.last bytes files ledger.locks.files passed);
+      folder = agrees-state book.only start now (files_of (files_in ledger)) (files_of (joined files ss)) (torn_in (files_in ledger)) (torn_in (joined files ss))
+          (λ name. contents_any files ss ledger.locks.files name) (λ name. torn_any files ledger.locks.files ss name) stands.folder;
+      faults = stands.faults;
+      timely = λ h. absurd (cc (h, ticks));
+      archive = archive_any book.opening book.made files ledger.locks.files ss ledger.versions.list stands.archive;
+      first = stands.first;
+      few = let few = stands.few in let was = long_joined files ledger.locks.files in let is = long_joined files ss in omega (arith, few, was, is);
+      places = stands.places;
+    }

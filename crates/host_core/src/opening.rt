@@ -5,6 +5,8 @@ ghost use Rattle.outside.specs.Folder.{Keeps};
 ghost use Rattle.wopi_model.specs.File.{opened_with};
 ghost use Rattle.host_core.specs.Archive.{place_in};
 ghost use Rattle.host_core.specs.Files.{file_of};
+ghost use Rattle.host_core.specs.Whole.{whole};
+ghost use Rattle.kept_locks.specs.Locks.{unlocked};
 ghost use Rattle.host_core.specs.ByBytes.{has};
 ghost use Rattle.host_core.specs.Stock.{IsStock};
 ghost use Rattle.host_core.specs.Opening.{IsTaken, IsOfShard, IsOpening, Fits, IsTooLarge, IfTooLarge, Gives, PassesAfter, Gathers, is_listed};
@@ -15,6 +17,7 @@ use crate::by_bytes::ByBytes;
 use crate::extent::Extent;
 use crate::file::{KeptFile, unmet};
 use file_versions::Versions;
+use name_index::NameIndex;
 use outside::{Folder, FolderRead, Names, OutFault};
 use std::alloc::Global;
 use std::collections::BTreeSet;
@@ -54,11 +57,12 @@ pub enum StartFault {
     Memory,
 }
 
-/// The opening, the files and the versions of a shard at its start.
+/// The opening, the files, their numbers by name, and the versions of a shard at its start.
 #[derive(Drop)]
 pub struct Stock {
     pub opening: Vec<OpeningFile>,
     pub files: Vec<KeptFile>,
+    pub index: NameIndex,
     pub versions: Versions,
 }
 
@@ -116,7 +120,7 @@ fn read_one<F: Folder>(
 }
 
 /// Adds a file that was read, at version 1 and unlocked.
-fn stock_one(alloc: Global, stock: &mut Stock, file: ReadFile) -> Result<(), Memory>
+fn stock_one(stock: &mut Stock, file: ReadFile) -> Result<(), Memory>
     requires stock { IsStock stock.old }
     requires fresh { place_in (map (λ one. one.0) (opening_of stock.old.opening.items)) file.name ≡ None }
     ensures stock { OnOk result (IsStock stock.new) }
@@ -127,10 +131,12 @@ fn stock_one(alloc: Global, stock: &mut Stock, file: ReadFile) -> Result<(), Mem
         return Err(Memory);
     }
     let ReadFile { name, contents } = file;
-    let kept = opened(alloc, &name, &contents);
+    let place = stock.versions.len();
+    let kept = opened(&name, &contents, place);
+    stock.index.add(name.copy(), count as u32)?;
     let first = OpeningFile {
         name,
-        contents: Extent::of(&contents),
+        contents: Extent::of(&contents, place),
     };
     stock.opening.push(first)?;
     stock.files.push(kept)?;
@@ -141,13 +147,13 @@ fn stock_one(alloc: Global, stock: &mut Stock, file: ReadFile) -> Result<(), Mem
 }
 
 /// The file of a name that stood there at the opening.
-fn opened(alloc: Global, name: &FileName, contents: &Bytes) -> KeptFile
-    ensures file { file_of result ≡ opened_with contents.now }
+fn opened(name: &FileName, contents: &Bytes, place: usize) -> KeptFile
+    ensures file { file_of (whole result unlocked) ≡ opened_with contents.now }
     ensures name { result.name ≡ name.now }
     ensures torn { result.torn ≡ false }
 {
-    let mut file = unmet(alloc, name);
-    file.contents = Some(Extent::of(contents));
+    let mut file = unmet(name);
+    file.contents = Some(Extent::of(contents, place));
     file.version = 1;
     file
 }
@@ -169,7 +175,6 @@ fn taken_names(alloc: Global, listed: &Names, only: Option<u8>) -> Result<BTreeS
 
 /// Reads the files of the names, in the order of their bytes.
 fn read_names<F: Folder>(
-    alloc: Global,
     folder: &mut F,
     only: Option<u8>,
     names: &mut BTreeSet<ByBytes>,
@@ -188,7 +193,7 @@ fn read_names<F: Folder>(
         match read_one(folder, next.name, stock.versions.kept()) {
             Err(fault) => return Err(fault),
             Ok(None) => {}
-            Ok(Some(file)) => match stock_one(alloc, stock, file) {
+            Ok(Some(file)) => match stock_one(stock, file) {
                 Ok(()) => {}
                 Err(_) => return Err(StartFault::Memory),
             },
@@ -223,9 +228,10 @@ pub fn gather<F: Folder>(
     let mut stock = Stock {
         opening: Vec::new(alloc),
         files: Vec::new(alloc),
+        index: NameIndex::new(alloc),
         versions: Versions::new(alloc),
     };
-    match read_names(alloc, folder, only, &mut names, &mut stock) {
+    match read_names(folder, only, &mut names, &mut stock) {
         Ok(()) => return Ok(stock),
         Err(fault) => return Err(fault),
     }

@@ -6,6 +6,8 @@ ghost use Rattle.wopi_model.specs.Moment.{IsMoment};
 ghost use Rattle.wopi_model.specs.Host.{FullAt};
 ghost use Rattle.wopi_model.specs.Shard.{last_from, stamps, entries, opening_file, AreNames};
 ghost use Rattle.file_versions.specs.Versions.{kept_in};
+ghost use Rattle.host_core.specs.Whole.{standing_at};
+ghost use Rattle.kept_locks.specs.Locks.{unlocked};
 ghost use Rattle.host_core.specs.Stock.{IsStock};
 ghost use Rattle.host_core.specs.Entries.{history_of, back_of};
 ghost use Rattle.host_core.specs.Files.{files_of, torn_in};
@@ -14,11 +16,11 @@ ghost use Rattle.host_core.specs.Opening.{IsOfShard, IsOpening, Fits, IsTooLarge
 
 use crate::entry::Entry;
 use crate::file::KeptFile;
-use crate::files::place_of;
 use crate::ledger::{Ledger, StepFault, take_step};
 use crate::names::{NameList, names_of};
 use crate::opening::{OpeningFile, StartFault, Stock, gather};
 use crate::past::Past;
+use crate::room::{Room, take_room};
 use crate::view::{FileView, view_of};
 use file_versions::Versions;
 use outside::Folder;
@@ -48,7 +50,9 @@ impl<F: Folder> Model for Shard<F> {
 
     ghost view = { book_of };
 
-    ghost invariant = { λ s. Stands (book_of s) s.ledger.last s.ledger.first_files s.ledger.files.items s.ledger.versions (F.files s.start.value) (F.files s.folder) (F.faults s.start.value) (F.faults s.folder) };
+    ghost use Rattle.host_core.specs.Ledger.{files_in, IsTied};
+
+    ghost invariant = { λ s. Stands (book_of s) s.ledger.last s.ledger.first_files (files_in s.ledger) s.ledger.versions.list (F.files s.start.value) (F.files s.folder) (F.faults s.start.value) (F.faults s.folder) × IsTied s.ledger };
 }
 
 impl<F: Folder> Shard<F> {
@@ -92,10 +96,15 @@ impl<F: Folder> Shard<F> {
         let mut folder = folder;
         let start = Snapshot::of(&folder);
         match gather(alloc, &mut folder, only) {
-            Ok(stock) => {
-                let shard = Shard::assemble(alloc, folder, only, start, stock, capacity, opened);
-                return Ok(shard);
-            }
+            Ok(stock) => match take_room(alloc, stock.files.len(), capacity) {
+                Ok(room) => {
+                    let shard = Shard::assemble(
+                        alloc, folder, only, start, stock, room, capacity, opened,
+                    );
+                    return Ok(shard);
+                }
+                Err(_) => return Err((folder, StartFault::Memory)),
+            },
             Err(fault) => return Err((folder, fault)),
         }
     }
@@ -154,8 +163,8 @@ impl<F: Folder> Shard<F> {
         }
     }
 
-    /// Raises the shard's time to a moment, and gives it. It takes no memory: a lock that is due stays where it stood
-    /// until its file is looked at.
+    /// Raises the shard's time to a moment, ends the locks that are over by then, and gives the time. It takes no
+    /// memory.
     pub fn settle_to(&mut self, moment: u64) -> u64
         requires { IsMoment moment }
         ensures after { self.new ≡ record self.old { time = max self.old.time moment; ticked = true } }
@@ -163,6 +172,7 @@ impl<F: Folder> Shard<F> {
         ensures lawful { IsLawful self.new (F.files self.new.start) (F.files self.new.folder) (F.faults self.new.start) (F.faults self.new.folder) }
     {
         self.ledger.time = self.ledger.time.max(moment);
+        self.ledger.locks.settle(self.ledger.time);
         self.ticked = Snapshot::of(&true);
         self.ledger.time
     }
@@ -187,13 +197,19 @@ impl<F: Folder> Shard<F> {
         ensures met { IsSome result ↔ (0 < ((state_of self.now.opening self.now.opened self.now.made self.now.time).files name.now).version) }
         ensures view { IfSome result (λ view. IsViewOf view ((state_of self.now.opening self.now.opened self.now.made self.now.time).files name.now) (is_torn self.now.made name.now)) }
     {
-        match place_of(&self.ledger.files, name) {
+        match self.ledger.index.find(name) {
             None => None,
-            Some(place) => {
-                let file = &self.ledger.files[place];
+            Some(number) => {
+                let file = &self.ledger.files[number as usize];
                 let is_met = file.version > 0;
                 if is_met {
-                    Some(view_of(&self.ledger.versions, place as u32, file, self.ledger.time))
+                    Some(view_of(
+                        &self.ledger.versions,
+                        &self.ledger.locks,
+                        number,
+                        file,
+                        self.ledger.time,
+                    ))
                 } else {
                     None
                 }
@@ -218,12 +234,17 @@ impl<F: Folder> Shard<F> {
         only: Option<u8>,
         start: Snapshot<F>,
         stock: Stock,
+        room: Room,
         capacity: u32,
         opened: u64,
     ) -> Shard<F>
         requires moment { IsMoment opened }
         requires capacity { capacity ≤ 32768 }
         requires stock { IsStock stock }
+        requires none { (number : ℕ) → standing_at room.locks.files number ≡ unlocked }
+        requires long { length stock.files.items ≤ length room.locks.files }
+        requires spare { capacity ≤ room.locks.spare }
+        requires entries { room.entries.items ≡ [] }
         requires opening { IsOpening only (F.files start.value) (opening_of stock.opening.items) }
         requires same { Keeps (F.files start.value) (F.files folder) }
         requires faults { F.faults start.value ≤ F.faults folder }
@@ -251,8 +272,10 @@ impl<F: Folder> Shard<F> {
                 last: 0,
                 first_files: stock.files.len(),
                 files: stock.files,
+                index: stock.index,
+                locks: room.locks,
                 versions: stock.versions,
-                entries: Vec::new(alloc),
+                entries: room.entries,
             },
             folder,
             ticked,
@@ -278,6 +301,7 @@ impl<F: Folder> Shard<F> {
         let past = Past {
             first_files: ledger.first_files,
             files: ledger.files,
+            index: ledger.index,
             versions: ledger.versions,
             entries: ledger.entries,
             opening,

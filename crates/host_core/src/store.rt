@@ -33,12 +33,12 @@ pub struct Unsaved {
 
 /// Keeps contents as a version. An `Err` leaves the versions.
 fn keep(versions: &mut Versions, number: u32, version: u64, contents: Bytes) -> Result<(), Unsaved>
-    requires { found versions.old number version ≡ None }
-    ensures ok { OnOk result (versions.new ≡ versions.old ++ record { number = number; version = version; contents = contents } ∷ []) }
-    ensures room { OnOk result (kept_in versions.old + length contents ≤ most_kept) }
-    ensures err { OnErr result (versions.new ≡ versions.old) }
+    requires { found versions.old.list number version ≡ None }
+    ensures ok { OnOk result (versions.new.list ≡ versions.old.list ++ record { number = number; version = version; contents = contents } ∷ []) }
+    ensures room { OnOk result (kept_in versions.old.list + length contents ≤ most_kept) }
+    ensures err { OnErr result (versions.new.list ≡ versions.old.list) }
     ensures back { IfErr result (λ unsaved. unsaved.contents ≡ contents) }
-    ensures full { IfErr result (λ unsaved. unsaved.why ≡ StoreRefusal.KeptFull → most_kept < kept_in versions.old + length contents) }
+    ensures full { IfErr result (λ unsaved. unsaved.why ≡ StoreRefusal.KeptFull → most_kept < kept_in versions.old.list + length contents) }
 {
     match versions.add(number, version, contents) {
         Ok(()) => return Ok(()),
@@ -59,9 +59,9 @@ fn keep(versions: &mut Versions, number: u32, version: u64, contents: Bytes) -> 
 
 /// Takes a version out again.
 fn take_back(versions: &mut Versions, number: u32, version: u64) -> Bytes
-    requires { IsSome (found versions.old number version) }
-    ensures contents { Some result ≡ found versions.old number version }
-    ensures rest { versions.new ≡ removed versions.old number version }
+    requires { IsSome (found versions.old.list number version) }
+    ensures contents { Some result ≡ found versions.old.list number version }
+    ensures rest { versions.new.list ≡ removed versions.old.list number version }
 {
     match versions.remove(number, version) {
         Some(contents) => contents,
@@ -77,14 +77,15 @@ fn write_out<F: Folder>(
     version: u64,
     name: &FileName,
 ) -> Result<(), OutFault>
-    requires { IsSome (found versions.now number version) }
-    ensures done { OnOk result (Replaces (F.files folder.old) (F.files folder.new) name.now (unwrap_or (found versions.now number version) [])) }
+    requires { IsSome (found versions.now.list number version) }
+    ensures done { OnOk result (Replaces (F.files folder.old) (F.files folder.new) name.now (unwrap_or (found versions.now.list number version) [])) }
     ensures others { OpensOnly (F.files folder.old) (F.files folder.new) name.now }
     ensures memory { result ≡ Err OutFault.Memory → Keeps (F.files folder.old) (F.files folder.new) }
     ensures never_falls { F.faults folder.old ≤ F.faults folder.new }
     ensures failed { result ≡ Err OutFault.Failed → Rose (F.faults folder.old) (F.faults folder.new) }
 {
-    match versions.at(number, version) {
+    let last = versions.len().saturating_sub(1);
+    match versions.near(last, number, version) {
         Some(kept) => folder.replace(name.as_str(), kept.as_slice()),
         None => unreachable!(),
     }
@@ -100,16 +101,16 @@ pub fn put_away<F: Folder>(
     name: &FileName,
     contents: Bytes,
 ) -> Result<Stored, Unsaved>
-    requires { found versions.old number version ≡ None }
+    requires { found versions.old.list number version ≡ None }
     ensures stored { IfOk result (λ stored. MatchStored stored
-        (Holds (F.files folder.new) name.now (Some contents) × (versions.new ≡ versions.old ++ record { number = number; version = version; contents = contents } ∷ []))
-        (λ back. (back ≡ contents) × (versions.new ≡ versions.old) × Rose (F.faults folder.old) (F.faults folder.new))) }
-    ensures room { OnOk result (kept_in versions.old + length contents ≤ most_kept) }
+        (Holds (F.files folder.new) name.now (Some contents) × (versions.new.list ≡ versions.old.list ++ record { number = number; version = version; contents = contents } ∷ []))
+        (λ back. (back ≡ contents) × (versions.new.list ≡ versions.old.list) × Rose (F.faults folder.old) (F.faults folder.new))) }
+    ensures room { OnOk result (kept_in versions.old.list + length contents ≤ most_kept) }
     ensures others { OpensOnly (F.files folder.old) (F.files folder.new) name.now }
-    ensures err { OnErr result (versions.new ≡ versions.old) }
+    ensures err { OnErr result (versions.new.list ≡ versions.old.list) }
     ensures keeps { OnErr result (Keeps (F.files folder.old) (F.files folder.new)) }
     ensures back { IfErr result (λ unsaved. unsaved.contents ≡ contents) }
-    ensures full { IfErr result (λ unsaved. unsaved.why ≡ StoreRefusal.KeptFull → most_kept < kept_in versions.old + length contents) }
+    ensures full { IfErr result (λ unsaved. unsaved.why ≡ StoreRefusal.KeptFull → most_kept < kept_in versions.old.list + length contents) }
     ensures never_falls { F.faults folder.old ≤ F.faults folder.new }
 {
     match keep(versions, number, version, contents) {

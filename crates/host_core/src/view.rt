@@ -1,12 +1,15 @@
 //! A file as a caller sees it.
-ghost use Rattle.std.specs.Prelude.{◌≡◌, [], option_map, unwrap_or};
+ghost use Rattle.std.specs.Prelude.{◌≡◌, ◌<◌, [], length, option_map, unwrap_or};
 ghost use Rattle.wopi_model.specs.Settle.{settled, standing};
-ghost use Rattle.host_core.specs.Files.{file_of, BeganAtMoment, IsHeld};
+ghost use Rattle.host_core.specs.Files.{file_of, BeganAtMoment, HasContents};
 ghost use Rattle.host_core.specs.View.{IsViewOf};
+ghost use Rattle.host_core.specs.Whole.{seen, standing_at};
 
 use crate::carry::contents_of;
 use crate::file::KeptFile;
+use crate::held::lock_of;
 use file_versions::Versions;
+use kept_locks::KeptLocks;
 use lock_machine::is_over;
 use wopi_model::Lock;
 
@@ -22,11 +25,12 @@ pub struct FileView<'a> {
 }
 
 /// The lock, where it still stands.
-fn standing_lock(lock: &Option<Lock>, now: u64) -> Option<&Lock>
-    requires { BeganAtMoment lock.now }
-    ensures { option_map (λ held. held.now) result ≡ standing lock.now now }
+fn standing_lock(locks: &KeptLocks, number: u32, now: u64) -> Option<&Lock>
+    requires here { number < length locks.now.files }
+    requires moment { BeganAtMoment (standing_at locks.now.files number).lock }
+    ensures { option_map (λ held. held.now) result ≡ standing (standing_at locks.now.files number).lock now }
 {
-    match lock {
+    match lock_of(locks, number) {
         None => None,
         Some(held) => { if is_over(held, now) { None } else { Some(held) } }
     }
@@ -34,7 +38,7 @@ fn standing_lock(lock: &Option<Lock>, now: u64) -> Option<&Lock>
 
 /// The bytes of a file, none where it doesn't exist.
 fn bytes_of<'a>(versions: &'a Versions, number: u32, file: &KeptFile) -> &'a [u8]
-    requires { IsHeld number file.now versions.now }
+    requires { HasContents number file.now.contents file.now.version versions.now.list }
     ensures { result.now ≡ unwrap_or file.now.contents [] }
 {
     match contents_of(versions, number, file) {
@@ -46,18 +50,20 @@ fn bytes_of<'a>(versions: &'a Versions, number: u32, file: &KeptFile) -> &'a [u8
 /// The kept file, as it is once it is settled.
 pub fn view_of<'a>(
     versions: &'a Versions,
+    locks: &'a KeptLocks,
     number: u32,
     file: &'a KeptFile,
     now: u64,
 ) -> FileView<'a>
-    requires moment { BeganAtMoment file.now.lock }
-    requires held { IsHeld number file.now versions.now }
-    ensures { IsViewOf result (settled (file_of file.now) now) file.now.torn }
+    requires here { number < length locks.now.files }
+    requires moment { BeganAtMoment (standing_at locks.now.files number).lock }
+    requires held { HasContents number file.now.contents file.now.version versions.now.list }
+    ensures { IsViewOf result (settled (file_of (seen file.now locks.now number)) now) file.now.torn }
 {
     FileView {
         exists: file.contents.is_some(),
         version: file.version,
-        lock: standing_lock(&file.lock, now),
+        lock: standing_lock(locks, number, now),
         contents: bytes_of(versions, number, file),
         torn: file.torn,
     }

@@ -5,8 +5,8 @@ use Rattle.std.proofs.Crossing as any
 use Rattle.wopi_text.proofs.file_name.FileName.TheSendSync.{the_send as name_send}
 use Rattle.wopi_text.proofs.lock_id.LockId.TheSendSync.{the_send as id_send}
 use Rattle.wopi_model.proofs.user.User.TheSendSync.{the_send as user_send}
-use Rattle.wopi_model.proofs.locks.Lock.TheSendSync.{the_send as lock_send}
-use Rattle.wopi_model.proofs.locks.Spent.TheSendSync.{the_send as spent_send}
+use Rattle.kept_locks.proofs.Sends.{locks_send}
+use Rattle.name_index.proofs.index.NameIndex.TheSendSync.{the_send as index_send}
 use Rattle.file_versions.proofs.Versions.TheSendSync.{the_send as versions_send}
 use Rattle.wopi_model.specs.contracts.token.Token as token
 use Rattle.wopi_text.specs.contracts.reason.Reason as reason
@@ -28,7 +28,7 @@ extent_send : IsSend extent.the_row
 extent_send = search sendable depth 20
 
 file_send : IsSend file.the_row
-file_send = search (sendable, any.crosses, extent_send, name_send, lock_send, spent_send) depth 20
+file_send = search (sendable, any.crosses, extent_send, name_send) depth 20
 
 token_send : IsSend (token.the_field).row
 token_send = search (sendable, any.crosses, name_send, user_send) depth 20
@@ -49,7 +49,7 @@ entry_send : IsSend entry.the_row
 entry_send = search (sendable, any.crosses, asked_send, field_send, reason_send) depth 20
 
 ledger_field : IsSend (ledger.the_field).row
-ledger_field = search (sendable, any.crosses, file_send, entry_send, versions_send) depth 20
+ledger_field = search (sendable, any.crosses, file_send, index_send, locks_send, entry_send, versions_send) depth 20
 
 pub shard_send : (F : RattleType) (d : _) → IsSend F → IsSend (shard.the_row F d)
 shard_send F d f = search (sendable, any.crosses, ledger_field) depth 20

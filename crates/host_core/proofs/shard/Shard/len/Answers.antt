@@ -1,5 +1,6 @@
 use Rattle.std.proofs.Common.{subst}
 use Rattle.host_core.specs.Value.{IsLawful}
+use Rattle.host_core.specs.Ledger.{files_in}
 use Rattle.host_core.specs.ShardView.{book_of}
 use Rattle.host_core.proofs.Standing.{lawful}
 use Rattle.host_core.proofs.shard.Shard.len.Goals as goal
@@ -10,5 +11,5 @@ returns-clause-lawful g c =
     let faults = g.F.Folder.faults in
     let inside = c.self.inside in
     subst (λ book. IsLawful book (files book.start) (files book.folder) (faults book.start) (faults book.folder)) c.self.view_is
-    (lawful (book_of inside) inside.ledger.last inside.ledger.first_files inside.ledger.files.items inside.ledger.versions
-    (files inside.start.value) (files inside.folder) (faults inside.start.value) (faults inside.folder) c.self.invariant)
+    (lawful (book_of inside) inside.ledger.last inside.ledger.first_files (files_in inside.ledger) inside.ledger.versions.list
+    (files inside.start.value) (files inside.folder) (faults inside.start.value) (faults inside.folder) c.self.invariant.0)

@@ -1,31 +1,40 @@
-use Rattle.std.proofs.Common.{ℕ, subst, sym}
-use Rattle.host_core.specs.Value.{Reflects}
+use Rattle.std.proofs.Common.{◌≡◌, ◌≤◌, ℕ, List, length, refl, subst, sym, ap, ◌∙◌, arith}
+use Rattle.std.proofs.lemmas.List.{length-map}
+use Rattle.kept_locks.specs.Locks.{Standing, all_ended, ended_at, unlocked}
+use Rattle.kept_locks.specs.Ties.{BeganBy}
+use Rattle.host_core.specs.Whole.{Whole, standing_at, joined}
+use Rattle.host_core.specs.Archive.{IsArchive}
+use Rattle.host_core.specs.Files.{files_of, torn_in}
+use Rattle.host_core.specs.Ledger.{files_in, IsTied}
+use Rattle.host_core.specs.Value.{Reflects, Agrees, Stands}
 use Rattle.host_core.specs.ShardView.{book_of}
 use Rattle.file_versions.specs.Versions.{kept_in}
-use Rattle.host_core.proofs.Standing.{lawful}
-use Rattle.host_core.proofs.History.{keeps-tick}
+use Rattle.host_core.proofs.Standing.{lawful, stands-tick}
+use Rattle.host_core.proofs.Meeting.{locked_ended}
 use Rattle.host_core.proofs.shard.Shard.settle_to.Goals as goal
 
 pub invariant_of-self : goal.invariant_of-self
 invariant_of-self g c =
+    let files = g.F.Folder.files in
+    let faults = g.F.Folder.faults in
     let inside = c.self.inside in
-    let book = book_of inside in
-    record {
-      keeps = subst (λ (t : ℕ). Reflects book.opening book.opened book.capacity book.made t inside.ledger.last (kept_in inside.ledger.versions) inside.ledger.files.items) (sym c.max-self-inside.ensures)
-          (keeps-tick book.opening book.opened book.capacity book.made book.time inside.ledger.last (kept_in inside.ledger.versions) inside.ledger.files.items c.self.invariant.keeps c.args.moment c.requires);
-      folder = c.self.invariant.folder;
-      faults = c.self.invariant.faults;
-      timely = λ h. absurd (cc (h, c.of.ensures));
-      archive = c.self.invariant.archive;
-      first = c.self.invariant.first;
-      few = c.self.invariant.few;
-      places = c.self.invariant.places;
-    }
+    let ledger = inside.ledger in
+    let tied = c.self.invariant.1 in
+    let more = c.settle.ensures.spare in
+    let spare = tied.spare in (
+      stands-tick (book_of inside) ledger (files inside.start.value) (files inside.folder) (faults inside.start.value) (faults inside.folder) c.args.moment
+          _ _ _ c.requires c.max-self-inside.ensures c.settle.ensures.files c.of.ensures c.self.invariant.0,
+      record {
+        numbered = tied.numbered;
+        locked = locked_ended ledger.files.items ledger.locks _ ledger.time _ tied.locked (let is = c.max-self-inside.ensures in omega (arith, is)) c.settle.ensures.files;
+        spare = omega (arith, more, spare);
+      },
+    )
 
 pub returns-clause-lawful : goal.returns-clause-lawful
 returns-clause-lawful g c =
     let files = g.F.Folder.files in
     let faults = g.F.Folder.faults in
     let inside = c.self.inside in
-    lawful _ inside.ledger.last inside.ledger.first_files inside.ledger.files.items inside.ledger.versions
-    (files inside.start.value) (files inside.folder) (faults inside.start.value) (faults inside.folder) (invariant_of-self g c)
+    lawful _ inside.ledger.last inside.ledger.first_files _ inside.ledger.versions.list
+    (files inside.start.value) (files inside.folder) (faults inside.start.value) (faults inside.folder) (invariant_of-self g c).0

@@ -1,0 +1,178 @@
+-- The files joined with what stands under their numbers.
+use Rattle.std.proofs.Common.{◌≡◌, ◌≢◌, ◌<◌, ◌≤◌, ◌+◌, ℕ, zero, suc, Bool, true, false, if◌then◌else◌, List, [], ◌∷◌, ◌++◌, length, map, set, get_or, Option, None, Some, option_map, unwrap_or, refl, sym, ap, subst, ◌∙◌, arith, slice_get}
+use Rattle.std.specs.Str.{bytes_eq}
+use Rattle.wopi_model.specs.File.{File, never_met}
+use Rattle.wopi_model.specs.Shard.{Opening}
+use Rattle.file_versions.specs.declared.Version.{Version}
+use Rattle.file_versions.specs.Places.{first_of}
+use Rattle.file_versions.specs.Versions.{found}
+use Rattle.kept_locks.specs.Locks.{Standing, unlocked, ended_at, all_ended}
+use Rattle.kept_locks.specs.Whole.{ended_file}
+use Rattle.host_core.specs.declared.file.KeptFile.{KeptFile}
+use Rattle.host_core.specs.Archive.{AreHeld, IsStocked, AreOpened, AreKept, AreWithin, IsArchive, names_of}
+use Rattle.host_core.specs.Entries.{Made}
+use Rattle.host_core.specs.Files.{file_of, is_named, files_of, torn_in, IsHeld}
+use Rattle.host_core.specs.Numbers.{named}
+use Rattle.host_core.specs.Whole.{Whole, whole, standing_at, joined}
+
+-- what stands under the numbers from 1 on
+abbrev pub later : List Standing → List Standing
+later [] = []
+later (standing ∷ standings) = standings
+
+pub stands_later : (ss : List Standing) (n : ℕ) → standing_at ss (suc n) ≡ standing_at (later ss) n
+stands_later [] n = refl
+stands_later (s ∷ ss) n = refl
+
+pub joined_cons : (k : KeptFile) (files : List KeptFile) (ss : List Standing) → joined (k ∷ files) ss ≡ whole k (standing_at ss 0) ∷ joined files (later ss)
+joined_cons k files [] = refl
+joined_cons k files (s ∷ ss) = refl
+
+-- what stands beyond the files isn't seen
+pub joined_as : (files : List KeptFile) (ss ss' : List Standing) → ((n : ℕ) → n < length files → standing_at ss n ≡ standing_at ss' n) → joined files ss ≡ joined files ss'
+joined_as [] ss ss' same = refl
+joined_as (k ∷ files) ss ss' same =
+    joined_cons k files ss
+    ∙ ap (λ (s : Standing). whole k s ∷ joined files (later ss)) (same 0 (omega arith))
+    ∙ ap (λ (rest : List Whole). whole k (standing_at ss' 0) ∷ rest) (joined_as files (later ss) (later ss') (λ n lt. sym (stands_later ss n) ∙ same (suc n) (omega (arith, lt)) ∙ stands_later ss' n))
+    ∙ sym (joined_cons k files ss')
+
+-- one file and what stands under its number change
+pub joined_put : (files : List KeptFile) (place : ℕ) (k : KeptFile) (ss before : List Standing) → ((n : ℕ) → n ≢ place → standing_at ss n ≡ standing_at before n)
+    → joined (set files place k) ss ≡ set (joined files before) place (whole k (standing_at ss place))
+joined_put [] place k ss before same = refl
+joined_put (first ∷ files) zero k ss before same =
+    joined_cons k files ss
+    ∙ ap (λ (rest : List Whole). whole k (standing_at ss 0) ∷ rest) (joined_as files (later ss) (later before) (λ n lt. sym (stands_later ss n) ∙ same (suc n) (λ e. absurd (omega (arith, e))) ∙ stands_later before n))
+    ∙ sym (ap (λ (l : List Whole). set l 0 (whole k (standing_at ss 0))) (joined_cons first files before))
+joined_put (first ∷ files) (suc place) k ss before same =
+    joined_cons first (set files place k) ss
+    ∙ ap (λ (s : Standing). whole first s ∷ joined (set files place k) (later ss)) (same 0 (λ e. absurd (omega (arith, e))))
+    ∙ ap (λ (rest : List Whole). whole first (standing_at before 0) ∷ rest)
+    (joined_put files place k (later ss) (later before) (λ n differ. sym (stands_later ss n) ∙ same (suc n) (λ e. differ (omega (arith, e))) ∙ stands_later before n)
+    ∙ ap (λ (s : Standing). set (joined files (later before)) place (whole k s)) (sym (stands_later ss place)))
+    ∙ sym (ap (λ (l : List Whole). set l (suc place) (whole k (standing_at ss (suc place)))) (joined_cons first files before))
+
+-- a file more
+pub joined_push : (files : List KeptFile) (k : KeptFile) (ss before : List Standing) → ((n : ℕ) → n < length files → standing_at ss n ≡ standing_at before n)
+    → joined (files ++ k ∷ []) ss ≡ joined files before ++ whole k (standing_at ss (length files)) ∷ []
+joined_push [] k ss before same = joined_cons k [] ss
+joined_push (first ∷ files) k ss before same =
+    joined_cons first (files ++ k ∷ []) ss
+    ∙ ap (λ (s : Standing). whole first s ∷ joined (files ++ k ∷ []) (later ss)) (same 0 (omega arith))
+    ∙ ap (λ (rest : List Whole). whole first (standing_at before 0) ∷ rest)
+    (joined_push files k (later ss) (later before) (λ n lt. sym (stands_later ss n) ∙ same (suc n) (omega (arith, lt)) ∙ stands_later before n)
+    ∙ ap (λ (s : Standing). joined files (later before) ++ whole k s ∷ []) (sym (stands_later ss (length files))))
+    ∙ sym (ap (λ (l : List Whole). l ++ whole k (standing_at ss (suc (length files))) ∷ []) (joined_cons first files before))
+
+pub names_joined : (files : List KeptFile) (ss : List Standing) → names_of (joined files ss) ≡ named files
+names_joined [] ss = refl
+names_joined (k ∷ files) ss = ap names_of (joined_cons k files ss) ∙ ap (λ (rest : List (List ℕ)). k.name ∷ rest) (names_joined files (later ss))
+
+pub long_joined : (files : List KeptFile) (ss : List Standing) → length (joined files ss) ≡ length files
+long_joined [] ss = refl
+long_joined (k ∷ files) ss = ap (λ (l : List Whole). length l) (joined_cons k files ss) ∙ ap suc (long_joined files (later ss))
+
+pub get_joined : (files : List KeptFile) (place : ℕ) (k : KeptFile) (ss : List Standing) → k ≡ get_or files place k
+    → whole k (standing_at ss place) ≡ get_or (joined files ss) place (whole k (standing_at ss place))
+get_joined [] place k ss e = refl
+get_joined (first ∷ files) zero k ss e =
+    ap (λ (x : KeptFile). whole x (standing_at ss 0)) e ∙ sym (ap (λ (l : List Whole). get_or l 0 (whole k (standing_at ss 0))) (joined_cons first files ss))
+get_joined (first ∷ files) (suc place) k ss e =
+    subst (λ (s : Standing). whole k s ≡ get_or (joined files (later ss)) place (whole k s)) (sym (stands_later ss place)) (get_joined files place k (later ss) e)
+    ∙ sym (ap (λ (l : List Whole). get_or l (suc place) (whole k (standing_at ss (suc place)))) (joined_cons first files ss))
+
+-- what stands under a number that there is
+pub stands_at : (ss : List Standing) (n : ℕ) → n < length ss → slice_get ss n ≡ Some (standing_at ss n)
+stands_at [] n lt = absurd (omega (arith, lt))
+stands_at (s ∷ ss) zero lt = refl
+stands_at (s ∷ ss) (suc n) lt = stands_at ss n (omega (arith, lt))
+
+pub stands_ended : (now : ℕ) (ss : List Standing) (n : ℕ) → standing_at (all_ended now ss) n ≡ ended_at now (standing_at ss n)
+stands_ended now [] n = refl
+stands_ended now (s ∷ ss) zero = refl
+stands_ended now (s ∷ ss) (suc n) = stands_ended now ss n
+
+later_ended : (now : ℕ) (ss : List Standing) → later (all_ended now ss) ≡ all_ended now (later ss)
+later_ended now [] = refl
+later_ended now (s ∷ ss) = refl
+
+-- the files once the locks have ended that are over
+pub files_ended : (files : List KeptFile) (ss : List Standing) (now : ℕ) (name : List ℕ) → files_of (joined files (all_ended now ss)) name ≡ ended_file now (files_of (joined files ss) name)
+files_ended [] ss now name = refl
+files_ended (k ∷ files) ss now name =
+    ap (λ (l : List Whole). files_of l name) (joined_cons k files (all_ended now ss))
+    ∙ go (ap (λ (l : List Standing). files_of (joined files l) name) (later_ended now ss) ∙ files_ended files (later ss) now name) (bytes_eq k.name name)
+    ∙ sym (ap (λ (l : List Whole). ended_file now (files_of l name)) (joined_cons k files ss)) where
+      go : files_of (joined files (later (all_ended now ss))) name ≡ ended_file now (files_of (joined files (later ss)) name)
+          → (b : Bool) → unwrap_or (option_map file_of (if b then Some (whole k (standing_at (all_ended now ss) 0)) else first_of (is_named name) (joined files (later (all_ended now ss))))) never_met
+          ≡ ended_file now (unwrap_or (option_map file_of (if b then Some (whole k (standing_at ss 0)) else first_of (is_named name) (joined files (later ss)))) never_met)
+      go rest true = ap (λ (s : Standing). file_of (whole k s)) (stands_ended now ss 0)
+      go rest false = rest
+
+-- what doesn't come from the locks is the same whatever stands there
+pub read_any : {A : Type 0} (read : Whole → A) (none : A) → ((k : KeptFile) (s s' : Standing) → read (whole k s) ≡ read (whole k s'))
+    → (files : List KeptFile) (ss ss' : List Standing) (name : List ℕ)
+    → unwrap_or (option_map read (first_of (is_named name) (joined files ss))) none ≡ unwrap_or (option_map read (first_of (is_named name) (joined files ss'))) none
+read_any read none same [] ss ss' name = refl
+read_any read none same (k ∷ files) ss ss' name =
+    ap (λ (l : List Whole). unwrap_or (option_map read (first_of (is_named name) l)) none) (joined_cons k files ss)
+    ∙ go (read_any read none same files (later ss) (later ss') name) (bytes_eq k.name name)
+    ∙ sym (ap (λ (l : List Whole). unwrap_or (option_map read (first_of (is_named name) l)) none) (joined_cons k files ss')) where
+      go : unwrap_or (option_map read (first_of (is_named name) (joined files (later ss)))) none ≡ unwrap_or (option_map read (first_of (is_named name) (joined files (later ss')))) none
+          → (b : Bool) → unwrap_or (option_map read (if b then Some (whole k (standing_at ss 0)) else first_of (is_named name) (joined files (later ss)))) none
+          ≡ unwrap_or (option_map read (if b then Some (whole k (standing_at ss' 0)) else first_of (is_named name) (joined files (later ss')))) none
+      go rest true = same k (standing_at ss 0) (standing_at ss' 0)
+      go rest false = rest
+
+pub torn_any : (files : List KeptFile) (ss ss' : List Standing) (name : List ℕ) → torn_in (joined files ss) name ≡ torn_in (joined files ss') name
+torn_any files ss ss' name = read_any (λ (w : Whole). w.torn) false (λ k s s'. refl) files ss ss' name
+
+field : {A : Type 0} (read : File → A) (o : Option Whole) → read (unwrap_or (option_map file_of o) never_met) ≡ unwrap_or (option_map (λ (w : Whole). read (file_of w)) o) (read never_met)
+field read None = refl
+field read (Some w) = refl
+
+pub version_any : (files : List KeptFile) (ss ss' : List Standing) (name : List ℕ) → (files_of (joined files ss) name).version ≡ (files_of (joined files ss') name).version
+version_any files ss ss' name =
+    field (λ (f : File). f.version) (first_of (is_named name) (joined files ss))
+    ∙ read_any (λ (w : Whole). w.version) 0 (λ k s s'. refl) files ss ss' name
+    ∙ sym (field (λ (f : File). f.version) (first_of (is_named name) (joined files ss')))
+
+pub contents_any : (files : List KeptFile) (ss ss' : List Standing) (name : List ℕ) → (files_of (joined files ss) name).contents ≡ (files_of (joined files ss') name).contents
+contents_any files ss ss' name =
+    field (λ (f : File). f.contents) (first_of (is_named name) (joined files ss))
+    ∙ read_any (λ (w : Whole). w.contents) None (λ k s s'. refl) files ss ss' name
+    ∙ sym (field (λ (f : File). f.contents) (first_of (is_named name) (joined files ss')))
+
+pub held_as : (number : ℕ) (k : KeptFile) (s s' : Standing) (versions : List Version) → IsHeld number (whole k s) versions → IsHeld number (whole k s') versions
+held_as number k s s' versions held = record { current = held.current; later = held.later }
+
+held_any : (number : ℕ) (files : List KeptFile) (ss ss' : List Standing) (versions : List Version) → AreHeld number (joined files ss) versions → AreHeld number (joined files ss') versions
+held_any number [] ss ss' versions held = tt
+held_any number (k ∷ files) ss ss' versions held =
+    let parts = subst (λ (l : List Whole). AreHeld number l versions) (joined_cons k files ss) held in
+    subst (λ (l : List Whole). AreHeld number l versions) (sym (joined_cons k files ss'))
+    (held_as number k (standing_at ss 0) (standing_at ss' 0) versions parts.0, held_any (number + 1) files (later ss) (later ss') versions parts.1)
+
+pub within_any : (most : ℕ) (files : List KeptFile) (ss ss' : List Standing) → AreWithin most (joined files ss) → AreWithin most (joined files ss')
+within_any most [] ss ss' within = tt
+within_any most (k ∷ files) ss ss' within =
+    let parts = subst (AreWithin most) (joined_cons k files ss) within in
+    subst (AreWithin most) (sym (joined_cons k files ss')) (parts.0, within_any most files (later ss) (later ss') parts.1)
+
+pub stocked_any : (files : List KeptFile) (ss ss' : List Standing) (versions : List Version) → IsStocked (joined files ss) versions → IsStocked (joined files ss') versions
+stocked_any files ss ss' versions stocked = record {
+  held = held_any 0 files ss ss' versions stocked.held;
+  beyond = λ number version le. stocked.beyond number version (let one = long_joined files ss in let two = long_joined files ss' in omega (arith, le, one, two));
+}
+
+pub archive_any : (opening : Opening) (made : List Made) (files : List KeptFile) (ss ss' : List Standing) (versions : List Version)
+    → IsArchive opening made (joined files ss) versions → IsArchive opening made (joined files ss') versions
+archive_any opening made files ss ss' versions archive =
+    let same : names_of (joined files ss) ≡ names_of (joined files ss') = names_joined files ss ∙ sym (names_joined files ss') in
+    record {
+      stocked = stocked_any files ss ss' versions archive.stocked;
+      opened = subst (λ (n : List (List ℕ)). AreOpened 0 opening n versions) same archive.opened;
+      kept = subst (λ (n : List (List ℕ)). AreKept made n versions) same archive.kept;
+      within = within_any (1 + length made) files ss ss' archive.within;
+    }

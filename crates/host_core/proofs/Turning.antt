@@ -1,0 +1,154 @@
+-- What a step makes of the locks.
+use Rattle.std.proofs.Common.{◌≡◌, ◌≢◌, ◌⊎◌, inl, inr, ◌<◌, ◌≤◌, ℕ, zero, suc, Bool, true, false, if◌then◌else◌, List, [], ◌∷◌, ◌++◌, length, Option, None, Some, option_map, unwrap_or, refl, sym, ap, subst, ◌∙◌, arith, slice_get}
+use Rattle.std.proofs.lemmas.List.{length-map}
+use Rattle.std.proofs.lemmas.Option.{slice_get-map, none-some}
+use Rattle.std.specs.Str.{bytes_eq}
+use Rattle.wopi_model.specs.declared.locks.Lock.{Lock}
+use Rattle.wopi_model.specs.declared.locks.Spent.{Spent}
+use Rattle.wopi_model.specs.declared.locks.LockAct.{LockAct}
+use Rattle.wopi_model.specs.declared.locks.LockAct.TheVariants as asks
+use Rattle.wopi_model.specs.LockTable.{lock_after, spent_by, verdict, judged, is_accepted}
+use Rattle.wopi_model.specs.declared.locks.Judged.{Judged}
+use Rattle.wopi_model.specs.Settle.{standing, is_over}
+use Rattle.kept_locks.specs.Locks.{Standing, unlocked, ended_at, all_ended, stepped, with_lock}
+use Rattle.kept_locks.specs.Ties.{BeganBy, GoesOn, Spends}
+use Rattle.host_core.specs.Turns.{Follows, SpendsOf, Ends}
+use Rattle.host_core.specs.Whole.{standing_at}
+use Rattle.host_core.proofs.Joining.{stands_at, stands_ended}
+
+pub follows_same : (lock : Option Lock) (now : ℕ) → Follows lock lock now
+follows_same None now = tt
+follows_same (Some lock) now = inl refl
+
+relocked : (old : Lock) (b : Bool) (one two : Lock) (now : ℕ) → one.since ≡ now → two.since ≡ now → Follows (Some old) (if b then Some one else Some two) now
+relocked old true one two now e h = inr e
+relocked old false one two now e h = inr h
+
+pub follows_after : (lock : Option Lock) (asked : LockAct) (expires now : ℕ) → Follows lock (lock_after lock asked expires now) now
+follows_after None (asks.Lock id) expires now = refl
+follows_after None _ expires now = tt
+follows_after (Some lock) (asks.Lock id) expires now = inr refl
+follows_after (Some lock) (asks.Refresh id) expires now = inr refl
+follows_after (Some lock) (asks.Unlock id) expires now = tt
+follows_after (Some lock) (asks.Relock old id) expires now = relocked lock (bytes_eq old id) _ _ now refl refl
+follows_after (Some lock) (asks.Put id empty) expires now = inl refl
+follows_after (Some lock) _ expires now = inl refl
+
+spends_if : (old : Lock) (b : Bool) (one : Spent) → SpendsOf (Some old) (if b then None else Some one)
+spends_if old true one = tt
+spends_if old false one = tt
+
+pub spends_by : (lock : Option Lock) (asked : LockAct) (expires : ℕ) → SpendsOf lock (spent_by lock asked expires)
+spends_by None _ expires = tt
+spends_by (Some lock) (asks.Unlock id) expires = tt
+spends_by (Some lock) (asks.Relock old id) expires = spends_if lock (bytes_eq old id) _
+spends_by (Some lock) _ expires = tt
+
+stood : (lock : Option Lock) (now : ℕ) (one : Lock) → standing lock now ≡ Some one → lock ≡ Some one
+stood None now one e = absurd (cc)
+stood (Some lock) now one e = go (is_over lock now) e where
+  go : (b : Bool) → (if b then None else Some lock) ≡ Some one → Some lock ≡ Some one
+  go true h = cc
+  go false h = h
+
+mapped : (now : ℕ) (o : Option Standing) (file : Standing) → option_map (ended_at now) o ≡ Some file → (s : Standing) × (o ≡ Some s) × (ended_at now s ≡ file)
+mapped now None file e = absurd (cc)
+mapped now (Some s) file e = (s, refl, cc)
+
+-- locks that end are no longer there
+pub began_ended : (ss : List Standing) (now moment : ℕ) → BeganBy moment ss → BeganBy moment (all_ended now ss)
+began_ended ss now moment began = λ number file lock at is.
+    let (s, there, ended) = mapped now (slice_get ss number) file (sym (slice_get-map (ended_at now) ss number) ∙ at) in
+    began number s lock there (stood s.lock now lock (ap (λ (x : Standing). x.lock) ended ∙ is))
+
+there_ended : (ss : List Standing) (number now : ℕ) → number < length ss → slice_get (all_ended now ss) number ≡ Some (ended_at now (standing_at ss number))
+there_ended ss number now lt = slice_get-map (ended_at now) ss number ∙ ap (option_map (ended_at now)) (stands_at ss number lt)
+
+pub goes_on : (ss : List Standing) (number now : ℕ) (lock : Option Lock) → number < length ss → BeganBy now ss → Follows (standing (standing_at ss number).lock now) lock now → GoesOn (all_ended now ss) number lock
+goes_on ss number now None lt began follows = tt
+goes_on ss number now (Some lock) lt began follows = go (standing (standing_at ss number).lock now) refl follows where
+  new : lock.since ≡ now → GoesOn (all_ended now ss) number (Some lock)
+  new e = inr (subst (λ (m : ℕ). BeganBy m (all_ended now ss)) (sym e) (began_ended ss now now began))
+
+  go : (old : Option Lock) → standing (standing_at ss number).lock now ≡ old → Follows old (Some lock) now → GoesOn (all_ended now ss) number (Some lock)
+  go None e h = new h
+  go (Some held) e (inl same) = inl (ended_at now (standing_at ss number), held, there_ended ss number now lt, e, same)
+  go (Some held) e (inr h) = new h
+
+pub spends : (ss : List Standing) (number now : ℕ) (spent : Option Spent) → number < length ss → SpendsOf (standing (standing_at ss number).lock now) spent → Spends (all_ended now ss) number spent
+spends ss number now None lt of = tt
+spends ss number now (Some spent) lt of = go (standing (standing_at ss number).lock now) refl of where
+  go : (old : Option Lock) → standing (standing_at ss number).lock now ≡ old → SpendsOf old (Some spent) → Spends (all_ended now ss) number (Some spent)
+  go None e h = absurd h
+  go (Some held) e h = (ended_at now (standing_at ss number), held, there_ended ss number now lt, e)
+
+pub stands_set : (ss : List Standing) (number : ℕ) (lock : Option Lock) (spend : Option Spent) (now : ℕ) → number < length ss
+    → standing_at (with_lock ss number lock spend now) number ≡ stepped lock spend now (standing_at ss number)
+stands_set [] number lock spend now lt = absurd (omega (arith, lt))
+stands_set (s ∷ ss) zero lock spend now lt = refl
+stands_set (s ∷ ss) (suc number) lock spend now lt = stands_set ss number lock spend now (omega (arith, lt))
+
+pub stands_beside : (ss : List Standing) (number : ℕ) (lock : Option Lock) (spend : Option Spent) (now other : ℕ) → other ≢ number
+    → standing_at (with_lock ss number lock spend now) other ≡ standing_at ss other
+stands_beside [] number lock spend now other differ = refl
+stands_beside (s ∷ ss) zero lock spend now zero differ = absurd (differ refl)
+stands_beside (s ∷ ss) zero lock spend now (suc other) differ = refl
+stands_beside (s ∷ ss) (suc number) lock spend now zero differ = refl
+stands_beside (s ∷ ss) (suc number) lock spend now (suc other) differ = stands_beside ss number lock spend now other (λ e. differ (ap suc e))
+
+pub long_set : (ss : List Standing) (number : ℕ) (lock : Option Lock) (spend : Option Spent) (now : ℕ) → length (with_lock ss number lock spend now) ≡ length ss
+long_set [] number lock spend now = refl
+long_set (s ∷ ss) zero lock spend now = refl
+long_set (s ∷ ss) (suc number) lock spend now = ap suc (long_set ss number lock spend now)
+
+-- a file more, which was never locked
+pub stands_push : (ss : List Standing) (n : ℕ) → standing_at (ss ++ unlocked ∷ []) n ≡ standing_at ss n
+stands_push [] zero = refl
+stands_push [] (suc n) = refl
+stands_push (s ∷ ss) zero = refl
+stands_push (s ∷ ss) (suc n) = stands_push ss n
+
+pub began_push : (ss : List Standing) (moment : ℕ) → BeganBy moment ss → BeganBy moment (ss ++ unlocked ∷ [])
+began_push [] moment began zero file lock at is = absurd (never (is_free file at) is) where
+  is_free : (file : Standing) → Some unlocked ≡ Some file → file.lock ≡ None
+  is_free file e = ap (λ (o : Option Standing). (unwrap_or o unlocked).lock) (sym e)
+
+  never : file.lock ≡ None → file.lock ≡ Some lock → ⊥
+  never free held = none-some lock (sym free ∙ held)
+began_push [] moment began (suc n) file lock at is = absurd (cc)
+began_push (s ∷ ss) moment began zero file lock at is = began zero file lock at is
+began_push (s ∷ ss) moment began (suc n) file lock at is = began_push ss moment (λ m. began (suc m)) n file lock at is
+
+-- the lock that is set began by then
+pub began_set : (ss : List Standing) (number : ℕ) (lock : Option Lock) (spend : Option Spent) (now : ℕ) → BeganBy now ss → ((one : Lock) → lock ≡ Some one → one.since ≤ now) → BeganBy now (with_lock ss number lock spend now)
+began_set [] number lock spend now began new n file one at is = began n file one at is
+began_set (s ∷ ss) zero lock spend now began new zero file one at is = new one (ap (λ (o : Option Standing). (unwrap_or o s).lock) at ∙ is)
+began_set (s ∷ ss) zero lock spend now began new (suc n) file one at is = began (suc n) file one at is
+began_set (s ∷ ss) (suc number) lock spend now began new zero file one at is = began zero file one at is
+began_set (s ∷ ss) (suc number) lock spend now began new (suc n) file one at is = began_set ss number lock spend now (λ m. began (suc m)) new n file one at is
+
+pub new_by : (ss : List Standing) (number now : ℕ) (lock : Option Lock) → number < length ss → BeganBy now ss → Follows (standing (standing_at ss number).lock now) lock now → (one : Lock) → lock ≡ Some one → one.since ≤ now
+new_by ss number now None lt began follows one e = absurd (cc)
+new_by ss number now (Some lock) lt began follows one e = go (standing (standing_at ss number).lock now) refl follows where
+  same : lock.since ≡ one.since
+  same = cc
+
+  go : (old : Option Lock) → standing (standing_at ss number).lock now ≡ old → Follows old (Some lock) now → one.since ≤ now
+  go None is h = omega (arith, same, h)
+  go (Some held) is (inl h) = let by = began number (standing_at ss number) held (stands_at ss number lt) (stood (standing_at ss number).lock now held is) in omega (arith, same, h, by)
+  go (Some held) is (inr h) = omega (arith, same, h)
+
+judged_ends : (old : Option Lock) (asked : LockAct) (expires now : ℕ) → Ends old (record { lock = (judged (standing old now) false asked expires now).lock; spend = (judged (standing old now) false asked expires now).spend }) now
+judged_ends old asked expires now = go (is_accepted (verdict (standing old now) false asked)) where
+  held : Option Lock
+  held = standing old now
+
+  go : (b : Bool) → Ends old (record { lock = if b then lock_after held asked expires now else held; spend = if b then spent_by held asked expires else None }) now
+  go true = record { lock = follows_after held asked expires now; spend = spends_by held asked expires }
+  go false = record { lock = follows_same held now; spend = tt }
+
+-- what is judged of the lock that stands
+pub ends_by : (old held : Option Lock) (said : Judged) (asked : LockAct) (expires now : ℕ) → held ≡ standing old now → said ≡ judged held false asked expires now → Ends old (record { lock = said.lock; spend = said.spend }) now
+ends_by old held said asked expires now e is =
+    let same : said ≡ judged (standing old now) false asked expires now = is ∙ ap (λ (h : Option Lock). judged h false asked expires now) e in
+    subst (λ (j : Judged). Ends old (record { lock = j.lock; spend = j.spend }) now) (sym same) (judged_ends old asked expires now)

@@ -1,0 +1,55 @@
+use Rattle.std.proofs.Common.{◌≡◌, ◌+◌, ℕ, max, List, ◌∷◌, ◌++◌, [], length, refl, sym, ap, subst, ◌∙◌, arith}
+use Rattle.host_core.specs.Archive.{AreWithin, StaysKept}
+use Rattle.host_core.specs.Entries.{Made}
+use Rattle.host_core.specs.Ledger.{ended_in, made_by}
+use Rattle.host_core.specs.Steps.{TakesStep}
+use Rattle.host_core.specs.Whole.{joined}
+use Rattle.host_core.proofs.ledger.take_step.Goals as goal
+
+pub returns-in-KeptFull-clause-tied : goal.returns-in-KeptFull-clause-tied
+returns-in-KeptFull-clause-tied g c =
+    let spare = c.requires.tied.spare in
+    let more = c.in-Err.ensures.spared in
+    let same : length c.reserve.new.self.items ≡ length c.args.ledger.now.entries.items = ap (λ (l : List Made). length l) c.reserve.ensures.items in
+    record {
+      numbered = c.step_files.ensures.numbered;
+      locked = c.in-Err.ensures.stays c.args.ledger.now.time c.requires.tied.locked;
+      spare = omega (arith, spare, more, same);
+    }
+
+pub returns-in-Memory-clause-tied : goal.returns-in-Memory-clause-tied
+returns-in-Memory-clause-tied g c =
+    let spare = c.requires.tied.spare in
+    let more = c.in-Err.ensures.spared in
+    let same : length c.reserve.new.self.items ≡ length c.args.ledger.now.entries.items = ap (λ (l : List Made). length l) c.reserve.ensures.items in
+    record {
+      numbered = c.step_files.ensures.numbered;
+      locked = c.in-Err.ensures.stays c.args.ledger.now.time c.requires.tied.locked;
+      spare = omega (arith, spare, more, same);
+    }
+
+pub returns-in-Ok-clause-takes : goal.returns-in-Ok-clause-takes
+returns-in-Ok-clause-takes g c =
+    let before = c.args.ledger.now in
+    let after = joined c.step_files.new.files.items c.step_files.new.locks.files in
+    let ruling = c.in-Ok.carried.ruling in
+    let ok = c.in-Ok.ensures.ok in
+    let stamp : c.max-stamp.result + 1 ≡ max before.last c.args.floor + 1 = omega (arith, c.max-stamp.ensures) in
+    let now : c.max-now.result ≡ max before.time c.args.moment = c.max-now.ensures in
+    let asked = c.of-asked.ensures in
+    let entry : c.new-entry.result ≡ made_by before c.args.call c.args.pass c.args.floor c.args.moment ruling =
+    c.new-entry.ensures ∙ (λ i. record { time = now i; step = record { stamp = stamp i; pass = c.args.pass; moment = c.args.moment; call = asked i; ruling = ruling } }) in
+    record {
+      steps = subst (λ (t : ℕ). TakesStep (ended_in before t) after c.args.call before.opened t ruling) now ok.steps;
+      entries = c.record.ensures ∙ ap (λ (l : List Made). l ++ c.new-entry.result ∷ []) c.reserve.ensures.items ∙ ap (λ (m : Made). before.entries.items ++ m ∷ []) entry;
+      last = stamp;
+      time = now;
+      opened = refl;
+      capacity = refl;
+      first = refl;
+      few = c.in-Ok.ensures.few;
+      within = λ most h. ok.within most (subst (λ (t : ℕ). AreWithin most (ended_in before t)) (sym now) h);
+      stays = subst (λ (t : ℕ). StaysKept (ended_in before t) after before.versions.list c.step_files.new.versions.list) now ok.stays;
+      archived = ok.kept;
+      kept = ok.bytes;
+    }

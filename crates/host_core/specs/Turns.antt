@@ -1,0 +1,39 @@
+-- What a step makes of the locks.
+use Rattle.std.specs.Prelude.{◌≡◌, ◌≢◌, ◌⊎◌, ⊤, ℕ, ◌+◌, ◌≤◌, ◌<◌, length, Option, None, Some}
+use Rattle.wopi_model.specs.declared.locks.Lock.{Lock}
+use Rattle.wopi_model.specs.declared.locks.Spent.{Spent}
+use Rattle.wopi_model.specs.Settle.{standing}
+use Rattle.kept_locks.specs.Locks.{Locks, ended_at}
+use Rattle.kept_locks.specs.Ties.{BeganBy}
+use Rattle.host_core.specs.Whole.{standing_at}
+use Rattle.host_core.specs.declared.held.Effect.{Effect}
+
+-- a file may be stepped
+pub record IsReady (locks : Locks) (number now : ℕ) : Type 0 where
+  pub here : number < length locks.files
+  pub spare : 1 ≤ locks.spare
+  pub began : BeganBy now locks.files
+
+-- a lock that began now, or goes on from when the old one began
+abbrev pub Follows : Option Lock → Option Lock → ℕ → Type 0
+Follows old None now = ⊤
+Follows None (Some lock) now = lock.since ≡ now
+Follows (Some old) (Some lock) now = (old.since ≡ lock.since) ⊎ (lock.since ≡ now)
+
+-- an id is spent only where a lock stood
+abbrev pub SpendsOf : Option Lock → Option Spent → Type 0
+SpendsOf old None = ⊤
+SpendsOf None (Some spent) = ⊥
+SpendsOf (Some old) (Some spent) = ⊤
+
+-- what a step may make of a lock
+pub record Ends (old : Option Lock) (effect : Effect) (now : ℕ) : Type 0 where
+  pub lock : Follows (standing old now) effect.lock now
+  pub spend : SpendsOf (standing old now) effect.spend
+
+-- the locks that were over have ended, and one file was stepped
+pub record Turns (old new : Locks) (number now : ℕ) : Type 0 where
+  pub others : (other : ℕ) → other ≢ number → standing_at new.files other ≡ ended_at now (standing_at old.files other)
+  pub long : length new.files ≡ length old.files
+  pub began : BeganBy now new.files
+  pub spare : old.spare ≤ new.spare + 1

@@ -1,0 +1,23 @@
+//! Names that get numbers, and lose them.
+use crate::NameIndex;
+use std::process::Abort;
+use std::test::Fail;
+use wopi_text::FileName;
+
+fn name(rt: &impl Abort, text: &[u8]) -> FileName {
+    FileName::read(text).expect(rt, "a file name")
+}
+
+#[test]
+fn a_name_has_its_number_until_it_is_removed(rt: HostRuntime) -> Result<(), Fail> {
+    let mut index = NameIndex::new(rt.alloc());
+    index.add(name(&rt, b"b.csv"), 0).map_err(|_| "memory")?;
+    index.add(name(&rt, b"a.csv"), 1).map_err(|_| "memory")?;
+    assert_eq!(rt; index.find(&name(&rt, b"b.csv")), Some(0));
+    assert_eq!(rt; index.find(&name(&rt, b"a.csv")), Some(1));
+    assert_eq!(rt; index.find(&name(&rt, b"c.csv")), None);
+    index.remove(&name(&rt, b"b.csv"));
+    assert_eq!(rt; index.find(&name(&rt, b"b.csv")), None);
+    assert_eq!(rt; index.find(&name(&rt, b"a.csv")), Some(1));
+    Ok(())
+}
