@@ -1,13 +1,15 @@
 -- The seats of a pass, one by one and as a row of which one changes.
 use Rattle.std.proofs.Common.{◌≡◌, ◌≢◌, ℕ, zero, suc, ◌+◌, ◌≤◌, ◌<◌, max, Option, Some, List, [], ◌∷◌, map, length, set, get_or, slice_get, refl, ap, sym, ◌∙◌, subst, arith}
-use Rattle.wopi_model.specs.Shard.{Entry, RisesFrom, stamps}
+use Rattle.std.specs.List.{Contains}
+use Rattle.wopi_model.specs.Shard.{Entry, RisesFrom, last_from, stamps}
 use Rattle.host_core.specs.Entries.{Made}
 use Rattle.host_core.specs.Value.{Book}
 use Rattle.host_core.specs.Times.{steps_of}
 use Rattle.host_table.specs.Histories.{last_stamp, AreNamed, IsSeen}
-use Rattle.host_table.specs.Passes.{PassView, IsPass, HasSeen, Place, top, IsSeat, AreSeats, AreInShards}
+use Rattle.host_table.specs.Passes.{PassView, IsPass, HasSeen, Place, top, IsSeat, AreSeats, AreInShards, AreBelow}
 use Rattle.host_core.proofs.Timing.{entries-untimed}
 use Rattle.host_table.proofs.Owned.{AreOwn}
+use Rattle.host_table.proofs.Stamps.{last-above}
 
 module _ {A : Type 0} where
   pub get_there : (xs : List A) (k : ℕ) (v : A) → k < length xs → v ≡ get_or xs k v → slice_get xs k ≡ Some v
@@ -63,10 +65,30 @@ module _ {F : Type 0} (number weight opened capacity : ℕ) where
   named_seats j [] are = tt
   named_seats j (s ∷ ss) are = (subst (λ (o : Option ℕ). AreNamed o s.seen) are.0.is_base.only are.0.seen.named, named_seats (j + 1) ss are.1)
 
+-- no stamp is above the last of those that rise
+most_from : (low : ℕ) (xs : List ℕ) (n : ℕ) → RisesFrom low xs → Contains xs n → n ≤ last_from low xs
+most_from low [] n rises c = absurd (omega (arith, c.1))
+most_from low (x ∷ xs) n rises (zero, inside, is) = let rest = last-above x xs rises.1 in let here : x ≡ n = is in omega (arith, rest, here)
+most_from low (x ∷ xs) n rises (suc k, inside, is) = most_from x xs n rises.1 (k, omega (arith, inside), is)
+
+-- nor above the greatest of all shards
+module _ {F : Type 0} (number weight opened capacity : ℕ) where
+  pub below_top : (j : ℕ) (ss : List (Place F)) → AreSeats number weight opened capacity j ss → AreBelow (top ss) ss
+  below_top j [] are shard stamp c = absurd (omega (arith, c.1))
+  below_top j (s ∷ ss) are zero stamp c =
+      let here : Contains (stamps (steps_of s.seen)) stamp = subst (λ (es : List Entry). Contains (stamps es) stamp) (entries-untimed s.seen) c in
+      let low : stamp ≤ last_stamp s.seen = most_from 0 (stamps (steps_of s.seen)) stamp (rises_of are.0.base s.seen are.0.seen) here in
+      grind arith
+  below_top j (s ∷ ss) are (suc shard) stamp c = let rest = below_top (j + 1) ss are.1 shard stamp c in grind arith
+
 pub top_set : {F : Type 0} (ss : List (Place F)) (k : ℕ) (v w : Place F) → k < length ss → v ≡ get_or ss k v → last_stamp v.seen ≤ last_stamp w.seen → max (top ss) (last_stamp w.seen) ≡ top (set ss k w)
 top_set [] k v w h e le = absurd (omega arith)
 top_set (s ∷ ss) zero v w h e le = let a : last_stamp v.seen ≡ last_stamp s.seen = ap (λ (z : Place _). last_stamp z.seen) e in grind arith
 top_set (s ∷ ss) (suc k) v w h e le = let a = top_set ss k v w (omega arith) e le in grind arith
 
 pub has_seen : {F : Type 0} (p : PassView F) → IsPass p → HasSeen p
-has_seen p is = record { last_is = is.last_is; named = named_seats p.number p.weight p.opened p.capacity 0 p.seats is.seats }
+has_seen p is = record {
+  last_is = is.last_is;
+  below = subst (λ n. AreBelow n p.seats) (sym is.last_is) (below_top p.number p.weight p.opened p.capacity 0 p.seats is.seats);
+  named = named_seats p.number p.weight p.opened p.capacity 0 p.seats is.seats;
+}

@@ -1,10 +1,10 @@
 -- A host and its passes, as contracts see them. (Own.)
 use Rattle.std.specs.Prelude.{◌≤◌, ◌≡◌, ⊤, ℕ, ◌+◌, ◌-◌, ◌/◌, max, ltb, false, List, [], ◌∷◌, ◌++◌, length, map, Option, None, Some, slice_get, if◌then◌else◌}
-use Rattle.std.specs.List.{AllByRecursion}
+use Rattle.std.specs.List.{AllByRecursion, Contains}
 use Rattle.atomic_table.specs.Seated.{TableId}
 use Rattle.turn_lock.specs.Seats.{SeatValue}
 use Rattle.wopi_text.specs.FileName.{shard_of}
-use Rattle.wopi_model.specs.Shard.{Opening, Item, Entry, RisesFrom}
+use Rattle.wopi_model.specs.Shard.{Opening, Item, Entry, RisesFrom, entries, stamps}
 use Rattle.host_core.specs.Opening.{IsTaken}
 use Rattle.host_core.specs.Entries.{Made}
 use Rattle.host_core.specs.Caller.{Sight}
@@ -167,6 +167,10 @@ module _ {F : Type 0} where
   AreInShards shard [] = ⊤
   AreInShards shard (seat ∷ seats) = AreNamed (Some shard) seat.seen × AreInShards (shard + 1) seats
 
+  -- no stamp that was seen is above that number
+  abbrev pub AreBelow : ℕ → List (Place F) → Type 0
+  AreBelow last seats = (shard : ℕ) (stamp : ℕ) → Contains (stamps (entries (seen_at (slice_get seats shard)))) stamp → stamp ≤ last
+
   -- what holds of every pass
   pub record IsPass (pass : PassView F) : Type 0 where
     pub seats : AreSeats pass.number pass.weight pass.opened pass.capacity 0 pass.seats
@@ -177,6 +181,7 @@ module _ {F : Type 0} where
   -- what a pass has seen: its last stamp is the greatest, and each entry stands in its name's shard
   pub record HasSeen (pass : PassView F) : Type 0 where
     pub last_is : pass.last ≡ top pass.seats
+    pub below : AreBelow pass.last pass.seats
     pub named : AreInShards 0 pass.seats
 
   -- what no call changes of a pass

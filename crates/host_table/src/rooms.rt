@@ -9,6 +9,9 @@ use std::alloc::Global;
 use turn_lock::Seat;
 use wopi_text::Memory;
 
+// The most bytes that are gathered.
+pub(crate) const PIECE: usize = 65_536;
+
 /// The memory that splitting a pass takes.
 #[derive(Drop)]
 pub struct SplitRoom<F: Folder> {
@@ -35,6 +38,21 @@ pub struct CloseRoom<F: Folder> {
     ghost folders: { (room.folders.items ≡ []) × (16 ≤ vec_capacity room.folders) },
     ghost pasts: { (room.pasts.items ≡ []) × (16 ≤ vec_capacity room.pasts) },
     ghost spots: { (room.spots.items ≡ []) × (16 * capacity ≤ vec_capacity room.spots) },
+}
+
+/// The memory that writing a journal takes. What is to be written is gathered there, and written in large pieces.
+#[derive(Drop)]
+pub struct WriteRoom {
+    pub(crate) bytes: Vec<u8>,
+    ghost wide: { 65536 ≤ vec_capacity bytes },
+}
+
+impl WriteRoom {
+    /// Room for any journal.
+    pub fn new(alloc: Global) -> Result<WriteRoom, Memory> {
+        let bytes = Vec::with_capacity(alloc, PIECE)?;
+        Ok(WriteRoom { bytes })
+    }
 }
 
 impl<F: Folder> CloseRoom<F> {

@@ -1,6 +1,6 @@
 //! A pass at its host, as a caller.
 ghost use Rattle.std.specs.Prelude.{◌≡◌, [], ◌∷◌, false};
-ghost use Rattle.host_table.specs.Passes.{locks_of, top, IsPassOf, AreInShards};
+ghost use Rattle.host_table.specs.Passes.{locks_of, top, AreBelow, IsPassOf, AreInShards};
 ghost use Rattle.host_table.specs.Seated.{AreInShards-prop};
 
 use crate::host::Host;
@@ -20,6 +20,7 @@ pub struct Seated<'a, R: Wait, F: Folder> {
     pass: &'a mut Pass<F>,
     ghost of_host: { locks_of pass.now ≡ host.now.locks },
     ghost last_is: { pass.now.last ≡ top pass.now.seats },
+    ghost below: { AreBelow pass.now.last pass.now.seats },
     ghost named: { AreInShards 0 pass.now.seats } by { AreInShards-prop 0 pass.now.seats },
 }
 
@@ -69,7 +70,7 @@ impl<R: Wait, F: Folder> Caller for Seated<'_, R, F> {
 
     ghost has_floor = { λ seated. has_its_floor seated.pass.now seated.last_is };
 
-    ghost is_always = { λ seated. sees_its_shards seated.pass.now seated.named };
+    ghost is_always = { λ seated. sees_its_shards seated.pass.now seated.named seated.below };
 
     fn call(&mut self, call: Call, moment: u64) -> Result<Receipt, CallFault> {
         self.host.call(self.rt, self.pass, call, moment)

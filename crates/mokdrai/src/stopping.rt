@@ -2,7 +2,10 @@
 //!
 //! The program can't hear a signal. Whoever wants it to end makes a file at a path that it was told
 //! when it began, and then connects to it once for each worker, so that each accept returns.
-ghost use Rattle.std.specs.Prelude.{◌≡◌, ◌≤◌, ◌-◌, ◌↔◌, true, false, IfOk, OnOk, IsErr, IsErrOf, None, Ok, map, vec_len};
+ghost use Rattle.std.specs.Prelude.{◌≡◌, ◌≤◌, ◌+◌, ◌↔◌, false, IfOk, IfSome, IsSome, OnOk, IsErr, IsErrOf, None, Some, Ok, map, vec_len};
+ghost use Rattle.std.specs.Option.{ForSome};
+ghost use Rattle.outside.specs.Listener.{Accepts};
+ghost use Rattle.mokdrai.specs.Stopping.{IsLink};
 
 use outside::{Accepted, Listener, OutFault};
 use std::alloc::Global;
@@ -38,37 +41,49 @@ pub(crate) fn stop_path<R: Env + AllocGlobal>(rt: &R) -> Result<Option<String>, 
 /// It looks for the file once when it is made and once after each link that it takes. That link is
 /// then turned away, and every later accept answers `Closed` and asks nothing. It tells no links,
 /// since what it takes is up to the file. A file that can't be looked for isn't there.
+///
+/// As soon as it gives no more links it lets its listener go, so that a socket of many such
+/// listeners is closed when the last of them is.
 #[derive(Drop)]
 pub(crate) struct StopListener<'a, R, N: Listener> {
     rt: &'a R,
     path: Option<&'a str>,
-    listener: N,
-    is_closed: bool,
-    // How many links were taken and turned away: at most the last one.
-    turned_away: usize,
-    ghost handed_back: { turned_away ≤ N.finished listener },
-    ghost in_hand: { N.finished listener - turned_away ≤ N.accepted listener - turned_away },
-    ghost open: { is_closed ≡ false → turned_away ≡ 0 },
+    // None once it is closed.
+    listener: Option<N>,
+    accepted: u64,
+    finished: u64,
+    faults: u64,
+    ghost in_hand: { finished ≤ accepted },
+    ghost lent: { ForSome listener (λ one. N.finished one + accepted ≤ N.accepted one + finished) },
 }
 
 impl<'a, R: Files, N: Listener> StopListener<'a, R, N> {
     /// `path` is that of the stop file; with none only the listener's own end ends it.
     pub(crate) fn new(rt: &'a R, path: Option<&'a str>, listener: N) -> StopListener<'a, R, N>
-        ensures listener { result.listener ≡ listener }
-        ensures turned_away { result.turned_away ≡ 0 }
+        ensures listener { IfSome result.listener (λ one. one ≡ listener) }
+        ensures untold { path.entry ≡ None → result.listener ≡ Some listener }
+        ensures path { result.path ≡ path.entry }
     {
-        let is_closed = is_there(rt, path);
+        let listener = if is_there(rt, path) {
+            None
+        } else {
+            Some(listener)
+        };
         StopListener {
             rt,
             path,
             listener,
-            is_closed,
-            turned_away: 0,
+            accepted: 0,
+            finished: 0,
+            faults: 0,
         }
     }
 }
 
-impl<'a, R: Files, N: Listener> Listener for StopListener<'a, R, N> {
+impl<'a, R: Files, N: Listener> Listener for StopListener<'a, R, N>
+where
+    N::Link: Drop,
+{
     ghost use Rattle.outside.specs.Faults.{Rose};
     ghost use Rattle.outside.specs.Listener.{Accepts, AcceptsNumber};
 
@@ -78,54 +93,69 @@ impl<'a, R: Files, N: Listener> Listener for StopListener<'a, R, N> {
 
     ghost finished_links = { λ _. None };
 
-    ghost accepted = { λ l. N.accepted l.listener - l.turned_away };
+    ghost accepted = { λ l. l.accepted };
 
-    ghost finished = { λ l. N.finished l.listener - l.turned_away };
+    ghost finished = { λ l. l.finished };
 
-    ghost faults = { λ l. N.faults l.listener };
+    ghost faults = { λ l. l.faults };
 
     ghost in_hand = { λ l. l.in_hand };
 
     fn accept(&mut self) -> Result<Accepted<N::Link>, OutFault>
-        ensures number { AcceptsNumber (N.accepted self.old.listener - self.old.turned_away) (N.accepted self.new.listener - self.new.turned_away) result }
-        ensures finished { N.finished self.new.listener - self.new.turned_away ≡ N.finished self.old.listener - self.old.turned_away }
-        ensures never_falls { N.faults self.old.listener ≤ N.faults self.new.listener }
-        ensures failed { IsErrOf result OutFault.Failed → Rose (N.faults self.old.listener) (N.faults self.new.listener) }
-        ensures fine { OnOk result (N.faults self.new.listener ≡ N.faults self.old.listener) }
+        ensures number { AcceptsNumber self.old.accepted self.new.accepted result }
+        ensures finished { self.new.finished ≡ self.old.finished }
+        ensures never_falls { self.old.faults ≤ self.new.faults }
+        ensures failed { IsErrOf result OutFault.Failed → Rose self.old.faults self.new.faults }
+        ensures fine { OnOk result (self.new.faults ≡ self.old.faults) }
+        ensures path { self.new.path ≡ self.old.path }
 
-        // While it stays open it answers what its listener answers.
-        ensures open { self.new.is_closed ≡ false → Accepts (N.links_left self.old.listener) (N.links_left self.new.listener) result }
+        // It keeps its listener exactly where it gives a link, which is the listener's next one.
+        ensures open { IsSome self.new.listener ↔ IsLink result }
+        ensures link { IfSome self.old.listener (λ before. IfSome self.new.listener (λ after. Accepts (N.links_left before) (N.links_left after) result)) }
 
-        // It closes by turning a link away, and then stays closed and asks nothing.
-        ensures closed { self.new.is_closed ≡ true → result ≡ Ok Accepted.Closed }
-        ensures closes { self.old.is_closed ≡ false → self.new.is_closed ≡ true → self.new.turned_away ≡ 1 }
-        ensures stays { self.old.is_closed ≡ true → self.new ≡ self.old }
+        // With no path it answers what its listener answers.
+        ensures untold { self.old.path ≡ None → IfSome self.old.listener (λ before. (left : _) × Accepts (N.links_left before) left result) }
+
+        // Once closed it stays so.
+        ensures closed { self.old.listener ≡ None → result ≡ Ok Accepted.Closed }
     {
-        if self.is_closed {
+        let Some(mut listener) = self.listener.take() else {
             return Ok(Accepted::Closed);
+        };
+        if self.accepted == u64::MAX {
+            return Err(OutFault::Memory);
         }
-        match self.listener.accept() {
+        match listener.accept() {
             Ok(Accepted::Link(link)) => {
-                if !is_there(self.rt, self.path) {
-                    return Ok(Accepted::Link(link));
+                if is_there(self.rt, self.path) {
+                    listener.finish(link);
+                    return Ok(Accepted::Closed);
                 }
-                self.listener.finish(link);
-                self.turned_away = 1;
-                self.is_closed = true;
-                return Ok(Accepted::Closed);
+                self.accepted += 1;
+                self.listener = Some(listener);
+                return Ok(Accepted::Link(link));
             }
             Ok(Accepted::Closed) => return Ok(Accepted::Closed),
-            Err(fault) => return Err(fault),
+            Err(fault) => {
+                self.faults = self.faults.saturating_add(1);
+                return Err(fault);
+            }
         }
     }
 
     fn finish(&mut self, link: N::Link) {
-        self.listener.finish(link);
+        self.finished += 1;
+        match &mut self.listener {
+            Some(listener) => listener.finish(link),
+            None => drop(link),
+        }
     }
 }
 
 // Whether there is a file at the path.
-fn is_there<R: Files>(rt: &R, path: Option<&str>) -> bool {
+fn is_there<R: Files>(rt: &R, path: Option<&str>) -> bool
+    ensures { path.entry ≡ None → result ≡ false }
+{
     match path {
         Some(path) => fs::exists(rt, path).unwrap_or(false),
         None => false,
@@ -140,7 +170,7 @@ pub(crate) fn until_stopped<'a, R: Files, N: Listener>(
     listeners: Vec<N>,
 ) -> Result<Vec<StopListener<'a, R, N>>, Memory>
     ensures count { IfOk result (λ all. vec_len all ≡ vec_len listeners) }
-    ensures listeners { IfOk result (λ all. map (λ one. one.listener) all.items ≡ listeners.items) }
+    ensures untold { path.entry ≡ None → IfOk result (λ all. map (λ one. one.listener) all.items ≡ map Some listeners.items) }
 {
     let mut all = Vec::with_capacity(alloc, listeners.len())?;
     for listener in listeners {

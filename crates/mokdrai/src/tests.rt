@@ -64,8 +64,6 @@ fn a_stop_file_closes_a_listener_at_its_next_link(rt: HostRuntime) -> Result<(),
     no_file(&rt, PATH)?;
     let mut listener = StopListener::new(&rt, Some(PATH), wires(rt.alloc(), 4)?);
     assert_eq!(rt; takes_one(&mut listener), Ok(true));
-    assert_eq!(rt; takes_one(&mut listener), Err(OutFault::Failed));
-    assert_eq!(rt; takes_one(&mut listener), Ok(true));
     fs::write(&rt, PATH, b"".as_slice())?;
     assert_eq!(rt; takes_one(&mut listener), Ok(false));
     fs::remove_file(&rt, PATH)?;
@@ -88,7 +86,7 @@ fn a_stop_file_that_is_there_first_closes_a_listener(rt: HostRuntime) -> Result<
 }
 
 #[test]
-fn with_no_stop_file_a_listener_ends_by_itself(rt: HostRuntime) -> Result<(), Fail> {
+fn with_no_stop_file_a_fault_of_a_listener_closes_it(rt: HostRuntime) -> Result<(), Fail> {
     let mut listener = StopListener::new(&rt, None, wires(rt.alloc(), 1)?);
     assert_eq!(rt; takes_one(&mut listener), Ok(true));
     assert_eq!(rt; takes_one(&mut listener), Err(OutFault::Failed));

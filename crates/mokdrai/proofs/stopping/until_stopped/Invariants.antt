@@ -1,8 +1,8 @@
-use Rattle.std.proofs.Common.{◌≡◌, length, map, vec_len}
+use Rattle.std.proofs.Common.{◌≡◌, length, map, vec_len, None, Some}
 use Rattle.mokdrai.proofs.stopping.until_stopped.Given as goal
 
 abbrev pub invariant-loop-listener : goal.invariant-loop-listener
 invariant-loop-listener g l = record {
   count : vec_len l.all ≡ length l.yielded;
-  listeners : map (λ one. one.listener) l.all.items ≡ l.yielded;
+  untold : l.fn.path ≡ None → map (λ one. one.listener) l.all.items ≡ map Some l.yielded;
 }
