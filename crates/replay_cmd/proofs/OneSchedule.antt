@@ -1,5 +1,5 @@
 -- A text is one schedule: what its lines say is read off their words.
-use Rattle.std.proofs.Common.{◌≡◌, ℕ, zero, suc, Bool, true, false, cond, ◌+◌, ◌-◌, ◌<◌, ◌≤◌, ◌^◌, inl, inr, List, [], ◌∷◌, ◌++◌, length, Result, Ok, Err, Option, None, Some, unwrap_or, refl, sym, ap, ◌∙◌, subst, arith}
+use Rattle.std.proofs.Common.{◌≡◌, ℕ, zero, suc, Bool, true, false, cond, ◌+◌, ◌-◌, ◌<◌, ◌^◌, inl, inr, List, [], ◌∷◌, ◌++◌, length, Result, Ok, Err, Option, None, Some, unwrap_or, refl, sym, ap, ◌∙◌, subst, arith}
 use Rattle.std.specs.Prelude.{codes, decimal, if◌then◌else◌}
 use Rattle.std.specs.List.{list_all}
 use Rattle.std.specs.Char.{is_ascii_digit}
@@ -20,7 +20,6 @@ use Rattle.replay_cmd.specs.declared.schedule.FileLine.{FileLine}
 use Rattle.replay_cmd.specs.declared.schedule.Reference.{Reference}
 use Rattle.replay_cmd.specs.declared.schedule.Reference.TheVariants.{Number, Last}
 use Rattle.replay_cmd.specs.declared.schedule.Wish.TheVariants as wish
-use Rattle.replay_cmd.specs.declared.schedule.ForeignAsk.{ForeignAsk}
 use Rattle.replay_cmd.specs.declared.schedule.EventLine.{EventLine}
 use Rattle.replay_cmd.specs.declared.schedule.EventLine.TheVariants as line
 use Rattle.replay_cmd.specs.declared.one_line.AnyLine.{AnyLine}
@@ -33,7 +32,7 @@ use Rattle.replay_cmd.proofs.RowForms.{three_same}
 use Rattle.replay_cmd.proofs.Growing.{count_of, last_of}
 use Rattle.replay_cmd.proofs.LastRow.{last_row, silent_last}
 use Rattle.replay_cmd.proofs.ReadSteps.{no_items}
-use Rattle.replay_cmd.proofs.SameRows.{first_word, second_word, third_word, behind_three, kind_in, kind_is, no_bytes, session_same}
+use Rattle.replay_cmd.proofs.SameRows.{first_word, second_word, third_word, behind_three, kind_is, no_bytes, session_same}
 
 -- ---- names and contents
 
