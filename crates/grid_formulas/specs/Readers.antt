@@ -21,9 +21,13 @@ abbrev pub Covers : ℕ → ℕ → ℕ → ℕ → Type 0
 Covers first last low high =
     (level : ℕ) × ((q : ℕ) → first ≤ q → q ≤ last → (above level q ≡ low) ⊎ (above level q ≡ high))
 
--- each of these places stands below one of the nodes, or is its leaf
+-- the place stands below one of the nodes, or is its leaf
+abbrev pub IsBelow : List ℕ → ℕ → Type 0
+IsBelow nodes q = (level : ℕ) × (has nodes (above level q) ≡ true)
+
+-- each of these places does
 abbrev pub AreBelow : List ℕ → List ℕ → Type 0
-AreBelow nodes places = (q : ℕ) → has places q ≡ true → (level : ℕ) × (has nodes (above level q) ≡ true)
+AreBelow nodes places = (q : ℕ) → has places q ≡ true → IsBelow nodes q
 
 abbrev pub kept_in : Option (BTreeSet ℕ) → ℕ → Bool
 kept_in None reader = false

@@ -14,7 +14,7 @@ use crate::cells::Node;
 use crate::gather::count_reads;
 use crate::links::links_after;
 use crate::nodes::{drop_plain, node_at, nodes_at, put_back, take_over};
-use crate::readers::{keep_at, nodes_of, take_from};
+use crate::readers::{keep_at, nodes_of, set_of, take_from};
 use crate::turn::turn;
 use grid_sheet::{Grid, MOST_CELLS};
 use std::alloc::{AllocError, AllocFailed, Global};
@@ -59,12 +59,13 @@ pub fn set_cell(
     };
     let leaves = nodes_at(alloc, nodes, place)?;
     let stays = nodes_of(alloc, &node.formula)?;
+    let kept = set_of(alloc, &stays)?;
     keep_at(alloc, readers, &stays, place)?;
     let before = nodes.insert(place, node)?;
     match turn(alloc, old, grid, nodes, readers, row, column, place) {
         Ok(change) => {
             take_over(nodes, &change.values, &change.places);
-            take_from(readers, &leaves, &stays, place);
+            take_from(readers, &leaves, &kept, place);
             drop_plain(grid, nodes, place);
             *links = more;
             Ok(change.cells)

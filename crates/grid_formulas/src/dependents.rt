@@ -9,7 +9,7 @@ ghost use Rattle.grid_formulas.specs.Readers.{is_kept};
 ghost use Rattle.grid_formulas.specs.Sheets.{is_in};
 
 use crate::cells::Node;
-use crate::readers::FIRST_LEAF;
+use crate::spans::FIRST_LEAF;
 use crate::{Span, Step, Value};
 use grid_sheet::{MOST_CELLS, MOST_ROWS};
 use std::alloc::{AllocError, Global};

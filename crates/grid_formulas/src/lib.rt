@@ -39,6 +39,7 @@ mod readers;
 mod reference;
 mod settle;
 mod sheet;
+mod spans;
 mod text;
 mod turn;
 mod value;

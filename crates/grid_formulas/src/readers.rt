@@ -1,50 +1,19 @@
-//! Which formulas may read a cell. Places are the leaves of a binary tree. A formula is kept at one
-//! or two nodes for each of its steps, which stand above all cells that the step names and above few
-//! others, so that a range takes no more room than a cell. Who asks for a cell's readers goes up
-//! from its leaf, and asks each formula that is kept there whether it does read the cell.
-ghost use Rattle.std.specs.Prelude.{◌≡◌, ◌≢◌, ◌≤◌, ◌<◌, ◌^◌, ◌⊎◌, true, IfOk, OnOk, ℕ, option_map};
+//! Which formulas may read a cell. Places are the leaves of a binary tree. A formula is kept at the
+//! nodes of its steps, which stand above all cells that it names. Who asks for a cell's readers goes
+//! up from its leaf, and asks each formula that is kept there whether it does read the cell.
+ghost use Rattle.std.specs.Prelude.{◌≡◌, ◌≢◌, ◌⊎◌, true, IfOk, OnOk, ℕ, option_map};
 ghost use Rattle.std.specs.Ordering.{nat_cmp};
 ghost use Rattle.std.specs.BTreeMap.{get};
+ghost use Rattle.std.specs.BTreeSet.{contains};
 ghost use Rattle.grid_formulas.specs.Cells.{reads_if};
-ghost use Rattle.grid_formulas.specs.Places.{has, places_of, reads_of};
-ghost use Rattle.grid_formulas.specs.Readers.{AreBelow, Covers, Grows, IsKeptAt, is_kept};
+ghost use Rattle.grid_formulas.specs.Places.{has, reads_of};
+ghost use Rattle.grid_formulas.specs.Readers.{AreBelow, Grows, IsKeptAt, is_kept};
 
-use crate::{Span, Step};
+use crate::Step;
+use crate::spans::push_nodes;
 use std::alloc::{AllocError, Global};
 use std::collections::{BTreeMap, BTreeSet};
 use wopi_text::Memory;
-
-/// The leaf of the first place. The root is node 1.
-pub const FIRST_LEAF: usize = 134_217_728;
-
-// The lowest two nodes of one level that stand above these places, or the one that does.
-fn cover(first: usize, last: usize) -> (usize, usize)
-    requires order { first ≤ last }
-    requires small { last < 2 ^ 44 }
-    ensures { Covers first last result.0 result.1 }
-{
-    let mut low = FIRST_LEAF + first;
-    let mut high = FIRST_LEAF + last;
-    'levels: while high - low > 1 {
-        low /= 2;
-        high /= 2;
-    }
-    (low, high)
-}
-
-// Adds the nodes above the places of a span.
-fn push_nodes(nodes: &mut Vec<usize>, span: &Span) -> Result<(), AllocError>
-    ensures before { OnOk result ((q : ℕ) → has nodes.old.items q ≡ true → has nodes.new.items q ≡ true) }
-    ensures above { OnOk result (AreBelow nodes.new.items (places_of span.now)) }
-{
-    if span.size == 0 {
-        return Ok(());
-    }
-    let (low, high) = cover(span.first as usize, span.last());
-    nodes.push(low)?;
-    nodes.push(high)?;
-    Ok(())
-}
 
 fn nodes_of_steps(alloc: Global, steps: &[Step]) -> Result<Vec<usize>, AllocError>
     ensures { IfOk result (λ nodes. AreBelow nodes.items (reads_of steps.now)) }
@@ -115,28 +84,28 @@ fn take(readers: &mut BTreeMap<usize, BTreeSet<usize>>, node: usize, reader: usi
     }
 }
 
-fn has(nodes: &[usize], node: usize) -> bool
-    ensures { has nodes.now node ≡ true → result ≡ true }
+/// The set of these nodes.
+pub fn set_of(alloc: Global, nodes: &[usize]) -> Result<BTreeSet<usize>, Memory>
+    ensures { IfOk result (λ set. (n : ℕ) → has nodes.now n ≡ true → contains nat_cmp set n ≡ true) }
 {
-    'nodes: for other in nodes {
-        if *other == node {
-            return true;
-        }
+    let mut set = BTreeSet::new(alloc);
+    'nodes: for node in nodes {
+        set.insert(*node)?;
     }
-    false
+    Ok(set)
 }
 
 /// Takes the reader from each of the nodes that is none of those where it stays.
 pub fn take_from(
     readers: &mut BTreeMap<usize, BTreeSet<usize>>,
     nodes: &[usize],
-    stays: &[usize],
+    stays: &BTreeSet<usize>,
     reader: usize,
 )
-    ensures { (n p : ℕ) → (p ≢ reader) ⊎ (has stays.now n ≡ true) → is_kept (get nat_cmp readers.old) n p ≡ true → is_kept (get nat_cmp readers.new) n p ≡ true }
+    ensures { (n p : ℕ) → (p ≢ reader) ⊎ (contains nat_cmp stays.now n ≡ true) → is_kept (get nat_cmp readers.old) n p ≡ true → is_kept (get nat_cmp readers.new) n p ≡ true }
 {
     'nodes: for node in nodes {
-        if !has(stays, *node) {
+        if !stays.contains(node) {
             take(readers, *node, reader);
         }
     }

@@ -1,4 +1,5 @@
 use Rattle.std.specs.BTreeMap.{get}
+use Rattle.std.specs.BTreeSet.{contains}
 use Rattle.std.specs.Ordering.{nat_cmp}
 use Rattle.std.proofs.Common.{◌≡◌, ◌≢◌, ◌∙◌, ◌⊎◌, ◌<◌, ◌≤◌, ℕ, List, Option, true, ap, option_map, length, min, sym, subst, inl, inr}
 use Rattle.std.proofs.lemmas.Bool.{cases_eq}
@@ -72,9 +73,12 @@ returns-in-Ok-turn-clause-sheet c =
     turning old new (get nat_cmp c.args.nodes.now) mid (get nat_cmp c.args.readers.now) grown c.args.links.now place c.in_ok-node.node
     c.requires.sheet c.rows-rows.ensures.form small same c.keep_at.ensures.grows c.in_ok-node.ensures.formula c.in_ok-node.ensures.value updates.1 (λ q ne. updates.2 q (apart_at q place ne)) in
     let few : link_count (text_at new) ≤ 1000000 = subst (λ z. z ≤ 1000000) c.in-Ok.ensures.counts c.in-Ok.ensures.few in
-    let kept : IsKeptAt grown stays place = subst (λ (l : List ℕ). IsKeptAt grown l place) c.deref.ensures.value c.in_ok-keep_at.ensures.kept in
+    let kept : IsKeptAt grown stays place = subst (λ (l : List ℕ). IsKeptAt grown l place) c.deref-2.ensures.value c.in_ok-keep_at.ensures.kept in
     let left : (n p : ℕ) → (p ≢ place) ⊎ (has stays n ≡ true) → is_kept grown n p ≡ true → is_kept readers n p ≡ true = λ n p other.
-    c.take_from.ensures n p (subst (λ (l : List ℕ). (p ≢ place) ⊎ (has l n ≡ true)) (sym c.deref-in-Ok-turn-3.ensures.value) other) in
+    c.take_from.ensures n p (elim other as (λ _. (p ≢ place) ⊎ (contains nat_cmp c.in_ok-kept.kept n ≡ true)) [
+      | inl ne ↦ inl ne
+      | inr there ↦ inr (c.in_ok-kept.ensures n (subst (λ (l : List ℕ). has l n ≡ true) (sym c.deref.ensures.value) there))
+    ]) in
     let keys : (q : ℕ) → is_in after q ≡ has places q = λ q.
     keys_have c.in-Ok-turn.change.values q ∙ ap (λ (l : List ℕ). has l q) (sym (c.deref-in-Ok-turn.ensures.value ∙ c.in-Ok-turn.ensures.places)) in
     subst (λ (rows : Rows). IsSheet rows nodes readers c.in-Ok.more) (sym c.in-Ok-turn.ensures.grid)

@@ -2,7 +2,7 @@ use Rattle.std.proofs.Common.{List, ℕ, sym, subst, ◌∙◌, ap, ◌++◌, �
 use Rattle.grid_formulas.specs.Places.{places_of}
 use Rattle.grid_formulas.specs.Readers.{AreBelow, Covers, last_of}
 use Rattle.grid_formulas.proofs.Indexed.{two_nodes}
-use Rattle.grid_formulas.proofs.readers.push_nodes.Goals as goal
+use Rattle.grid_formulas.proofs.spans.push_cover.Goals as goal
 
 pub returns-clause-above : goal.returns-clause-above
 returns-clause-above c =

@@ -1,6 +1,6 @@
 use Rattle.std.proofs.Common.{◌≤◌, ◌-◌, suc, arith}
 use Rattle.grid_formulas.proofs.Indexed.{above_mono, above_next, above_zero, covers}
-use Rattle.grid_formulas.proofs.readers.cover.Goals as goal
+use Rattle.grid_formulas.proofs.spans.cover.Goals as goal
 
 pub levels-init : goal.levels-init
 levels-init c = (0, above_zero c.args.first, above_zero c.args.last)

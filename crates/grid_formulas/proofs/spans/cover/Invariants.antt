@@ -1,6 +1,6 @@
 use Rattle.std.proofs.Common.{◌≡◌, ℕ}
 use Rattle.grid_formulas.specs.Readers.{above}
-use Rattle.grid_formulas.proofs.readers.cover.Given as goal
+use Rattle.grid_formulas.proofs.spans.cover.Given as goal
 
 -- the two nodes stand on one level above the first place and the last
 abbrev pub invariant-levels : goal.invariant-levels
