@@ -281,6 +281,24 @@ fn a_set_under_100_000_formulas(rt: HostRuntime) -> Result<(), Fail> {
 }
 
 #[test]
+fn a_set_beside_1_000_ranges(rt: HostRuntime) -> Result<(), Fail> {
+    let alloc = rt.alloc();
+    let mut text = String::new(alloc);
+    text.push_str("1,=A1,=B1,=C1,=D1,=E1,=F1,=G1,=H1,=I1,=SUM(A1:J1)\n")?;
+    for _ in 0..1_000u32 {
+        text.push_str("=SUM(M1:M9)\n")?;
+    }
+    let mut grid = Grid::read(alloc, text.as_bytes())?;
+    let mut sheet = Sheet::new(alloc, &grid)?;
+    let changed = change(alloc, &mut grid, &mut sheet, 1, 1, "5")?;
+    assert_eq!(rt; changed.as_slice().len(), 11);
+    let changed = change(alloc, &mut grid, &mut sheet, 1, 13, "7")?;
+    assert_eq!(rt; changed.as_slice().len(), 1_001);
+    assert_eq!(rt; sheet.value(1_001, 1), Value::Number(7));
+    Ok(())
+}
+
+#[test]
 fn the_list_of_changes(rt: HostRuntime) -> Result<(), Fail> {
     let mut changed = Changed::new(rt.alloc());
     assert!(rt; changed.is_empty());
