@@ -1,7 +1,7 @@
 //! Formula cells: the values of a grid whose cells may be formulas.
 //!
 //! A cell whose bytes begin with `=` is a formula: whole numbers, cells such as `B7`, ranges in
-//! `SUM(A1:C9)`, `+`, `-`, `*` and parentheses. How one is read stands in `specs/Reading.antt`. It
+//! `SUM(A1:C9)`, `+`, `-`, `*` and parentheses. Their grammar stands in `specs/Grammar.antt`. One
 //! is kept in postfix order, and its value, over the values of the cells that it reads, is that of
 //! a stack machine (`specs/Values.antt`).
 //!
@@ -17,7 +17,7 @@
 //!
 //! A sheet keeps a copy of its grid and, for each cell, where the formulas that may read it are kept.
 //! To set a cell looks at that cell, at those that read it, at those that read one of them, and so
-//! on, and at no other.
+//! on; besides at formulas that read a range of many rows beside one of these cells.
 #![tactic(auto)]
 
 mod cells;

@@ -169,12 +169,16 @@ fn signs_and_parentheses_nest_64_deep(rt: HostRuntime) -> Result<(), Fail> {
 fn a_chain_of_100_000_cells(rt: HostRuntime) -> Result<(), Fail> {
     let alloc = rt.alloc();
     let mut text = String::new(alloc);
-    text.push_str("1\n")?;
-    for row in 1..100_000u32 {
+    for row in 2..100_001u32 {
         text.push_str(&format!(in alloc; "=A{row}+1\n")?)?;
     }
-    let sheet = sheet_of(alloc, &text)?;
-    assert_eq!(rt; sheet.value(100_000, 1), Value::Number(100_000));
+    text.push_str("1\n")?;
+    let mut grid = Grid::read(alloc, text.as_bytes())?;
+    let mut sheet = Sheet::new(alloc, &grid)?;
+    assert_eq!(rt; sheet.value(1, 1), Value::Number(100_000));
+    let changed = change(alloc, &mut grid, &mut sheet, 100_000, 1, "5")?;
+    assert_eq!(rt; changed.as_slice().len(), 100_000);
+    assert_eq!(rt; sheet.value(1, 1), Value::Number(100_004));
     Ok(())
 }
 

@@ -34,6 +34,9 @@ const HEAD_LIMIT: usize = 16_384;
 /// The most bytes of a body that a schedule has.
 const BODY_LIMIT: usize = 65_536;
 
+/// The most bytes of a reply's body that is read back.
+const REPLY_LIMIT: usize = 16_777_216;
+
 /// Room for what the host writes before a body, and for the head of a reply.
 const ROOM: usize = 4_096;
 
@@ -215,7 +218,7 @@ fn has_phrase(status: u16) -> bool
     ensures { result ≡ true → 0 < length (phrase_of status) }
 {
     match status {
-        200 | 400 | 401 | 404 | 409 | 413 | 501 | 503 => true,
+        200 | 400 | 401 | 404 | 409 | 412 | 413 | 501 | 503 => true,
         _ => false,
     }
 }
@@ -261,7 +264,7 @@ fn is_tellable(answer: &Answer) -> bool
         return false;
     }
     let body = answer.body.as_slice();
-    if body.len() > BODY_LIMIT {
+    if body.len() > REPLY_LIMIT {
         return false;
     }
     if !has_lock_id(&answer.lock) {

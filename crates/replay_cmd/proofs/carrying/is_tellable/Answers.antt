@@ -11,5 +11,5 @@ returns c = λ h.
         kind = subst (λ (l : List ℕ). 0 < length l → c.args.answer.now.kind ≢ kind.None) c.as_slice-body.ensures (c.has_kind.ensures h);
       };
       phrase = c.has_phrase.ensures c.if-not-has_phrase.false;
-      small = omega (arith, c.if-body-gt-BODY_LIMIT.false, ap length c.as_slice-body.ensures);
+      small = omega (arith, c.if-body-gt-REPLY_LIMIT.false, ap length c.as_slice-body.ensures);
     }
