@@ -12,7 +12,9 @@ fn name(rt: &impl Abort, text: &[u8]) -> FileName {
 fn a_name_has_its_number_until_it_is_removed(rt: HostRuntime) -> Result<(), Fail> {
     let mut index = NameIndex::new(rt.alloc());
     index.add(name(&rt, b"b.csv"), 0).map_err(|_| "memory")?;
-    index.add(name(&rt, b"a.csv"), 1).map_err(|_| "memory")?;
+    let second = name(&rt, b"a.csv");
+    assert_eq!(rt; index.find(&second), None);
+    index.add(second, 1).map_err(|_| "memory")?;
     assert_eq!(rt; index.find(&name(&rt, b"b.csv")), Some(0));
     assert_eq!(rt; index.find(&name(&rt, b"a.csv")), Some(1));
     assert_eq!(rt; index.find(&name(&rt, b"c.csv")), None);
