@@ -27,7 +27,7 @@ fn want_of_memory_for_the_stop_file_is_no_missing_path(rt: HostRuntime) -> Resul
     Ok(())
 }
 
-// A listener in memory with so many empty links, whose second accept fails.
+// A listener in memory with so many empty links, whose third accept fails.
 fn wires(alloc: Global, count: usize) -> Result<MemListener<Wire>, Fail> {
     let mut links = Vec::new(alloc);
     for _ in 0..count {
@@ -35,7 +35,7 @@ fn wires(alloc: Global, count: usize) -> Result<MemListener<Wire>, Fail> {
         let output = MemSink::new(alloc, 0, Vec::new(alloc))?;
         links.push(Pair::new(input, output))?;
     }
-    Ok(MemListener::new(alloc, links, [2u64].as_slice().to_vec(alloc)?)?)
+    Ok(MemListener::new(alloc, links, [3u64].as_slice().to_vec(alloc)?)?)
 }
 
 // Whether a link was accepted; it is finished at once.
@@ -87,7 +87,8 @@ fn a_stop_file_that_is_there_first_closes_a_listener(rt: HostRuntime) -> Result<
 
 #[test]
 fn with_no_stop_file_a_fault_of_a_listener_closes_it(rt: HostRuntime) -> Result<(), Fail> {
-    let mut listener = StopListener::new(&rt, None, wires(rt.alloc(), 1)?);
+    let mut listener = StopListener::new(&rt, None, wires(rt.alloc(), 2)?);
+    assert_eq!(rt; takes_one(&mut listener), Ok(true));
     assert_eq!(rt; takes_one(&mut listener), Ok(true));
     assert_eq!(rt; takes_one(&mut listener), Err(OutFault::Failed));
     assert_eq!(rt; takes_one(&mut listener), Ok(false));
