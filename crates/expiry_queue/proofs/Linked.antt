@@ -162,7 +162,7 @@ middle slots key waiting s h =
     ap (node_at slots) (sym s.here) ∙ parts.1.0
 
 -- a list cut at a key, whose node is that
-pub record Cut (slots : Slots) (key : ℕ) (waiting : List Waiting) (node : Node) : Type 0 where
+pub record CutAt (slots : Slots) (key : ℕ) (waiting : List Waiting) (node : Node) : Type 0 where
   pub at : Splits key waiting
   pub before_is : node.before ≡ last_key None at.before
   pub after_is : node.after ≡ first_key at.after None
@@ -173,7 +173,7 @@ pub record Cut (slots : Slots) (key : ℕ) (waiting : List Waiting) (node : Node
   pub since_is : node.since ≡ at.one.since
 
 pub cut : (links : Links) (key : ℕ) (node : Node) (waiting : List Waiting) → IsLinked links waiting → has_key key waiting ≡ true → node_at links.nodes.slots key ≡ Some node
-    → Cut links.nodes.slots key waiting node
+    → CutAt links.nodes.slots key waiting node
 cut links key node waiting linked live at =
     let s = splits key waiting linked.keys live in
     let parts = stands_split links.nodes.slots None s.before (s.one ∷ s.after) None (subst (λ (l : List Waiting). StandsIn links.nodes.slots None l None) s.is linked.stands) in
@@ -194,16 +194,16 @@ is_there links key waiting linked live =
     let s = splits key waiting linked.keys live in
     (node_of s.one (last_key None s.before) (first_key s.after None), middle links.nodes.slots key waiting s linked.stands)
 
-pub there_before : (slots : Slots) (key : ℕ) (waiting : List Waiting) (node : Node) → Cut slots key waiting node → IsThere slots node.before
+pub there_before : (slots : Slots) (key : ℕ) (waiting : List Waiting) (node : Node) → CutAt slots key waiting node → IsThere slots node.before
 there_before slots key waiting node c = subst (IsThere slots) (sym c.before_is) (there_last slots c.at.before (Some c.at.one.key) c.front)
 
 back_kept : (old mid : Slab Node) (key : ℕ) (waiting : List Waiting) (node : Node) (change : Node → Node) → Changes old mid node.before change
-    → (c : Cut old.slots key waiting node) → StandsIn mid.slots (Some c.at.one.key) c.at.after None
+    → (c : CutAt old.slots key waiting node) → StandsIn mid.slots (Some c.at.one.key) c.at.after None
 back_kept old mid key waiting node change changes c =
     stands_kept old.slots mid.slots (Some c.at.one.key) c.at.after None
     (λ k there. changes.others k (λ e. not_last k c.at.before (c.parts.not_front k (or_second (c.at.one.key == k) (has_key k c.at.after) there)) (e ∙ c.before_is))) c.back
 
-pub there_after : (old mid : Slab Node) (key : ℕ) (waiting : List Waiting) (node : Node) (change : Node → Node) → Cut old.slots key waiting node → Changes old mid node.before change → IsThere mid.slots node.after
+pub there_after : (old mid : Slab Node) (key : ℕ) (waiting : List Waiting) (node : Node) (change : Node → Node) → CutAt old.slots key waiting node → Changes old mid node.before change → IsThere mid.slots node.after
 there_after old mid key waiting node change c changes =
     subst (IsThere mid.slots) (sym c.after_is) (there_first mid.slots (Some c.at.one.key) c.at.after (back_kept old mid key waiting node change changes c))
 

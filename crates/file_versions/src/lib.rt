@@ -18,7 +18,7 @@ use std::marker::Model;
 use wopi_text::{Bytes, Memory};
 
 /// The most bytes that are kept: 256 MiB.
-const MOST_KEPT: u64 = 268_435_456;
+pub const MOST_KEPT: u64 = 268_435_456;
 
 /// The contents of one version of one file. `number` stands for the file's name.
 #[derive(Drop)]

@@ -13,7 +13,7 @@ use Rattle.grid_editor.specs.declared.script.ScriptFault.{ScriptFault}
 use Rattle.grid_editor.specs.declared.script.ScriptFault.TheVariants.{BadCommand, Memory}
 use Rattle.grid_editor.specs.Commands.{Says, IsIdle}
 use Rattle.grid_editor.specs.Scripts.{AreGood, IsBad, IsFirstBad, IsRead, IsShort, SayAll, lines_of, most_bytes, most_lines, onto_first}
-use Rattle.grid_editor.specs.Reading.{IsLine, IsSoFar, IsTaken, Adds, Ends, IsLineFault, room_of}
+use Rattle.grid_editor.specs.Reading.{IsLine, IsSoFar, IsReadThrough, Adds, Ends, IsLineFault, room_of}
 
 -- ---- lines
 
@@ -163,7 +163,7 @@ bad_line whole old done after number lines good count bad = record {
   bad = bad.1;
 }
 
-pub feed_bad : (text : List ℕ) (old new : Reader) (fault : ScriptFault) → IsSoFar text old → IsLineFault old fault → IsTaken (text ++ 10 ∷ []) new (Err fault)
+pub feed_bad : (text : List ℕ) (old new : Reader) (fault : ScriptFault) → IsSoFar text old → IsLineFault old fault → IsReadThrough (text ++ 10 ∷ []) new (Err fault)
 feed_bad text old new (BadCommand number) so bad = λ more.
     bad_line ((text ++ 10 ∷ []) ++ more) old so.done (lines_of more) number
     (ap lines_of (append_assoc text (10 ∷ []) more) ∙ so.splits (10 ∷ more) ∙ ap (λ l. so.done ++ l) (lines_of-feed (bytes old) more so.line_is)) so.good so.count bad
@@ -209,13 +209,13 @@ begun reader none zero_lines empty =
 
 -- ---- results
 
-fed : (text : List ℕ) (old new : Reader) (r : Result (Unit {0}) ScriptFault) → IsSoFar text old → OnOk r (Ends old new) → IfErr r (IsLineFault old) → IsTaken (text ++ 10 ∷ []) new r
+fed : (text : List ℕ) (old new : Reader) (r : Result (Unit {0}) ScriptFault) → IsSoFar text old → OnOk r (Ends old new) → IfErr r (IsLineFault old) → IsReadThrough (text ++ 10 ∷ []) new r
 fed text old new (Ok u) so ends fine = feed_taken text old new so ends
 fed text old new (Err fault) so fine bad = feed_bad text old new fault so bad
 
 pub feed_result : (text : List ℕ) (old new : Reader) (b : ℕ) (r : Result (Unit {0}) ScriptFault) → b ≡ 10 → IsSoFar text old → OnOk r (Ends old new) → IfErr r (IsLineFault old)
-    → IsTaken (text ++ b ∷ []) new r
-feed_result text old new b r is so ok refused = subst (λ x. IsTaken (text ++ x ∷ []) new r) (sym is) (fed text old new r so ok refused)
+    → IsReadThrough (text ++ b ∷ []) new r
+feed_result text old new b r is so ok refused = subst (λ x. IsReadThrough (text ++ x ∷ []) new r) (sym is) (fed text old new r so ok refused)
 
 -- a line that has come to its end leaves room for less
 pub ends_room : (old new : Reader) (r : Result (Unit {0}) ScriptFault) → OnOk r (Ends old new) → OnOk r (room_of new + 1 ≤ room_of old)
@@ -242,7 +242,7 @@ pub nothing_taken : (left : Option (List ℕ)) (reader : Reader) → IsSoFar [] 
 nothing_taken left reader so = record { front = []; consumed = consumes_none left; so_far = so }
 
 pub taken_on : (left mid left' : Option (List ℕ)) (old new : Reader) (piece : List ℕ) → HasTaken left mid old → Consumes mid left' piece
-    → ((text : List ℕ) → IsSoFar text old → IsTaken (text ++ piece) new (Ok tt)) → HasTaken left left' new
+    → ((text : List ℕ) → IsSoFar text old → IsReadThrough (text ++ piece) new (Ok tt)) → HasTaken left left' new
 taken_on left mid left' old new piece so consumed took =
     record { front = so.front ++ piece; consumed = take_on left mid left' so.front piece so.consumed consumed; so_far = took so.front so.so_far }
 
@@ -252,7 +252,7 @@ whole_of (Some left) None front consumed = absurd consumed
 whole_of (Some left) (Some rest) front consumed = (rest, consumed)
 
 pub bad_input : (left mid left' : Option (List ℕ)) (old new : Reader) (piece : List ℕ) (fault : ScriptFault) → HasTaken left mid old → Consumes mid left' piece
-    → ((text : List ℕ) → IsSoFar text old → IsTaken (text ++ piece) new (Err fault)) → IsInputRead left (Err (fault_of fault))
+    → ((text : List ℕ) → IsSoFar text old → IsReadThrough (text ++ piece) new (Err fault)) → IsInputRead left (Err (fault_of fault))
 bad_input left mid left' old new piece Memory so consumed took = tt
 bad_input left mid left' old new piece (BadCommand number) so consumed took =
     let whole = whole_of left left' (so.front ++ piece) (take_on left mid left' so.front piece so.consumed consumed) in
@@ -274,13 +274,13 @@ whole_input left left' old (Err Memory) so end reads = tt
 -- ---- faults
 
 pub byte_refused : (text : List ℕ) (old new : Reader) (b : ℕ) (f : ScriptFault) → f ≡ BadCommand (old.lines + 1) → IsSoFar text old → b ≢ 10
-    → (most_lines ≤ old.lines) ⊎ (most_bytes ≤ length (bytes old)) → IsTaken (text ++ b ∷ []) new (Err f)
+    → (most_lines ≤ old.lines) ⊎ (most_bytes ≤ length (bytes old)) → IsReadThrough (text ++ b ∷ []) new (Err f)
 byte_refused text old new b f is so other past =
-    subst (λ x. IsTaken (text ++ b ∷ []) new (Err x)) (sym is) (byte_bad text old b (old.lines + 1) so other past refl)
+    subst (λ x. IsReadThrough (text ++ b ∷ []) new (Err x)) (sym is) (byte_bad text old b (old.lines + 1) so other past refl)
 
 -- what was bad stays so, however the piece goes on
 pub bad_stays : (text piece : List ℕ) (i b : ℕ) (new last : Reader) (fault : ScriptFault) → i < length piece → b ≡ get_or piece i 0
-    → IsTaken ((text ++ take i piece) ++ b ∷ []) new (Err fault) → IsTaken (text ++ piece) last (Err fault)
+    → IsReadThrough ((text ++ take i piece) ++ b ∷ []) new (Err fault) → IsReadThrough (text ++ piece) last (Err fault)
 bad_stays text piece i b new last Memory within is bad = tt
 bad_stays text piece i b new last (BadCommand number) within is bad = λ more.
     let front = take (i + 1) piece in
@@ -292,6 +292,6 @@ bad_stays text piece i b new last (BadCommand number) within is bad = λ more.
     ∙ ap (λ l. text ++ (l ++ more)) (take-append-drop (i + 1) piece) ∙ sym (append_assoc text piece more) in
     subst (λ l. IsFirstBad l number) whole (bad (rest ++ more))
 
-pub taken_read : (text : List ℕ) (new : Reader) (fault : ScriptFault) → IsTaken text new (Err fault) → IsRead text (Err fault)
+pub taken_read : (text : List ℕ) (new : Reader) (fault : ScriptFault) → IsReadThrough text new (Err fault) → IsRead text (Err fault)
 taken_read text new Memory bad = tt
 taken_read text new (BadCommand number) bad = subst (λ l. IsFirstBad l number) (append-nil text) (bad [])

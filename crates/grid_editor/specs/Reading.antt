@@ -23,10 +23,10 @@ pub record IsSoFar (text : List ℕ) (reader : Reader) : Type 0 where
   pub room : 0 < length reader.line.items → reader.lines < most_lines
 
 -- what was taken up to here, or the first bad line, however the text goes on
-abbrev pub IsTaken : List ℕ → Reader → Result (Unit {0}) ScriptFault → Type 0
-IsTaken text reader (Ok _) = IsSoFar text reader
-IsTaken text reader (Err (BadCommand number)) = (more : List ℕ) → IsFirstBad (text ++ more) number
-IsTaken text reader (Err Memory) = ⊤
+abbrev pub IsReadThrough : List ℕ → Reader → Result (Unit {0}) ScriptFault → Type 0
+IsReadThrough text reader (Ok _) = IsSoFar text reader
+IsReadThrough text reader (Err (BadCommand number)) = (more : List ℕ) → IsFirstBad (text ++ more) number
+IsReadThrough text reader (Err Memory) = ⊤
 
 -- how many bytes more there may be at most
 abbrev pub room_of : Reader → ℕ

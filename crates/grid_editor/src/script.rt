@@ -3,7 +3,7 @@ ghost use Rattle.std.specs.Prelude.{◌≡◌, ◌↔◌, IsTrue, ◌+◌, ◌�
 ghost use Rattle.grid_editor.specs.Commands.{IsIdle};
 ghost use Rattle.grid_editor.specs.Scripts.{IsRead, most_lines};
 ghost use Rattle.grid_editor.specs.declared.script.ScriptFault.TheVariants.{BadCommand};
-ghost use Rattle.grid_editor.specs.Reading.{Adds, Ends, IsLineFault, IsSoFar, IsTaken, IsUnread, room_of};
+ghost use Rattle.grid_editor.specs.Reading.{Adds, Ends, IsLineFault, IsSoFar, IsReadThrough, IsUnread, room_of};
 
 use crate::command::Command;
 use crate::words::command_in;
@@ -178,7 +178,7 @@ impl Reader {
     pub(crate) fn take_all(&mut self, piece: &[u8]) -> Result<(), ScriptFault>
         requires { self.old.lines ≤ most_lines }
         ensures few { self.new.lines ≤ most_lines }
-        ensures taken { (text : List ℕ) → IsSoFar text self.old → IsTaken (text ++ piece.now) self.new result }
+        ensures taken { (text : List ℕ) → IsSoFar text self.old → IsReadThrough (text ++ piece.now) self.new result }
         ensures smaller { OnOk result (room_of self.new + length piece.now ≤ room_of self.old) }
     {
         'bytes: for byte in piece {
@@ -194,7 +194,7 @@ impl Reader {
     fn take(&mut self, byte: u8) -> Result<(), ScriptFault>
         requires { self.old.lines ≤ most_lines }
         ensures few { self.new.lines ≤ most_lines }
-        ensures taken { (text : List ℕ) → IsSoFar text self.old → IsTaken (text ++ byte ∷ []) self.new result }
+        ensures taken { (text : List ℕ) → IsSoFar text self.old → IsReadThrough (text ++ byte ∷ []) self.new result }
         ensures smaller { OnOk result (room_of self.new + 1 ≤ room_of self.old) }
     {
         if byte == b'\n' {

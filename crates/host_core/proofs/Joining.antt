@@ -9,9 +9,9 @@ use Rattle.file_versions.specs.Versions.{found}
 use Rattle.kept_locks.specs.Locks.{Standing, unlocked, ended_at, all_ended}
 use Rattle.kept_locks.specs.Whole.{ended_file}
 use Rattle.host_core.specs.declared.file.KeptFile.{KeptFile}
-use Rattle.host_core.specs.Archive.{AreHeld, IsStocked, AreOpened, AreKept, AreWithin, IsArchive, names_of}
+use Rattle.host_core.specs.Archive.{AreHeld, IsStocked, AreOpeningFiles, AreKept, AreWithin, IsArchive, names_of}
 use Rattle.host_core.specs.Entries.{Made}
-use Rattle.host_core.specs.Files.{file_of, is_named, files_of, torn_in, IsHeld}
+use Rattle.host_core.specs.Files.{file_of, is_named, files_of, torn_in, IsKeptUnder}
 use Rattle.host_core.specs.Numbers.{named}
 use Rattle.host_core.specs.Whole.{Whole, whole, standing_at, joined}
 
@@ -144,7 +144,7 @@ contents_any files ss ss' name =
     ∙ read_any (λ (w : Whole). w.contents) None (λ k s s'. refl) files ss ss' name
     ∙ sym (field (λ (f : File). f.contents) (first_of (is_named name) (joined files ss')))
 
-pub held_as : (number : ℕ) (k : KeptFile) (s s' : Standing) (versions : List Version) → IsHeld number (whole k s) versions → IsHeld number (whole k s') versions
+pub held_as : (number : ℕ) (k : KeptFile) (s s' : Standing) (versions : List Version) → IsKeptUnder number (whole k s) versions → IsKeptUnder number (whole k s') versions
 held_as number k s s' versions held = record { current = held.current; later = held.later }
 
 held_any : (number : ℕ) (files : List KeptFile) (ss ss' : List Standing) (versions : List Version) → AreHeld number (joined files ss) versions → AreHeld number (joined files ss') versions
@@ -172,7 +172,7 @@ archive_any opening made files ss ss' versions archive =
     let same : names_of (joined files ss) ≡ names_of (joined files ss') = names_joined files ss ∙ sym (names_joined files ss') in
     record {
       stocked = stocked_any files ss ss' versions archive.stocked;
-      opened = subst (λ (n : List (List ℕ)). AreOpened 0 opening n versions) same archive.opened;
+      opened = subst (λ (n : List (List ℕ)). AreOpeningFiles 0 opening n versions) same archive.opened;
       kept = subst (λ (n : List (List ℕ)). AreKept made n versions) same archive.kept;
       within = within_any (1 + length made) files ss ss' archive.within;
     }

@@ -18,7 +18,7 @@ use Rattle.kept_locks.specs.Ties.{BeganBy}
 use Rattle.host_core.specs.declared.accept.Carried.{Carried}
 use Rattle.host_core.specs.declared.carry.Uncarried.{Uncarried}
 use Rattle.host_core.specs.declared.file.KeptFile.{KeptFile}
-use Rattle.host_core.specs.Archive.{IsStocked, AreOpened, AreWithin, IsKept, names_of, place_in}
+use Rattle.host_core.specs.Archive.{IsStocked, AreOpeningFiles, AreWithin, IsKept, names_of, place_in}
 use Rattle.host_core.specs.declared.store.StoreRefusal.TheVariants as refusal
 use Rattle.file_versions.specs.Versions.{kept_in}
 use Rattle.host_core.proofs.Decisions.{keeps_self}
@@ -216,7 +216,7 @@ still_all folder v before after call opened now uncarried e stocked handed never
   full = λ h. absurd (never h);
   stays = record {
     stocked = subst (λ (l : List Whole). IsStocked l v) (sym e) stocked;
-    opened = λ opening h. subst (λ (l : List Whole). AreOpened 0 opening (names_of l) v) (sym e) h;
+    opened = λ opening h. subst (λ (l : List Whole). AreOpeningFiles 0 opening (names_of l) v) (sym e) h;
     kept = λ call ruling h. subst (λ (l : List Whole). IsKept call ruling (names_of l) v) (sym e) h;
   };
   within = λ most h. subst (AreWithin most) (sym e) h;
@@ -237,7 +237,7 @@ stopped_new folder folder' v v' before after k k' call opened now uncarried e st
       full = λ h. subst (λ (f : File). IsNoRoomFor f (kept_in v) call opened now) (sym was) (stops.full h);
       stays = record {
         stocked = subst (λ (l : List Whole). IsStocked l v') (sym e) (subst (IsStocked before) (sym stops.stay) stocked);
-        opened = λ opening h. subst (λ (l : List Whole). AreOpened 0 opening (names_of l) v') (sym e) (subst (AreOpened 0 opening (names_of before)) (sym stops.stay) h);
+        opened = λ opening h. subst (λ (l : List Whole). AreOpeningFiles 0 opening (names_of l) v') (sym e) (subst (AreOpeningFiles 0 opening (names_of before)) (sym stops.stay) h);
         kept = λ call ruling h. subst (λ (l : List Whole). IsKept call ruling (names_of l) v') (sym e) (subst (IsKept call ruling (names_of before)) (sym stops.stay) h);
       };
       within = λ most h. subst (AreWithin most) (sym e) h;

@@ -5,7 +5,7 @@ use Rattle.std.proofs.lemmas.List.Sums.{sum_by_push}
 use Rattle.std.proofs.lemmas.Slice.Eq.{bytes_eq-Decides}
 use Rattle.std.specs.Str.{bytes_eq}
 use Rattle.wopi_text.proofs.Disjunctions.{or_none}
-use Rattle.host_core.specs.Opening.{IsTaken}
+use Rattle.host_core.specs.Opening.{MayKeep}
 use Rattle.host_core.specs.Archive.{IsArchive, AreKept, AreWithin, IsKept, StaysKept, names_of}
 use Rattle.wopi_model.specs.Shard.{Opening}
 use Rattle.outside.specs.Folder.{Files}
@@ -71,7 +71,7 @@ both b h e = cc
 
 -- after a step the folder agrees with the files after it
 pub agrees-step : (only : Option ℕ) (start now now' : Option Files) (files files' : List Whole) (call : Call) (opened time : ℕ) (ruling : Ruling) → Agrees only start now (files_of files) (torn_in files)
-    → IsTaken only call.name → TakesStep files files' call opened time ruling → StoresAs now now' call ruling → Agrees only start now' (files_of files') (torn_in files')
+    → MayKeep only call.name → TakesStep files files' call opened time ruling → StoresAs now now' call ruling → Agrees only start now' (files_of files') (torn_in files')
 agrees-step only None None None files files' call opened time ruling agrees own takes stores = tt
 agrees-step only None None (Some now') files files' call opened time ruling agrees own takes stores = absurd stores.others
 agrees-step only None (Some now) now' files files' call opened time ruling agrees own takes stores = absurd agrees
@@ -79,7 +79,7 @@ agrees-step only (Some start) None now' files files' call opened time ruling agr
 agrees-step only (Some start) (Some now) None files files' call opened time ruling agrees own takes stores = absurd stores.others
 agrees-step only (Some start) (Some now) (Some now') files files' call opened time ruling agrees own takes stores = (
   λ name named whole. tells name named (bytes_eq call.name name) refl (sym (takes.torn name) ∙ whole) ∙ sym (ap (λ (f : File). f.contents) (takes.files name)),
-  λ name foreign. stores.others name (λ e. foreign (subst (IsTaken only) (sym e) own)) ∙ agrees.1 name foreign,
+  λ name foreign. stores.others name (λ e. foreign (subst (MayKeep only) (sym e) own)) ∙ agrees.1 name foreign,
 )
   where
     -- the file of the call
@@ -96,7 +96,7 @@ agrees-step only (Some start) (Some now) (Some now') files files' call opened ti
         ∙ sym (contents-step (settled (files_of files call.name) time) call opened time ruling takes.outcome done
         ∙ ap (λ (b : Bool). if b then brought call.act else (files_of files call.name).contents) e)
 
-    tells : (name : List ℕ) → IsTaken only name → (b : Bool) → bytes_eq call.name name ≡ b
+    tells : (name : List ℕ) → MayKeep only name → (b : Bool) → bytes_eq call.name name ≡ b
         → (if bytes_eq call.name name then torn_after (torn_in files call.name) call.act ruling else torn_in files name) ≡ false
         → now' name ≡ (if bytes_eq call.name name then after_step (settled (files_of files call.name) time) call opened time ruling else files_of files name).contents
     tells name named true e whole =
@@ -163,7 +163,7 @@ agrees-state only (Some start) (Some now) files state torn torn' same tears agre
 -- the shard after a step
 pub stands-step : {F : Type 0} (book : Book F) (before after : Ledger) (start now now' : Option Files) (began count count' : ℕ) (call : Call) (pass floor moment : ℕ) (ruling : Ruling) (folder' : F)
     → Stands book before.last before.first_files (files_in before) before.versions.list start now began count
-    → book.opened ≡ before.opened → book.time ≡ before.time → IsMoment moment → IsTaken book.only call.name → length book.made ≢ book.capacity
+    → book.opened ≡ before.opened → book.time ≡ before.time → IsMoment moment → MayKeep book.only call.name → length book.made ≢ book.capacity
     → Takes before after call pass floor moment ruling → StoresAs now now' call ruling → count ≤ count' → (ruling.status ≡ 500 → Rose count count')
     → Stands (record book { made = book.made ++ made_by before call pass floor moment ruling ∷ []; time = max book.time moment; folder = folder' })
     after.last after.first_files (files_in after) after.versions.list start now' began count'

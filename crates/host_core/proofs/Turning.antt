@@ -12,19 +12,19 @@ use Rattle.wopi_model.specs.declared.locks.Judged.{Judged}
 use Rattle.wopi_model.specs.Settle.{standing, is_over}
 use Rattle.kept_locks.specs.Locks.{Standing, unlocked, ended_at, all_ended, stepped, with_lock}
 use Rattle.kept_locks.specs.Ties.{BeganBy, GoesOn, Spends}
-use Rattle.host_core.specs.Turns.{Follows, SpendsOf, Ends}
+use Rattle.host_core.specs.Turns.{LockFollows, SpendsOf, Ends}
 use Rattle.host_core.specs.Whole.{standing_at}
 use Rattle.host_core.proofs.Joining.{stands_at, stands_ended}
 
-pub follows_same : (lock : Option Lock) (now : ℕ) → Follows lock lock now
+pub follows_same : (lock : Option Lock) (now : ℕ) → LockFollows lock lock now
 follows_same None now = tt
 follows_same (Some lock) now = inl refl
 
-relocked : (old : Lock) (b : Bool) (one two : Lock) (now : ℕ) → one.since ≡ now → two.since ≡ now → Follows (Some old) (if b then Some one else Some two) now
+relocked : (old : Lock) (b : Bool) (one two : Lock) (now : ℕ) → one.since ≡ now → two.since ≡ now → LockFollows (Some old) (if b then Some one else Some two) now
 relocked old true one two now e h = inr e
 relocked old false one two now e h = inr h
 
-pub follows_after : (lock : Option Lock) (asked : LockAct) (expires now : ℕ) → Follows lock (lock_after lock asked expires now) now
+pub follows_after : (lock : Option Lock) (asked : LockAct) (expires now : ℕ) → LockFollows lock (lock_after lock asked expires now) now
 follows_after None (asks.Lock id) expires now = refl
 follows_after None _ expires now = tt
 follows_after (Some lock) (asks.Lock id) expires now = inr refl
@@ -64,13 +64,13 @@ began_ended ss now moment began = λ number file lock at is.
 there_ended : (ss : List Standing) (number now : ℕ) → number < length ss → slice_get (all_ended now ss) number ≡ Some (ended_at now (standing_at ss number))
 there_ended ss number now lt = slice_get-map (ended_at now) ss number ∙ ap (option_map (ended_at now)) (stands_at ss number lt)
 
-pub goes_on : (ss : List Standing) (number now : ℕ) (lock : Option Lock) → number < length ss → BeganBy now ss → Follows (standing (standing_at ss number).lock now) lock now → GoesOn (all_ended now ss) number lock
+pub goes_on : (ss : List Standing) (number now : ℕ) (lock : Option Lock) → number < length ss → BeganBy now ss → LockFollows (standing (standing_at ss number).lock now) lock now → GoesOn (all_ended now ss) number lock
 goes_on ss number now None lt began follows = tt
 goes_on ss number now (Some lock) lt began follows = go (standing (standing_at ss number).lock now) refl follows where
   new : lock.since ≡ now → GoesOn (all_ended now ss) number (Some lock)
   new e = inr (subst (λ (m : ℕ). BeganBy m (all_ended now ss)) (sym e) (began_ended ss now now began))
 
-  go : (old : Option Lock) → standing (standing_at ss number).lock now ≡ old → Follows old (Some lock) now → GoesOn (all_ended now ss) number (Some lock)
+  go : (old : Option Lock) → standing (standing_at ss number).lock now ≡ old → LockFollows old (Some lock) now → GoesOn (all_ended now ss) number (Some lock)
   go None e h = new h
   go (Some held) e (inl same) = inl (ended_at now (standing_at ss number), held, there_ended ss number now lt, e, same)
   go (Some held) e (inr h) = new h
@@ -127,13 +127,13 @@ began_set (s ∷ ss) zero lock spend now began new (suc n) file one at is = bega
 began_set (s ∷ ss) (suc number) lock spend now began new zero file one at is = began zero file one at is
 began_set (s ∷ ss) (suc number) lock spend now began new (suc n) file one at is = began_set ss number lock spend now (λ m. began (suc m)) new n file one at is
 
-pub new_by : (ss : List Standing) (number now : ℕ) (lock : Option Lock) → number < length ss → BeganBy now ss → Follows (standing (standing_at ss number).lock now) lock now → (one : Lock) → lock ≡ Some one → one.since ≤ now
+pub new_by : (ss : List Standing) (number now : ℕ) (lock : Option Lock) → number < length ss → BeganBy now ss → LockFollows (standing (standing_at ss number).lock now) lock now → (one : Lock) → lock ≡ Some one → one.since ≤ now
 new_by ss number now None lt began follows one e = absurd (cc)
 new_by ss number now (Some lock) lt began follows one e = go (standing (standing_at ss number).lock now) refl follows where
   same : lock.since ≡ one.since
   same = cc
 
-  go : (old : Option Lock) → standing (standing_at ss number).lock now ≡ old → Follows old (Some lock) now → one.since ≤ now
+  go : (old : Option Lock) → standing (standing_at ss number).lock now ≡ old → LockFollows old (Some lock) now → one.since ≤ now
   go None is h = omega (arith, same, h)
   go (Some held) is (inl h) = let by = began number (standing_at ss number) held (stands_at ss number lt) (stood (standing_at ss number).lock now held is) in omega (arith, same, h, by)
   go (Some held) is (inr h) = omega (arith, same, h)

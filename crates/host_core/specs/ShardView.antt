@@ -12,13 +12,13 @@ use Rattle.host_core.specs.Numbers.{named, IsNumbered}
 use Rattle.host_core.specs.Whole.{joined}
 use Rattle.host_core.specs.Value.{Book, Left}
 
-abbrev pub opening_of : List OpeningFile → Opening
-opening_of files = map (λ file. (file.name, file.contents)) files
+abbrev pub opening_listed : List OpeningFile → Opening
+opening_listed files = map (λ file. (file.name, file.contents)) files
 
 abbrev pub book_of : {F : Type 0} → Inside F → Book F
 book_of s = record {
   only = s.only.value;
-  opening = opening_of s.opening.value.items;
+  opening = opening_listed s.opening.value.items;
   opened = s.ledger.opened;
   capacity = s.ledger.capacity;
   made = s.ledger.entries.items;
@@ -29,13 +29,13 @@ book_of s = record {
 }
 
 abbrev pub left_of : {F : Type 0} → past.Inside F → Left F
-left_of p = record { opening = opening_of p.opening.value.items; made = p.entries.items; start = p.start.value }
+left_of p = record { opening = opening_listed p.opening.value.items; made = p.entries.items; start = p.start.value }
 
 -- what a shard leaves has its contents among its versions, and the numbers of its names in its index
 pub record IsLeft {F : Type 0} (p : past.Inside F) : Type 0 where
-  pub archive : IsArchive (opening_of p.opening.value.items) p.entries.items (joined p.files.items []) p.versions.list
+  pub archive : IsArchive (opening_listed p.opening.value.items) p.entries.items (joined p.files.items []) p.versions.list
   pub numbered : IsNumbered p.index (named p.files.items)
-  pub first : p.first_files ≡ length (opening_of p.opening.value.items)
+  pub first : p.first_files ≡ length (opening_listed p.opening.value.items)
   pub inside : p.first_files ≤ length p.files.items
   pub few : length p.files.items ≤ 2 ^ 32
 

@@ -9,16 +9,16 @@ use Rattle.host_core.specs.Whole.{standing_at}
 use Rattle.host_core.specs.declared.held.Effect.{Effect}
 
 -- a file may be stepped
-pub record IsReady (locks : Locks) (number now : ℕ) : Type 0 where
+pub record MayStep (locks : Locks) (number now : ℕ) : Type 0 where
   pub here : number < length locks.files
   pub spare : 1 ≤ locks.spare
   pub began : BeganBy now locks.files
 
 -- a lock that began now, or goes on from when the old one began
-abbrev pub Follows : Option Lock → Option Lock → ℕ → Type 0
-Follows old None now = ⊤
-Follows None (Some lock) now = lock.since ≡ now
-Follows (Some old) (Some lock) now = (old.since ≡ lock.since) ⊎ (lock.since ≡ now)
+abbrev pub LockFollows : Option Lock → Option Lock → ℕ → Type 0
+LockFollows old None now = ⊤
+LockFollows None (Some lock) now = lock.since ≡ now
+LockFollows (Some old) (Some lock) now = (old.since ≡ lock.since) ⊎ (lock.since ≡ now)
 
 -- an id is spent only where a lock stood
 abbrev pub SpendsOf : Option Lock → Option Spent → Type 0
@@ -28,7 +28,7 @@ SpendsOf (Some old) (Some spent) = ⊤
 
 -- what a step may make of a lock
 pub record Ends (old : Option Lock) (effect : Effect) (now : ℕ) : Type 0 where
-  pub lock : Follows (standing old now) effect.lock now
+  pub lock : LockFollows (standing old now) effect.lock now
   pub spend : SpendsOf (standing old now) effect.spend
 
 -- the locks that were over have ended, and one file was stepped

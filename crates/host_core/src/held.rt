@@ -4,7 +4,7 @@ ghost use Rattle.kept_locks.specs.Locks.{stepped, ended_at};
 ghost use Rattle.wopi_model.specs.Act as acts;
 ghost use Rattle.wopi_model.specs.Settle.{standing, expired, still_spent};
 ghost use Rattle.host_core.specs.Files.{BeganAtMoment};
-ghost use Rattle.host_core.specs.Turns.{IsReady, Ends, Turns};
+ghost use Rattle.host_core.specs.Turns.{MayStep, Ends, Turns};
 ghost use Rattle.host_core.specs.Whole.{standing_at};
 
 use kept_locks::KeptLocks;
@@ -81,7 +81,7 @@ fn unchanged(locks: &KeptLocks, number: u32, now: u64) -> Effect
 /// Ends the locks that are over, gives a file its lock and spends its id. Of the file's spent ids those
 /// go that are no longer refused. It takes no memory.
 pub fn apply(locks: &mut KeptLocks, number: u32, effect: Effect, now: u64)
-    requires ready { IsReady locks.old number now }
+    requires ready { MayStep locks.old number now }
     requires ends { Ends (standing_at locks.old.files number).lock effect now }
     ensures standing { standing_at locks.new.files number ≡ stepped effect.lock effect.spend now (ended_at now (standing_at locks.old.files number)) }
     ensures turns { Turns locks.old locks.new number now }
@@ -93,7 +93,7 @@ pub fn apply(locks: &mut KeptLocks, number: u32, effect: Effect, now: u64)
 /// Ends the locks that are over. Of the file's spent ids those go that are no longer refused. It takes
 /// no memory.
 pub fn settle_one(locks: &mut KeptLocks, number: u32, now: u64)
-    requires ready { IsReady locks.old number now }
+    requires ready { MayStep locks.old number now }
     requires moment { BeganAtMoment (standing_at locks.old.files number).lock }
     ensures standing { standing_at locks.new.files number ≡ stepped (standing (standing_at locks.old.files number).lock now) None now (ended_at now (standing_at locks.old.files number)) }
     ensures turns { Turns locks.old locks.new number now }

@@ -9,15 +9,14 @@ ghost use Rattle.host_core.specs.Whole.{whole};
 ghost use Rattle.kept_locks.specs.Locks.{unlocked};
 ghost use Rattle.host_core.specs.ByBytes.{has};
 ghost use Rattle.host_core.specs.Stock.{IsStock};
-ghost use Rattle.host_core.specs.Opening.{IsTaken, IsOfShard, IsOpening, Fits, IsTooLarge, IfTooLarge, Gives, PassesAfter, Gathers, is_listed};
+ghost use Rattle.host_core.specs.Opening.{MayKeep, IsOfShard, IsOpening, Fits, IsTooLarge, IfTooLarge, Gives, PassesAfter, Gathers, is_listed};
 ghost use Rattle.wopi_model.specs.Host.{most_kept};
-ghost use Rattle.host_core.specs.ShardView.{opening_of};
+ghost use Rattle.host_core.specs.ShardView.{opening_listed};
 
-use crate::by_bytes::ByBytes;
 use crate::extent::Extent;
 use crate::file::{KeptFile, unmet};
-use file_versions::Versions;
-use name_index::NameIndex;
+use file_versions::{MOST_KEPT, Versions};
+use name_index::{ByBytes, NameIndex};
 use outside::{Folder, FolderRead, Names, OutFault};
 use std::alloc::Global;
 use std::collections::BTreeSet;
@@ -28,9 +27,6 @@ const MOST_CONTENTS: usize = 16_777_216;
 
 /// The most files, so that each has a number of 32 bits and there are numbers left for new ones.
 const MOST_FILES: usize = 4_000_000_000;
-
-/// The most bytes of all files: 256 MiB.
-const MOST_KEPT: u64 = 268_435_456;
 
 /// A file that stood in the folder when the shard opened.
 #[derive(Drop)]
@@ -78,8 +74,8 @@ fn is_of_shard(name: &FileName, only: Option<u8>) -> bool
 
 /// Adds a listed name, if the shard keeps files of this name.
 fn take_name(names: &mut BTreeSet<ByBytes>, text: &String, only: Option<u8>) -> Result<(), Memory>
-    ensures taken { OnOk result ((name : List ℕ) → has names.new name ≡ true → (has names.old name ≡ true) ⊎ ((name ≡ string_bytes text.now) × IsTaken only name)) }
-    ensures added { OnOk result (IsTaken only (string_bytes text.now) → has names.new (string_bytes text.now) ≡ true) }
+    ensures taken { OnOk result ((name : List ℕ) → has names.new name ≡ true → (has names.old name ≡ true) ⊎ ((name ≡ string_bytes text.now) × MayKeep only name)) }
+    ensures added { OnOk result (MayKeep only (string_bytes text.now) → has names.new (string_bytes text.now) ≡ true) }
     ensures stays { OnOk result ((name : List ℕ) → has names.old name ≡ true → has names.new name ≡ true) }
 {
     let Ok(name) = FileName::read(text.as_bytes()) else {
@@ -122,9 +118,9 @@ fn read_one<F: Folder>(
 /// Adds a file that was read, at version 1 and unlocked.
 fn stock_one(stock: &mut Stock, file: ReadFile) -> Result<(), Memory>
     requires stock { IsStock stock.old }
-    requires fresh { place_in (map (λ one. one.0) (opening_of stock.old.opening.items)) file.name ≡ None }
+    requires fresh { place_in (map (λ one. one.0) (opening_listed stock.old.opening.items)) file.name ≡ None }
     ensures stock { OnOk result (IsStock stock.new) }
-    ensures opening { OnOk result (opening_of stock.new.opening.items ≡ opening_of stock.old.opening.items ++ (file.name, file.contents) ∷ []) }
+    ensures opening { OnOk result (opening_listed stock.new.opening.items ≡ opening_listed stock.old.opening.items ++ (file.name, file.contents) ∷ []) }
 {
     let count = stock.files.len();
     if count >= MOST_FILES {
@@ -160,8 +156,8 @@ fn opened(name: &FileName, contents: &Bytes, place: usize) -> KeptFile
 
 /// The listed names that the shard takes.
 fn taken_names(alloc: Global, listed: &Names, only: Option<u8>) -> Result<BTreeSet<ByBytes>, Memory>
-    ensures taken { IfOk result (λ names. (name : List ℕ) → has names name ≡ true → IsTaken only name × (is_listed listed.now name ≡ true)) }
-    ensures all { IfOk result (λ names. (name : List ℕ) → IsTaken only name → is_listed listed.now name ≡ true → has names name ≡ true) }
+    ensures taken { IfOk result (λ names. (name : List ℕ) → has names name ≡ true → MayKeep only name × (is_listed listed.now name ≡ true)) }
+    ensures all { IfOk result (λ names. (name : List ℕ) → MayKeep only name → is_listed listed.now name ≡ true → has names name ≡ true) }
 {
     let mut names = BTreeSet::new(alloc);
     let texts = listed.as_slice();
@@ -181,9 +177,9 @@ fn read_names<F: Folder>(
     stock: &mut Stock,
 ) -> Result<(), StartFault>
     requires stock { IsStock stock.old }
-    requires gathers { Gathers only (F.files folder.old) (has names.old) (opening_of stock.old.opening.items) }
+    requires gathers { Gathers only (F.files folder.old) (has names.old) (opening_listed stock.old.opening.items) }
     ensures stock { OnOk result (IsStock stock.new) }
-    ensures gathers { OnOk result (Gathers only (F.files folder.old) (λ name. false) (opening_of stock.new.opening.items)) }
+    ensures gathers { OnOk result (Gathers only (F.files folder.old) (λ name. false) (opening_listed stock.new.opening.items)) }
     ensures too_large { IfErr result (λ fault. IfTooLarge fault (IsTooLarge only (F.files folder.old))) }
     ensures failed { IfErr result (λ fault. fault ≡ StartFault.FolderFault → Rose (F.faults folder.old) (F.faults folder.new)) }
     ensures same { Keeps (F.files folder.old) (F.files folder.new) }
@@ -208,8 +204,8 @@ pub fn gather<F: Folder>(
     folder: &mut F,
     only: Option<u8>,
 ) -> Result<Stock, StartFault>
-    ensures opening { IfOk result (λ stock. IsOpening only (F.files folder.old) (opening_of stock.opening.items)) }
-    ensures fits { IfOk result (λ stock. Fits (opening_of stock.opening.items)) }
+    ensures opening { IfOk result (λ stock. IsOpening only (F.files folder.old) (opening_listed stock.opening.items)) }
+    ensures fits { IfOk result (λ stock. Fits (opening_listed stock.opening.items)) }
     ensures stock { IfOk result IsStock }
     ensures too_large { IfErr result (λ fault. IfTooLarge fault (IsTooLarge only (F.files folder.old))) }
     ensures failed { IfErr result (λ fault. fault ≡ StartFault.FolderFault → Rose (F.faults folder.old) (F.faults folder.new)) }

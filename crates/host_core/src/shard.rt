@@ -11,7 +11,7 @@ ghost use Rattle.kept_locks.specs.Locks.{unlocked};
 ghost use Rattle.host_core.specs.Stock.{IsStock};
 ghost use Rattle.host_core.specs.Entries.{history_of, back_of};
 ghost use Rattle.host_core.specs.Files.{files_of, torn_in};
-ghost use Rattle.host_core.specs.Ledger.{IsFull, handed_back};
+ghost use Rattle.host_core.specs.Ledger.{IsFullFault, handed_back};
 ghost use Rattle.host_core.specs.Opening.{IsOfShard, IsOpening, Fits, IsTooLarge, IfTooLarge};
 
 use crate::entry::Entry;
@@ -46,7 +46,7 @@ impl<F: Folder> Model for Shard<F> {
 
     ghost Value = { Book F };
 
-    ghost use Rattle.host_core.specs.ShardView.{book_of, opening_of};
+    ghost use Rattle.host_core.specs.ShardView.{book_of, opening_listed};
 
     ghost view = { book_of };
 
@@ -57,7 +57,7 @@ impl<F: Folder> Model for Shard<F> {
 
 impl<F: Folder> Shard<F> {
     ghost use Rattle.host_core.specs.Value.{IsLawful, Agrees, state_of, is_torn};
-    ghost use Rattle.host_core.specs.ShardView.{opening_of};
+    ghost use Rattle.host_core.specs.ShardView.{opening_listed};
     ghost use Rattle.host_core.specs.View.{IsViewOf};
 
     /// Opens a shard over a folder: its files whose names are file names, of shard `only` where a number is
@@ -140,7 +140,7 @@ impl<F: Folder> Shard<F> {
         ensures stamp { IfOk result (λ step. step.0 ≡ max (last_from 0 (stamps (entries (history_of self.old.made self.old.time)))) floor + 1) }
         ensures back { IfOk result (λ step. step.2 ≡ back_of call.act step.1) }
         ensures room { OnOk result (FullAt self.old.opening self.old.opened self.old.capacity (history_of self.old.made self.old.time) floor call moment → ⊥) }
-        ensures full { IfErr result (λ fault. IsFull fault
+        ensures full { IfErr result (λ fault. IsFullFault fault
             → FullAt self.old.opening self.old.opened self.old.capacity (history_of self.old.made self.old.time) floor call moment) }
         ensures err { OnErr result (self.new ≡ record self.old { folder = self.new.folder }) }
         ensures call { IfErr result (λ fault. handed_back fault ≡ call) }
@@ -245,12 +245,12 @@ impl<F: Folder> Shard<F> {
         requires long { length stock.files.items ≤ length room.locks.files }
         requires spare { capacity ≤ room.locks.spare }
         requires entries { room.entries.items ≡ [] }
-        requires opening { IsOpening only (F.files start.value) (opening_of stock.opening.items) }
+        requires opening { IsOpening only (F.files start.value) (opening_listed stock.opening.items) }
         requires same { Keeps (F.files start.value) (F.files folder) }
         requires faults { F.faults start.value ≤ F.faults folder }
         ensures value { result ≡ record {
           only = only;
-          opening = opening_of stock.opening.items;
+          opening = opening_listed stock.opening.items;
           opened = opened;
           capacity = capacity;
           made = [];

@@ -4,7 +4,7 @@ use Rattle.std.specs.List.{AllByRecursion}
 use Rattle.atomic_table.specs.Seated.{TableId}
 use Rattle.outside.specs.Folder.{Files}
 use Rattle.wopi_model.specs.Shard.{RisesFrom}
-use Rattle.host_core.specs.Opening.{IsTaken}
+use Rattle.host_core.specs.Opening.{MayKeep}
 use Rattle.host_core.specs.Value.{Book}
 use Rattle.host_table.specs.Histories.{as_opened}
 use Rattle.host_table.specs.Passes.{Own, stamp_of, by_stamp, owned_from, top, AreBases, AreSeats, IsPass, IsPassOf}
@@ -63,7 +63,7 @@ module _ {F : Type 0} (files : F → Option Files) (faults : F → ℕ) (opened 
   begun_bases number (f ∷ folders) [] a = absurd a
   begun_bases number (f ∷ folders) (b ∷ books) a =
       let only : b.only ≡ Some number = ap (λ (z : Book F). z.only) a.0.book in
-      let P : Option ℕ → Type 0 = λ o. AllByRecursion (λ (file : List ℕ × List ℕ). IsTaken o file.0) b.opening in (
+      let P : Option ℕ → Type 0 = λ o. AllByRecursion (λ (file : List ℕ × List ℕ). MayKeep o file.0) b.opening in (
         record {
           only = only;
           opened_is = ap (λ (z : Book F). z.opened) a.0.book;

@@ -13,7 +13,7 @@ use Rattle.host_core.specs.Caller.{entry_of, Extends, Makes, Refuses, Frames, Is
 use Rattle.host_core.specs.Value.{Book}
 use Rattle.host_core.specs.Times.{steps_of, untimed}
 use Rattle.host_table.specs.Histories.{last_stamp, IsSeen}
-use Rattle.host_table.specs.Passes.{Place, PassView, Own, stamp_of, own_of, lock_of, base_of, top, seen_at, opening_in, opening_at, sight_of, IsBase, Owns, HasOwn, IsSeat, IsPass, HasSeen, IsSamePass}
+use Rattle.host_table.specs.Passes.{Place, PassView, Own, stamp_of, own_of, lock_of, base_of, top, seen_at, opening_seen, opening_at, sight_of, IsBase, Owns, HasOwn, IsSeat, IsPass, HasSeen, IsSamePass}
 use Rattle.host_table.specs.Calls.{Calls, Looks}
 use Rattle.host_table.specs.Sights.{seen_alone}
 use Rattle.host_core.proofs.Timing.{entries-untimed}
@@ -84,7 +84,7 @@ module _ {F : Type 0} (p : PassView F) (k : ℕ) (v w : Place F) (inside : IsPas
   opening_same base shard = go shard p.seats k v at here base where
     go : (j : ℕ) (ss : List (Place F)) (n : ℕ) (x : Place F) → x ≡ get_or ss n x → n < length ss → w.base ≡ x.base → opening_at (slice_get (set ss n w) j) ≡ opening_at (slice_get ss j)
     go j [] n x e h b = refl
-    go zero (s ∷ ss) zero x e h b = ap opening_in (b ∙ ap (λ (z : Place F). z.base) e)
+    go zero (s ∷ ss) zero x e h b = ap opening_seen (b ∙ ap (λ (z : Place F). z.base) e)
     go zero (s ∷ ss) (suc n) x e h b = refl
     go (suc j) (s ∷ ss) zero x e h b = refl
     go (suc j) (s ∷ ss) (suc n) x e h b = go j ss n x e (omega arith) b
@@ -95,7 +95,7 @@ module _ {F : Type 0} (p : PassView F) (k : ℕ) (v w : Place F) (inside : IsPas
       let one : base ≡ old.base = some_same base old.base v.base based old.based in
       let opened : base.opened ≡ p.opened = ap (λ (b : Book F). b.opened) one ∙ old.is_base.opened_is in
       let now : seen_at (slice_get (set p.seats k w) k) ≡ untimed w.seen = ap seen_at (get_set p.seats k w here) in
-      let opening : opening_at (slice_get p.seats k) ≡ base.opening = ap opening_at was ∙ ap opening_in based in
+      let opening : opening_at (slice_get p.seats k) ≡ base.opening = ap opening_at was ∙ ap opening_seen based in
       let P : Opening × (ℕ × List Item) → Type 0 = λ z. Legal z.0 z.1.0 z.1.1 in
       let same_all : (base.opening, (base.opened, untimed w.seen)) ≡ (opening_at (slice_get p.seats k), (p.opened, seen_at (slice_get (set p.seats k w) k))) = λ i. (sym opening i, (opened i, sym now i)) in
       let legal : Legal (opening_at (slice_get p.seats k)) p.opened (seen_at (slice_get (set p.seats k w) k)) = subst P same_all seen.legal in
@@ -183,7 +183,7 @@ module _ {F : Type 0} (p : PassView F) (k : ℕ) (v w : Place F) (inside : IsPas
           let found : entries (untimed made) ≡ steps_of made = entries-untimed made in
           let seat = seat_is in
           let base : calls.base ≡ seat.base = some_same calls.base seat.base v.base calls.based seat.based in
-          let opening : opening_at (slice_get p.seats k) ≡ calls.base.opening = ap opening_at was ∙ ap opening_in calls.based in
+          let opening : opening_at (slice_get p.seats k) ≡ calls.base.opening = ap opening_at was ∙ ap opening_seen calls.based in
           let opened : p.opened ≡ calls.base.opened = sym (ap (λ (b : Book F). b.opened) base ∙ seat.is_base.opened_is) in
           let capacity : p.capacity ≡ calls.base.capacity = sym (ap (λ (b : Book F). b.capacity) base ∙ seat.is_base.capacity_is) in
           let P : Opening × (ℕ × ℕ) → Type 0 = λ z. FullAt z.0 z.1.0 z.1.1 (untimed made) p.last call moment → ⊥ in
@@ -236,7 +236,7 @@ module _ {F : Type 0} (p : PassView F) (k : ℕ) (v w : Place F) (inside : IsPas
           let old : entries (seen_at (slice_get p.seats k)) ≡ steps_of v.seen = ap (λ (o : Option (Place F)). entries (seen_at o)) was ∙ entries-untimed v.seen in
           let seat = seat_is in
           let base : looks.base ≡ seat.base = some_same looks.base seat.base v.base looks.based seat.based in
-          let opening : opening_at (slice_get p.seats k) ≡ looks.base.opening = ap opening_at was ∙ ap opening_in looks.based in
+          let opening : opening_at (slice_get p.seats k) ≡ looks.base.opening = ap opening_at was ∙ ap opening_seen looks.based in
           let opened : p.opened ≡ looks.base.opened = sym (ap (λ (b : Book F). b.opened) base ∙ seat.is_base.opened_is) in
           let capacity : p.capacity ≡ looks.base.capacity = sym (ap (λ (b : Book F). b.capacity) base ∙ seat.is_base.capacity_is) in
           let P : Opening × (ℕ × (ℕ × List Item)) → Type 0 = λ z. IsFullCall refusal → FullAt z.0 z.1.0 z.1.1.0 z.1.1.1 p.last call moment in

@@ -11,7 +11,7 @@ use Rattle.outside.specs.Folder.{Files}
 use Rattle.wopi_text.specs.FileName.{shard_of}
 use Rattle.wopi_model.specs.Shard.{Opening, Entry, Item, Step, Legal, RisesFrom, stamps}
 use Rattle.wopi_model.specs.Host.{shard_of_entry, opening_of, part_of, LegalHost, IsInOrder}
-use Rattle.host_core.specs.Opening.{IsTaken}
+use Rattle.host_core.specs.Opening.{MayKeep}
 use Rattle.host_core.specs.Entries.{Made}
 use Rattle.host_core.specs.Value.{Book, Left, IsLawful}
 use Rattle.host_table.specs.declared.journal.Spot.{Spot}
@@ -207,9 +207,9 @@ named_in j (p ∷ parts) zero part k one a e f =
     named_one j p.made k one a.0 (ap (λ (q : Left _). slice_get q.made k) same ∙ f) ∙ z
 named_in j (p ∷ parts) (suc i) part k one a e f = let n : (j + 1) + i ≡ j + suc i = omega arith in named_in (j + 1) parts i part k one a.1 e f ∙ n
 
-homed_files : (only : Option ℕ) (j : ℕ) (opening : Opening) → only ≡ Some j → AllByRecursion (λ (file : List ℕ × List ℕ). IsTaken only file.0) opening → AllByRecursion (λ (file : List ℕ × List ℕ). shard_of file.0 ≡ j) opening
+homed_files : (only : Option ℕ) (j : ℕ) (opening : Opening) → only ≡ Some j → AllByRecursion (λ (file : List ℕ × List ℕ). MayKeep only file.0) opening → AllByRecursion (λ (file : List ℕ × List ℕ). shard_of file.0 ≡ j) opening
 homed_files only j [] e a = tt
-homed_files only j (file ∷ opening) e a = let P : Option ℕ → Type 0 = λ o. IsTaken o file.0 in ((subst P e a.0).1, homed_files only j opening e a.1)
+homed_files only j (file ∷ opening) e a = let P : Option ℕ → Type 0 = λ o. MayKeep o file.0 in ((subst P e a.0).1, homed_files only j opening e a.1)
 
 part_legal : {F : Type 0} (files : F → Option Files) (faults : F → ℕ) (h : Book F) (part : Left F) (folder : F) → IsTakenApart files faults h part folder → Legal part.opening h.opened (untimed part.made)
 part_legal files faults h part folder t =

@@ -5,7 +5,7 @@ use Rattle.atomic_table.specs.Seated.{TableId}
 use Rattle.turn_lock.specs.Seats.{SeatValue}
 use Rattle.wopi_text.specs.FileName.{shard_of}
 use Rattle.wopi_model.specs.Shard.{Opening, Item, Entry, RisesFrom, entries, stamps}
-use Rattle.host_core.specs.Opening.{IsTaken}
+use Rattle.host_core.specs.Opening.{MayKeep}
 use Rattle.host_core.specs.Entries.{Made}
 use Rattle.host_core.specs.Caller.{Sight}
 use Rattle.host_core.specs.Value.{Book}
@@ -101,13 +101,13 @@ module _ {F : Type 0} where
   seen_at None = []
   seen_at (Some seat) = untimed seat.seen
 
-  abbrev pub opening_in : Option (Book F) → Opening
-  opening_in None = []
-  opening_in (Some base) = base.opening
+  abbrev pub opening_seen : Option (Book F) → Opening
+  opening_seen None = []
+  opening_seen (Some base) = base.opening
 
   abbrev pub opening_at : Option (Place F) → Opening
   opening_at None = []
-  opening_at (Some seat) = opening_in seat.base
+  opening_at (Some seat) = opening_seen seat.base
 
   -- what a pass has seen, as of any caller
   abbrev pub sight_of : PassView F → Sight
@@ -129,7 +129,7 @@ module _ {F : Type 0} where
     pub opened_is : base.opened ≡ opened
     pub capacity_is : base.capacity ≡ capacity
     pub unticked : base.ticked ≡ false
-    pub names : AllByRecursion (λ file. IsTaken base.only file.0) base.opening
+    pub names : AllByRecursion (λ file. MayKeep base.only file.0) base.opening
 
   abbrev pub AreBases : ℕ → ℕ → ℕ → List (Book F) → Type 0
   AreBases opened capacity shard [] = ⊤

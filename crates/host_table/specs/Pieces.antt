@@ -7,7 +7,7 @@ use Rattle.wopi_model.specs.Shard.{Entry}
 use Rattle.wopi_model.specs.Host.{shard_of_entry}
 use Rattle.host_table.specs.declared.lines.Piece.{Piece}
 use Rattle.host_table.specs.declared.lines.Piece.TheVariants as piece
-use Rattle.host_core.specs.Entries.{Made, act_of, accepted_contents}
+use Rattle.host_core.specs.Entries.{Made, kept_act, accepted_contents}
 use Rattle.host_table.specs.Text.{space, period, line_feed, act_text, token_fields, ruling_text, optional_hex}
 
 abbrev pub piece_text : Piece → List ℕ
@@ -27,7 +27,7 @@ head_text entry =
 
 -- a line's text up to the token, and the rest of it
 abbrev pub begin_text : Made → List ℕ
-begin_text one = head_text one.step ++ ((space ∷ act_text (act_of one.step.call.act)) ++ (space ∷ token_fields one.step.call.token))
+begin_text one = head_text one.step ++ ((space ∷ act_text (kept_act one.step.call.act)) ++ (space ∷ token_fields one.step.call.token))
 
 abbrev pub end_text : Made → List ℕ
 end_text one = (space ∷ ruling_text one.step.ruling) ++ (space ∷ (optional_hex (accepted_contents one) ++ line_feed ∷ []))

@@ -20,7 +20,7 @@ pub use wopi_model::{Judged, Lock, LockAct, Spent, Verdict};
 use wopi_text::Reason;
 
 /// How long a lock stands, in milliseconds: 30 minutes.
-const LOCK_LIFE: u64 = 1_800_000;
+pub const LOCK_LIFE: u64 = 1_800_000;
 
 /// The lock has ended at `now`, in milliseconds.
 pub fn is_over(lock: &Lock, now: u64) -> bool

@@ -9,8 +9,8 @@ use Rattle.replay_cmd.specs.declared.reading.ScheduleFault.TheVariants.{BadLine,
 use Rattle.replay_cmd.specs.declared.pieces.PieceReader.{PieceReader}
 use Rattle.replay_cmd.specs.Schedules.{IsSchedule, Lines}
 use Rattle.replay_cmd.specs.Grammar.{IsBadLine, IsText, most_bytes, most_rows, rows_of}
-use Rattle.replay_cmd.specs.Readings.{HasNames, IsRefused, IsSoFar, IsTaken, lines_in}
-use Rattle.replay_cmd.specs.Pieces.{HasCome, IsFault, IsOver, IsRead, IsReady, IsRowFault, IsTakenIn, LacksFeed, Lengthens, room_of}
+use Rattle.replay_cmd.specs.Readings.{HasNames, IsRefused, IsSoFar, TakesLine, lines_in}
+use Rattle.replay_cmd.specs.Pieces.{HasCome, IsFault, IsOver, IsRead, MayTakeLine, IsRowFault, IsTakenIn, LacksFeed, Lengthens, room_of}
 use Rattle.replay_cmd.proofs.Endings.{begins, fed, is_feed, lone}
 use Rattle.replay_cmd.proofs.ReadSteps.{begun, ended, refused, taken}
 
@@ -38,16 +38,16 @@ form_of text rest reader so = so.good.form
 pub come_form : (text : List ℕ) (pieces : PieceReader) → HasCome text [] pieces → IsSchedule (lines_in pieces.reader)
 come_form text pieces come = form_of text (row_in pieces) pieces.reader (so_far text pieces come)
 
-ready_so_far : (text rest : List ℕ) (reader : Reader) → IsSoFar text rest reader → IsReady reader
+ready_so_far : (text rest : List ℕ) (reader : Reader) → IsSoFar text rest reader → MayTakeLine reader
 ready_so_far text rest reader so =
     let few = so.good.few in
     let count = so.count in
     record { few = omega (arith, few, count); names = so.names }
 
-pub come_ready : (text : List ℕ) (pieces : PieceReader) → HasCome text [] pieces → IsReady pieces.reader
+pub come_ready : (text : List ℕ) (pieces : PieceReader) → HasCome text [] pieces → MayTakeLine pieces.reader
 come_ready text pieces come = ready_so_far text (row_in pieces) pieces.reader (so_far text pieces come)
 
-pub taken_ready : (row : List ℕ) (old new : Reader) → IsTaken row old new → IsReady new
+pub taken_ready : (row : List ℕ) (old new : Reader) → TakesLine row old new → MayTakeLine new
 taken_ready row old new is = let within = is.within in let rows = is.rows in record { few = omega (arith, within, rows); names = is.names }
 
 -- a piece more has come, and nothing of it was taken
@@ -74,7 +74,7 @@ come_longest text part old new lacks come more =
     come_longer text part [] old new lacks (subst (λ (l : List ℕ). HasCome text l old) (sym (append-nil part)) come) more
 
 -- it ends, and is a good one
-pub come_taken : (text behind : List ℕ) (old new : PieceReader) → HasCome text (10 ∷ behind) old → IsTaken (row_in old) old.reader new.reader → row_in new ≡ []
+pub come_taken : (text behind : List ℕ) (old new : PieceReader) → HasCome text (10 ∷ behind) old → TakesLine (row_in old) old.reader new.reader → row_in new ≡ []
     → HasCome text behind new
 come_taken text behind old new come step empty = record {
   lines = λ more.
@@ -118,7 +118,7 @@ last_over text part old fault lacks come over =
 -- ---- results
 
 pub row_taken : (part : List ℕ) (old mid new : PieceReader) (r : Result (Unit {0}) ScheduleFault) → LacksFeed part → Lengthens part old mid
-    → OnOk r (IsTaken (row_in mid) mid.reader new.reader × (row_in new ≡ []))
+    → OnOk r (TakesLine (row_in mid) mid.reader new.reader × (row_in new ≡ []))
     → OnOk r ((text behind : List ℕ) → HasCome text (part ++ 10 ∷ behind) old → HasCome text behind new)
 row_taken part old mid new (Err fault) lacks more step = tt
 row_taken part old mid new (Ok u) lacks more step = λ text behind come.
@@ -135,10 +135,10 @@ pub rest_taken : (text part : List ℕ) (old new : PieceReader) (r : Result (Uni
 rest_taken text part old new (Ok u) lacks come more over = come_longest text part old new lacks come more
 rest_taken text part old new (Err fault) lacks come more over = last_over text part old fault lacks come over
 
-pub rest_ready : (part : List ℕ) (old new : PieceReader) (r : Result (Unit {0}) ScheduleFault) → IsReady old.reader → OnOk r (Lengthens part old new)
-    → OnOk r (IsReady new.reader)
+pub rest_ready : (part : List ℕ) (old new : PieceReader) (r : Result (Unit {0}) ScheduleFault) → MayTakeLine old.reader → OnOk r (Lengthens part old new)
+    → OnOk r (MayTakeLine new.reader)
 rest_ready part old new (Err fault) ready more = tt
-rest_ready part old new (Ok u) ready more = subst IsReady (sym more.reader) ready
+rest_ready part old new (Ok u) ready more = subst MayTakeLine (sym more.reader) ready
 
 pub one_room : (old mid new : PieceReader) (whole part behind rest : List ℕ) → rest ≡ part ++ 10 ∷ behind → room_of new + length part + 1 ≤ room_of mid
     → room_of mid + length whole ≤ room_of old + length rest → room_of new + length whole ≤ room_of old + length behind
@@ -157,16 +157,16 @@ pub finish_empty : (text : List ℕ) (pieces : PieceReader) → HasCome text [] 
 finish_empty text pieces come none =
     ended text [] pieces.reader (subst (λ (l : List ℕ). IsSoFar text l pieces.reader) (no_bytes (row_in pieces) none) (so_far text pieces come)) refl
 
-last_taken : (text : List ℕ) (old new : PieceReader) → HasCome text [] old → 0 < length (row_in old) → IsTaken (row_in old) old.reader new.reader
+last_taken : (text : List ℕ) (old new : PieceReader) → HasCome text [] old → 0 < length (row_in old) → TakesLine (row_in old) old.reader new.reader
     → IsSoFar text [] new.reader
 last_taken text old new come some step =
     taken text (row_in old) [] (row_in old) old.reader new.reader (so_far text old come) (lone (row_in old) come.row_is some) step
 
-pub finish_form : (text : List ℕ) (old new : PieceReader) → HasCome text [] old → 0 < length (row_in old) → IsTaken (row_in old) old.reader new.reader
+pub finish_form : (text : List ℕ) (old new : PieceReader) → HasCome text [] old → 0 < length (row_in old) → TakesLine (row_in old) old.reader new.reader
     → IsSchedule (lines_in new.reader)
 finish_form text old new come some step = form_of text [] new.reader (last_taken text old new come some step)
 
-pub finish_ended : (text : List ℕ) (old new : PieceReader) → HasCome text [] old → 0 < length (row_in old) → IsTaken (row_in old) old.reader new.reader
+pub finish_ended : (text : List ℕ) (old new : PieceReader) → HasCome text [] old → 0 < length (row_in old) → TakesLine (row_in old) old.reader new.reader
     → IsText text (lines_in new.reader)
 finish_ended text old new come some step = ended text [] new.reader (last_taken text old new come some step) refl
 

@@ -5,7 +5,7 @@ use Rattle.replay_cmd.specs.declared.one_line.AnyLine.{AnyLine}
 use Rattle.replay_cmd.specs.declared.reading.Reader.{Reader}
 use Rattle.replay_cmd.specs.Schedules.{IsSchedule, Lines}
 use Rattle.replay_cmd.specs.Grammar.{AreRows, IsBadLine, IsText, most_rows, rows_of, says}
-use Rattle.replay_cmd.specs.Readings.{Alike, HasNames, IsLine, IsRefused, IsSoFar, IsTaken, lines_in, names_of, with_line}
+use Rattle.replay_cmd.specs.Readings.{Alike, HasNames, IsLine, IsRefused, IsSoFar, TakesLine, lines_in, names_of, with_line}
 use Rattle.replay_cmd.proofs.Growing.{all_front, count_of, fits_there, said_next, silent_next}
 use Rattle.replay_cmd.proofs.LastRow.{last_row, silent_last}
 use Rattle.replay_cmd.proofs.SameRows.{alike_next, fits_alike}
@@ -80,7 +80,7 @@ said_only done row old one only said is other are =
 behind_row : (text : List ℕ) (done rest after : Rows) (row : List ℕ) → rows_of text ≡ done ++ rest → rest ≡ row ∷ after → rows_of text ≡ (done ++ row ∷ []) ++ after
 behind_row text done rest after row splits is = splits ∙ ap (λ (l : Rows). done ++ l) is ∙ sym (append_assoc done (row ∷ []) after)
 
-pub taken : (text rest behind row : List ℕ) (old new : Reader) → IsSoFar text rest old → rows_of rest ≡ row ∷ rows_of behind → IsTaken row old new → IsSoFar text behind new
+pub taken : (text rest behind row : List ℕ) (old new : Reader) → IsSoFar text rest old → rows_of rest ≡ row ∷ rows_of behind → TakesLine row old new → IsSoFar text behind new
 taken text rest behind row old new so is step =
     let within : old.rows < most_rows = step.within in
     let count : old.rows ≡ length so.done = so.count in

@@ -18,7 +18,7 @@ pub record HasCome (text ahead : List ℕ) (pieces : PieceReader) : Type 0 where
   pub row_is : LacksFeed pieces.row.items
 
 -- a line can be taken
-pub record IsReady (reader : Reader) : Type 0 where
+pub record MayTakeLine (reader : Reader) : Type 0 where
   pub few : reader.rows ≤ most_rows
   pub names : HasNames reader.names reader.files.items
 

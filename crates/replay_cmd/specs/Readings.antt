@@ -85,7 +85,7 @@ pub record IsAdded (line : AnyLine) (old new : Reader) : Type 0 where
   pub rows : new.rows ≡ old.rows
 
 -- the next line of a text, which is good, was taken
-pub record IsTaken (row : List ℕ) (old new : Reader) : Type 0 where
+pub record TakesLine (row : List ℕ) (old new : Reader) : Type 0 where
   pub within : old.rows < most_rows
   pub short : length row ≤ most_bytes
   pub rows : new.rows ≡ old.rows + 1

@@ -3,7 +3,7 @@ ghost use Rattle.std.specs.Prelude.{◌≡◌, ◌≤◌, ◌<◌, ◌+◌, ℕ,
 ghost use Rattle.std.specs.Io.KnownBytes.{Consumes, IsAtEnd};
 ghost use Rattle.outside.specs.Faults.{Rose};
 ghost use Rattle.replay_cmd.specs.Inputs.{HasTaken, IsInputRead, fault_of, input_result};
-ghost use Rattle.replay_cmd.specs.Pieces.{IsReady, room_of};
+ghost use Rattle.replay_cmd.specs.Pieces.{MayTakeLine, room_of};
 
 use crate::pieces::PieceReader;
 use crate::reading::ScheduleFault;
@@ -53,12 +53,12 @@ fn take_piece<S: Source>(
     pieces: &mut PieceReader,
     piece: &mut Vec<u8>,
 ) -> Result<usize, InputFault>
-    requires ready { IsReady pieces.old.reader }
+    requires ready { MayTakeLine pieces.old.reader }
     requires room { 0 < vec_len piece.old }
     ensures on { IfOk result (λ count. (left : Option (List ℕ)) → HasTaken left (S.left source.old) pieces.old → HasTaken left (S.left source.new) pieces.new) }
     ensures end { IfOk result (λ count. count ≡ 0 → IsAtEnd (S.left source.new)) }
     ensures refused { IfErr result (λ fault. (left : Option (List ℕ)) → HasTaken left (S.left source.old) pieces.old → IsInputRead left (Err fault)) }
-    ensures ready { OnOk result (IsReady pieces.new.reader) }
+    ensures ready { OnOk result (MayTakeLine pieces.new.reader) }
     ensures smaller { IfOk result (λ count. room_of pieces.new + count ≤ room_of pieces.old) }
     ensures room { vec_len piece.new ≡ vec_len piece.old }
     ensures beside { S.beside_reads source.new ≡ S.beside_reads source.old }

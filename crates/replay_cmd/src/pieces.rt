@@ -2,8 +2,8 @@
 ghost use Rattle.std.specs.Prelude.{◌≡◌, ◌+◌, ◌≤◌, ◌++◌, ◌∷◌, [], ℕ, List, OnOk, IfErr, length};
 ghost use Rattle.replay_cmd.specs.declared.reading.ScheduleFault.TheVariants.{BadLine};
 ghost use Rattle.replay_cmd.specs.Grammar.{most_rows};
-ghost use Rattle.replay_cmd.specs.Pieces.{HasCome, IsFault, IsOver, IsRead, IsReady, IsRowFault, IsTakenIn, LacksFeed, Lengthens, room_of};
-ghost use Rattle.replay_cmd.specs.Readings.{IsTaken};
+ghost use Rattle.replay_cmd.specs.Pieces.{HasCome, IsFault, IsOver, IsRead, MayTakeLine, IsRowFault, IsTakenIn, LacksFeed, Lengthens, room_of};
+ghost use Rattle.replay_cmd.specs.Readings.{TakesLine};
 
 use crate::reading::{MOST_BYTES, Reader, ScheduleFault};
 use crate::schedule::Schedule;
@@ -21,7 +21,7 @@ pub(crate) struct PieceReader {
 impl PieceReader {
     pub(crate) fn new(alloc: Global) -> PieceReader
         ensures come { HasCome [] [] result }
-        ensures ready { IsReady result.reader }
+        ensures ready { MayTakeLine result.reader }
     {
         PieceReader {
             reader: Reader::new(alloc),
@@ -31,9 +31,9 @@ impl PieceReader {
 
     /// Takes a piece of the text.
     pub(crate) fn take_all(&mut self, piece: &[u8]) -> Result<(), ScheduleFault>
-        requires { IsReady self.old.reader }
+        requires { MayTakeLine self.old.reader }
         ensures taken { (text : List ℕ) → HasCome text [] self.old → IsTakenIn (text ++ piece.now) self.new result }
-        ensures ready { OnOk result (IsReady self.new.reader) }
+        ensures ready { OnOk result (MayTakeLine self.new.reader) }
         ensures smaller { OnOk result (room_of self.new + length piece.now ≤ room_of self.old) }
     {
         let mut rest = piece;
@@ -49,11 +49,11 @@ impl PieceReader {
 
     /// Takes what there was of the next line, and the rest of it up to its line feed.
     fn take_row(&mut self, part: &[u8]) -> Result<(), ScheduleFault>
-        requires ready { IsReady self.old.reader }
+        requires ready { MayTakeLine self.old.reader }
         requires line { LacksFeed part.now }
         ensures taken { OnOk result ((text behind : List ℕ) → HasCome text (part.now ++ 10 ∷ behind) self.old → HasCome text behind self.new) }
         ensures refused { IfErr result (λ fault. (text behind : List ℕ) → HasCome text (part.now ++ 10 ∷ behind) self.old → IsFault text fault) }
-        ensures ready { OnOk result (IsReady self.new.reader) }
+        ensures ready { OnOk result (MayTakeLine self.new.reader) }
         ensures smaller { OnOk result (room_of self.new + length part.now + 1 ≤ room_of self.old) }
     {
         match self.lengthen(part) {
@@ -64,7 +64,7 @@ impl PieceReader {
 
     /// Adds bytes to the next line.
     fn lengthen(&mut self, part: &[u8]) -> Result<(), ScheduleFault>
-        requires { IsReady self.old.reader }
+        requires { MayTakeLine self.old.reader }
         ensures ok { OnOk result (Lengthens part.now self.old self.new) }
         ensures refused { IfErr result (IsOver part.now self.old) }
         ensures smaller { OnOk result (room_of self.new + length part.now ≤ room_of self.old) }
@@ -86,8 +86,8 @@ impl PieceReader {
 
     /// The next line has come to its end.
     fn end_row(&mut self) -> Result<(), ScheduleFault>
-        requires { IsReady self.old.reader }
-        ensures ok { OnOk result (IsTaken self.old.row.items self.old.reader self.new.reader × (self.new.row.items ≡ [])) }
+        requires { MayTakeLine self.old.reader }
+        ensures ok { OnOk result (TakesLine self.old.row.items self.old.reader self.new.reader × (self.new.row.items ≡ [])) }
         ensures refused { IfErr result (IsRowFault self.old) }
     {
         match self.reader.take(&self.row) {

@@ -3,7 +3,7 @@ ghost use Rattle.std.specs.Prelude.{◌≡◌, ◌↔◌, ◌≤◌, ◌+◌, []
 ghost use Rattle.replay_cmd.specs.declared.one_line.AnyLine.TheVariants.{File, Session, Event};
 ghost use Rattle.replay_cmd.specs.declared.reading.ScheduleFault.TheVariants.{BadLine};
 ghost use Rattle.replay_cmd.specs.Grammar.{IsBadLine, IsText, most_rows, says};
-ghost use Rattle.replay_cmd.specs.Readings.{Fits, HasNames, IsAdded, IsRefused, IsTaken, lines_in};
+ghost use Rattle.replay_cmd.specs.Readings.{Fits, HasNames, IsAdded, IsRefused, TakesLine, lines_in};
 ghost use Rattle.replay_cmd.specs.Schedules.{IsSchedule};
 
 use crate::fitting::{is_known, note, suits};
@@ -74,7 +74,7 @@ impl Reader {
     /// Takes the next line, and tells whether it is a good one.
     pub(crate) fn take(&mut self, row: &[u8]) -> Result<bool, Memory>
         requires names { HasNames self.old.names self.old.files.items }
-        ensures good { IfOk result (λ good. IsTrue good → IsTaken row.now self.old self.new) }
+        ensures good { IfOk result (λ good. IsTrue good → TakesLine row.now self.old self.new) }
         ensures bad { IfOk result (λ good. good ≡ false → IsRefused row.now self.old × (self.new.rows ≡ self.old.rows)) }
     {
         if self.rows >= MOST_ROWS {

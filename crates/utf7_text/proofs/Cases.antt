@@ -1,7 +1,7 @@
 -- The definitions at worked cases.
 use Rattle.std.proofs.Common.{◌≡◌, true, [], ◌∷◌, codes, refl, ap, arith, lit<, true≢false}
 use Rattle.utf7_text.specs.Pieces.{AreUnits, Direct, Plus, Shift, base64_of}
-use Rattle.utf7_text.specs.Readings.{Cut, IsBadAt, IsReading}
+use Rattle.utf7_text.specs.Readings.{CutsInto, IsBadAt, IsReading}
 use Rattle.utf7_text.specs.Writing.{written}
 use Rattle.base64.specs.Decode.{groups_error, scan_steps}
 use Rattle.base64.specs.declared.decode.DecodeError.TheVariants.{InvalidLastSymbol}
@@ -51,7 +51,7 @@ read_accent : IsReading (codes "+AOk-.csv") (encode_utf8_all (0xE9 ∷ codes ".c
 unfolding base64_of encode_symbols utf16_chars encode
 read_accent =
     let accent : AreUnits (0xE9 ∷ []) = record { some = lit< tt; small = (lit< tt, tt); paired = refl } in
-    let tail : Cut (codes ".csv") (Direct 46 ∷ Direct 99 ∷ Direct 115 ∷ Direct 118 ∷ []) [] =
+    let tail : CutsInto (codes ".csv") (Direct 46 ∷ Direct 99 ∷ Direct 115 ∷ Direct 118 ∷ []) [] =
     (codes "csv", (refl, refl), (codes "sv", (refl, refl), (codes "v", (refl, refl), ([], (refl, refl), refl)))) in
     (Shift (0xE9 ∷ []) true ∷ Direct 46 ∷ Direct 99 ∷ Direct 115 ∷ Direct 118 ∷ [], (codes ".csv", (refl, (accent, λ h. absurd (true≢false h))), tail), refl)
 

@@ -4,7 +4,7 @@ use Rattle.std.proofs.lemmas.Bool.{and_parts, cases_Bool}
 use Rattle.std.proofs.lemmas.Grind.{flat_map-append}
 use Rattle.std.proofs.lemmas.Str.{encodes-append}
 use Rattle.utf7_text.specs.Pieces.{AreUnits, EndsShift, MayStand, Piece, Direct, Plus, Shift, bytes_of, characters_of, base64_of, is_base64, is_direct}
-use Rattle.utf7_text.specs.Readings.{Begins, BeginsNoPiece, Cut, IsBadAt, IsReading, ReadsUpTo, TakesPiece, text_of}
+use Rattle.utf7_text.specs.Readings.{Begins, BeginsNoPiece, CutsInto, IsBadAt, IsReading, ReadsUpTo, TakesPiece, text_of}
 use Rattle.utf7_text.proofs.Digits.{StopsDigits, digits_pass, digits_same, some_digit, split_same}
 use Rattle.std.specs.List.{list_all}
 
@@ -78,13 +78,13 @@ pub one_piece : (bytes a b : List ℕ) (p q : Piece) → Begins bytes p a → Be
 one_piece bytes a b p q begins other = same_start p q a b begins.1 other.1 (sym begins.0 ∙ other.0)
 
 -- what can be cut no further is cut in one way
-pub one_cut : (ps qs : List Piece) (bytes r s : List ℕ) → Cut bytes ps r → Cut bytes qs s → BeginsNoPiece r → BeginsNoPiece s → (ps ≡ qs) × (r ≡ s)
+pub one_cut : (ps qs : List Piece) (bytes r s : List ℕ) → CutsInto bytes ps r → CutsInto bytes qs s → BeginsNoPiece r → BeginsNoPiece s → (ps ≡ qs) × (r ≡ s)
 one_cut [] [] bytes r s cut other stuck end = (refl, sym cut ∙ other)
 one_cut [] (q ∷ qs) bytes r s cut other stuck end = absurd (stuck q other.0 (subst (λ xs. Begins xs q other.0) cut other.1))
 one_cut (p ∷ ps) [] bytes r s cut other stuck end = absurd (end p cut.0 (subst (λ xs. Begins xs p cut.0) other cut.1))
 one_cut (p ∷ ps) (q ∷ qs) bytes r s cut other stuck end =
     let same = one_piece bytes cut.0 other.0 p q cut.1 other.1 in
-    let rest = one_cut ps qs cut.0 r s cut.2 (subst (λ xs. Cut xs qs s) (sym same.1) other.2) stuck end in
+    let rest = one_cut ps qs cut.0 r s cut.2 (subst (λ xs. CutsInto xs qs s) (sym same.1) other.2) stuck end in
     (ap₂ (λ x xs. x ∷ xs) same.0 rest.0, rest.1)
 
 none_short : (p : Piece) (after : List ℕ) → 0 < length (bytes_of p ++ after)
@@ -119,7 +119,7 @@ one_place bytes at place bad other =
     let there = other.place in
     omega (arith, len, here, there)
 
-cut_more : (ps : List Piece) (p : Piece) (bytes rest after : List ℕ) → Cut bytes ps rest → Begins rest p after → Cut bytes (ps ++ p ∷ []) after
+cut_more : (ps : List Piece) (p : Piece) (bytes rest after : List ℕ) → CutsInto bytes ps rest → Begins rest p after → CutsInto bytes (ps ++ p ∷ []) after
 cut_more [] p bytes rest after cut begins = (after, subst (λ xs. Begins xs p after) (sym cut) begins, refl)
 cut_more (q ∷ ps) p bytes rest after cut begins = (cut.0, cut.1, cut_more ps p cut.0 rest after cut.2 begins)
 
@@ -162,7 +162,7 @@ pub bad_inside : (bytes : List ℕ) (at : ℕ) → IsBadAt bytes at → at < len
 bad_inside bytes at bad = let place = bad.place in let some = bad.some in omega (arith, place, some)
 
 -- the rest is what stands after some bytes
-cut_end : (ps : List Piece) (bytes rest : List ℕ) → Cut bytes ps rest → (front : List ℕ) × (bytes ≡ front ++ rest)
+cut_end : (ps : List Piece) (bytes rest : List ℕ) → CutsInto bytes ps rest → (front : List ℕ) × (bytes ≡ front ++ rest)
 cut_end [] bytes rest cut = ([], cut)
 cut_end (p ∷ ps) bytes rest cut =
     let end = cut_end ps cut.0 rest cut.2 in

@@ -10,7 +10,7 @@ use Rattle.std.specs.Char.Utf16.{utf16_lossy_chars}
 use Rattle.std.specs.List.{AllByRecursion}
 use Rattle.std.specs.Str.{all_scalars}
 use Rattle.utf7_text.specs.Pieces.{AreUnits, MayStand, Piece, Direct, Plus, Shift, bytes_of, characters_of, is_direct}
-use Rattle.utf7_text.specs.Readings.{Cut, IsReading}
+use Rattle.utf7_text.specs.Readings.{CutsInto, IsReading}
 use Rattle.utf7_text.specs.Writing.{in_front, is_plain, pieces_of, written}
 use Rattle.utf7_text.proofs.Cutting.{one_reading}
 use Rattle.utf7_text.proofs.Units.{are_units, lossy_units, some_unit, units_of}
@@ -91,7 +91,7 @@ may_stand (Shift units closed) after run =
     let some = run.some in
     (subst AreUnits (sym run.are) (are_units run.spelled run.scalars (omega (arith, len, some))), λ unclosed. absurd (true≢false (sym run.end ∙ unclosed)))
 
-cut_runs : (ps : List Piece) → AreRuns ps → Cut (flat_map bytes_of ps) ps []
+cut_runs : (ps : List Piece) → AreRuns ps → CutsInto (flat_map bytes_of ps) ps []
 cut_runs [] runs = refl
 cut_runs (p ∷ ps) runs = (flat_map bytes_of ps, (refl, may_stand p (flat_map bytes_of ps) runs.0), cut_runs ps runs.1)
 

@@ -10,9 +10,9 @@ abbrev pub Begins : List ℕ → Piece → List ℕ → Type 0
 Begins bytes piece after = (bytes ≡ bytes_of piece ++ after) × MayStand piece after
 
 -- the bytes are these pieces, and then the rest
-abbrev pub Cut : List ℕ → List Piece → List ℕ → Type 0
-Cut bytes [] rest = bytes ≡ rest
-Cut bytes (piece ∷ pieces) rest = (after : List ℕ) × Begins bytes piece after × Cut after pieces rest
+abbrev pub CutsInto : List ℕ → List Piece → List ℕ → Type 0
+CutsInto bytes [] rest = bytes ≡ rest
+CutsInto bytes (piece ∷ pieces) rest = (after : List ℕ) × Begins bytes piece after × CutsInto after pieces rest
 
 -- the text, in UTF-8, that pieces stand for
 abbrev pub text_of : List Piece → List ℕ
@@ -20,7 +20,7 @@ text_of pieces = encode_utf8_all (flat_map characters_of pieces)
 
 -- the bytes up to the rest stand for the text
 abbrev pub ReadsUpTo : List ℕ → List ℕ → List ℕ → Type 0
-ReadsUpTo bytes rest text = (pieces : List Piece) × Cut bytes pieces rest × (text ≡ text_of pieces)
+ReadsUpTo bytes rest text = (pieces : List Piece) × CutsInto bytes pieces rest × (text ≡ text_of pieces)
 
 -- the bytes stand for the text, which is in UTF-8
 abbrev pub IsReading : List ℕ → List ℕ → Type 0

@@ -21,7 +21,7 @@ use Rattle.save_session.specs.declared.state.State.{State}
 use Rattle.save_session.specs.declared.state.Effect.{Effect}
 use Rattle.save_session.specs.declared.state.Effect.TheVariants.{Sends, Tells, Ignores}
 use Rattle.save_session.specs.declared.state.Turn.{Turn}
-use Rattle.wopi_world.specs.Requests.{Client, input_of, act_of, call_of, sent_with, Sent, Info, TakeLock, Get, Put, Relock, RefreshLock, Unlock}
+use Rattle.wopi_world.specs.Requests.{Client, input_of, act_sent, call_of, sent_with, Sent, Info, TakeLock, Get, Put, Relock, RefreshLock, Unlock}
 use Rattle.save_session.specs.declared.input.Input.TheVariants.{Reply as Replies, NoAnswer}
 use Rattle.save_session.specs.Session.{stepped}
 use Rattle.save_session.proofs.Naming.{begins_with_nonce, same_nonce}
@@ -58,7 +58,7 @@ was_held-at_moment client j shard moment (inl u) =
     ]
 was_held-at_moment client j shard moment (inr gone) = inr (gone-settled client j shard.now (max shard.now moment) (own_file client shard) (omega arith) gone)
 
-put_of_act : (client : Client) (op : Sent) (j : ℕ) (d : List ℕ) → act_of client.nonce op ≡ act.Put (Some (lock_id client.nonce j)) d → op ≡ Put j d
+put_of_act : (client : Client) (op : Sent) (j : ℕ) (d : List ℕ) → act_sent client.nonce op ≡ act.Put (Some (lock_id client.nonce j)) d → op ≡ Put j d
 put_of_act client Info j d h = cc
 put_of_act client TakeLock j d h = cc
 put_of_act client Get j d h = cc
@@ -143,7 +143,7 @@ own_delivered setting client s world place moment op h e =
 
 others_delivered : (setting : Setting) (client other : Client) (s t : ℕ) (world : World) (place moment : ℕ) (op : Sent) → IsKept setting client s world →
     slice_get world.requests place ≡ Some (record { sender = t; op = op }) → t ≢ s →
-    ((number : ℕ) → Presents (act_of other.nonce op) (lock_id client.nonce number) → ⊥) → IsKept setting client s (delivered_by world place moment op (Some other))
+    ((number : ℕ) → Presents (act_sent other.nonce op) (lock_id client.nonce number) → ⊥) → IsKept setting client s (delivered_by world place moment op (Some other))
 others_delivered setting client other s t world place moment op h e apart free =
     let call = call_of other op in
     let next = enters world call moment in
@@ -156,7 +156,7 @@ others_delivered setting client other s t world place moment op h e apart free =
 
 -- another session presents ids of its own
 
-presented : (nonce : List ℕ) (op : Sent) (id : List ℕ) → Presents (act_of nonce op) id → (i : ℕ) × (lock_id nonce i ≡ id)
+presented : (nonce : List ℕ) (op : Sent) (id : List ℕ) → Presents (act_sent nonce op) id → (i : ℕ) × (lock_id nonce i ≡ id)
 presented nonce Info id h = absurd h
 presented nonce TakeLock id h = (1, h)
 presented nonce Get id h = absurd h
@@ -167,7 +167,7 @@ presented nonce (RefreshLock j) id h = (j, h)
 presented nonce (Unlock j) id h = (j, h)
 
 free_of : (setting : Setting) (events : List Event) → IsValid setting events → (s t : ℕ) (client other : Client) → slice_get setting.clients s ≡ Some client →
-    slice_get setting.clients t ≡ Some other → t ≢ s → (op : Sent) (number : ℕ) → Presents (act_of other.nonce op) (lock_id client.nonce number) → ⊥
+    slice_get setting.clients t ≡ Some other → t ≢ s → (op : Sent) (number : ℕ) → Presents (act_sent other.nonce op) (lock_id client.nonce number) → ⊥
 free_of setting events valid s t client other e f apart op number h =
     let p = presented other.nonce op (lock_id client.nonce number) h in
     let mine = begins_with_nonce client.nonce number in

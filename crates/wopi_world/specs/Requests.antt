@@ -64,9 +64,9 @@ body (Put number contents) = contents
 body _ = []
 
 -- the one act that a session's request is for the host
-abbrev pub act_of : List ℕ → Sent → Act
-act_of nonce sent = act_with (body sent) (op_of nonce (operation sent))
+abbrev pub act_sent : List ℕ → Sent → Act
+act_sent nonce sent = act_with (body sent) (op_of nonce (operation sent))
 
 -- the one call that a session's request makes
 abbrev pub call_of : Client → Sent → Call
-call_of client sent = record { name = client.token.file; token = client.token; act = act_of client.nonce sent }
+call_of client sent = record { name = client.token.file; token = client.token; act = act_sent client.nonce sent }

@@ -3,7 +3,7 @@ use Rattle.std.proofs.lemmas.List.{length-map}
 use Rattle.wopi_model.specs.File.{File, never_met}
 use Rattle.kept_locks.specs.Locks.{Standing, Locks, all_ended, unlocked}
 use Rattle.host_core.specs.declared.file.KeptFile.{KeptFile}
-use Rattle.host_core.specs.Files.{file_of, BeganAtMoment, IsHeld}
+use Rattle.host_core.specs.Files.{file_of, BeganAtMoment, IsKeptUnder}
 use Rattle.host_core.specs.Numbers.{named, IsNumbered, AreLocked}
 use Rattle.host_core.specs.Steps.{StepsAll}
 use Rattle.host_core.specs.Turns.{Turns}

@@ -4,7 +4,7 @@ use Rattle.file_versions.specs.Versions.{kept_in}
 use Rattle.host_core.specs.Archive.{IsArchive}
 use Rattle.host_core.specs.Entries.{Made}
 use Rattle.host_core.specs.Files.{files_of, torn_in}
-use Rattle.host_core.specs.ShardView.{opening_of}
+use Rattle.host_core.specs.ShardView.{opening_listed}
 use Rattle.host_core.specs.Value.{Reflects, Agrees, Stands, faults_in}
 use Rattle.host_core.specs.Whole.{Whole, joined}
 use Rattle.host_core.proofs.Joining.{long_joined}
@@ -21,18 +21,18 @@ invariant_of-result g c =
     let stock = c.args.stock in
     let room = c.args.room in
     let kept = joined stock.files.items [] in
-    let opening = opening_of stock.opening.items in
-    let same : opening ≡ opening_of c.of-opening.result.value.items = sym (ap (λ v. opening_of v.items) c.of-opening.ensures) in
+    let opening = opening_listed stock.opening.items in
+    let same : opening ≡ opening_listed c.of-opening.result.value.items = sym (ap (λ v. opening_listed v.items) c.of-opening.ensures) in
     let start = c.args.start.value in
     let none : length room.entries.items ≡ 0 = ap (λ (m : List Made). length m) c.requires.entries in
     let few = c.requires.stock.few in
     let most = c.requires.capacity in
     let count : length stock.files.items ≡ length opening = first_long stock c.requires.stock in
-    let long : length opening ≡ length (opening_of c.of-opening.result.value.items) = ap length same in
+    let long : length opening ≡ length (opening_listed c.of-opening.result.value.items) = ap length same in
     let size = long_joined stock.files.items [] in (
       subst (λ (l : List Whole). Stands (record {
         only = c.of.result.value;
-        opening = opening_of c.of-opening.result.value.items;
+        opening = opening_listed c.of-opening.result.value.items;
         opened = c.args.opened;
         capacity = c.args.capacity;
         made = room.entries.items;

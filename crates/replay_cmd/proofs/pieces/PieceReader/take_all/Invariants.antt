@@ -1,11 +1,11 @@
 use Rattle.std.proofs.Common.{◌≤◌, ◌+◌, ◌++◌, [], ℕ, List, length}
-use Rattle.replay_cmd.specs.Pieces.{HasCome, IsReady, room_of}
+use Rattle.replay_cmd.specs.Pieces.{HasCome, MayTakeLine, room_of}
 use Rattle.replay_cmd.proofs.pieces.PieceReader.take_all.Given as goal
 
 abbrev pub invariant-rows : goal.invariant-rows
 invariant-rows l = record {
   come : (text : List ℕ) → HasCome text [] l.fn.self → HasCome (text ++ l.piece) l.rest l.self;
-  ready : IsReady l.self.reader;
+  ready : MayTakeLine l.self.reader;
   room : room_of l.self + length l.piece ≤ room_of l.fn.self + length l.rest;
 }
 
