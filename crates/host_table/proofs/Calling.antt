@@ -4,7 +4,7 @@ use mathlib.Core.List.{IsPrefix, map-append}
 use Rattle.std.specs.Prelude as Prelude
 use Rattle.wopi_text.specs.FileName.{shard_of}
 use Rattle.wopi_model.specs.declared.calls.Call.{Call}
-use Rattle.wopi_model.specs.Shard.{Opening, Item, Step, Entry, Legal, RisesFrom, entries}
+use Rattle.wopi_model.specs.Shard.{Opening, Item, Step, Entry, Legal, RisesFrom, entries, stamps, last_from}
 use Rattle.wopi_model.specs.Host.{FullAt}
 use Rattle.host_core.specs.declared.caller.Receipt.{Receipt}
 use Rattle.host_core.specs.declared.caller.CallFault.{CallFault}
@@ -153,7 +153,7 @@ module _ {F : Type 0} (p : PassView F) (k : ℕ) (v w : Place F) (inside : IsPas
           some_same receipt.shard k calls.base.only calls.shard only
 
       top_below : top p.seats < receipt.stamp
-      top_below = let above = calls.above in let last_was = inside.last_is in omega arith
+      top_below = let stamp : receipt.stamp ≡ max p.last (last_from 0 (stamps (entries (untimed (v.seen ++ calls.between))))) + 1 = calls.stamp in let last_was = inside.last_is in omega arith
 
       pub own_call : own_of q ≡ own_of p ++ record { shard = receipt.shard; place = receipt.place; entry = entry_of p.number call moment receipt } ∷ []
       own_call =
@@ -204,7 +204,7 @@ module _ {F : Type 0} (p : PassView F) (k : ℕ) (v w : Place F) (inside : IsPas
             shard = shard_same ∙ home;
             place = calls.place ∙ sym (ap (λ (es : List Entry). length es) found ∙ steps-long made);
             begins = subst Begins home (steps_of calls.between, found ∙ (steps-append v.seen calls.between ∙ ap (λ (es : List Entry). es ++ steps_of calls.between) (sym old)));
-            above = calls.above;
+            stamp = calls.stamp;
             room = subst Room home room;
             back = calls.back;
           }

@@ -1,5 +1,6 @@
 -- What a shard keeps under its lock, as a step is appended to it.
 use Rattle.std.proofs.Common.{◌≡◌, ◌≢◌, ℕ, ◌+◌, ◌≤◌, max, false, Option, Some, List, [], ◌∷◌, ◌++◌, length, inl, refl, sym, ap, subst, ◌∙◌, arith, length-append}
+use Rattle.std.proofs.Math.Nat.{max_comm}
 use Rattle.outside.specs.Folder.{Files}
 use Rattle.wopi_text.specs.FileName.{shard_of}
 use Rattle.wopi_model.specs.declared.calls.Call.{Call}
@@ -15,7 +16,7 @@ use Rattle.host_core.specs.Times.{untimed, GoesByEntries}
 use Rattle.host_table.specs.Histories.{as_opened, AreNamed, IsSeen}
 use Rattle.host_table.specs.Held.{IsHeld, Adds, Declines}
 use Rattle.host_table.proofs.Stamps.{steps-long}
-use Rattle.host_core.proofs.Timing.{entries-history, full-untimed, full-timed}
+use Rattle.host_core.proofs.Timing.{entries-history, entries-untimed, full-untimed, full-timed}
 use Rattle.host_table.proofs.Timing.{named-push}
 
 not_empty : (made : List Made) (one : Made) → made ++ one ∷ [] ≡ [] → ⊥
@@ -56,7 +57,8 @@ held_adds old new call pass floor moment receipt goes is shard place stamp room 
   made = ap (λ (b : Book _). b.made) is;
   shard = shard;
   place = place;
-  above = omega (arith, stamp);
+  stamp = stamp ∙ (ap (λ (es : List Entry). max (last_from 0 (stamps es)) floor + 1) (entries-history old.made old.time ∙ sym (entries-untimed old.made))
+      ∙ ap (λ (n : ℕ). n + 1) (max_comm (last_from 0 (stamps (entries (untimed old.made)))) floor));
   room = λ full. room (full-timed old.opening old.opened old.capacity old.made old.time floor call moment goes.timely goes.time_is full);
   back = back;
 }

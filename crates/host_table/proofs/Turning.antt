@@ -8,7 +8,7 @@ use Rattle.wopi_model.specs.declared.calls.Call.{Call}
 use Rattle.wopi_model.specs.Host.{FullAt}
 use Rattle.host_core.specs.declared.caller.Receipt.{Receipt}
 use Rattle.host_core.specs.declared.caller.CallFault.{CallFault}
-use Rattle.host_core.specs.Caller.{entry_of, IsFullCall}
+use Rattle.host_core.specs.Caller.{entry_of, IsFullCall, next_stamp}
 use Rattle.host_core.specs.Entries.{Made}
 use Rattle.host_core.specs.Value.{Book}
 use Rattle.host_core.specs.Times.{untimed}
@@ -52,7 +52,7 @@ made_call v w old new call pass floor moment receipt free based begins is adds =
       seen = seen ∙ (adds.made ∙ ap (λ (made : List Made). made ++ one ∷ []) (sym begins.1));
       shard = adds.shard;
       place = adds.place ∙ ap (λ (made : List Made). length made) (sym begins.1);
-      above = adds.above;
+      stamp = adds.stamp ∙ ap (λ (made : List Made). next_stamp floor (untimed made)) (sym begins.1);
       room = subst P (sym begins.1) adds.room;
       back = adds.back;
       same = is ∙ (λ i. record { lock = v.lock; seen = sym seen i; own = own i; weight = v.weight; base = v.base; taken = sym free i });

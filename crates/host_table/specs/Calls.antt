@@ -1,11 +1,11 @@
 -- A call in one shard, as its seat sees it. (Own.)
-use Rattle.std.specs.Prelude.{◌≡◌, ℕ, ◌<◌, List, [], ◌∷◌, ◌++◌, length, Some}
+use Rattle.std.specs.Prelude.{◌≡◌, ℕ, List, [], ◌∷◌, ◌++◌, length, Some}
 use mathlib.Core.List.{IsPrefix}
 use Rattle.wopi_model.specs.declared.calls.Call.{Call}
 use Rattle.wopi_model.specs.Host.{FullAt}
 use Rattle.host_core.specs.declared.caller.Receipt.{Receipt}
 use Rattle.host_core.specs.declared.caller.CallFault.{CallFault}
-use Rattle.host_core.specs.Caller.{entry_of, called_back, IsFullCall}
+use Rattle.host_core.specs.Caller.{entry_of, called_back, IsFullCall, next_stamp}
 use Rattle.host_core.specs.Entries.{Made, back_of}
 use Rattle.host_core.specs.Value.{Book}
 use Rattle.host_core.specs.Times.{untimed}
@@ -21,7 +21,7 @@ module _ {F : Type 0} (v : Place F) (call : Call) where
     pub seen : w.seen ≡ (v.seen ++ between) ++ record { time = time; step = entry_of pass call moment receipt } ∷ []
     pub shard : base.only ≡ Some receipt.shard
     pub place : receipt.place ≡ length (v.seen ++ between)
-    pub above : floor < receipt.stamp
+    pub stamp : receipt.stamp ≡ next_stamp floor (untimed (v.seen ++ between))
     pub room : FullAt base.opening base.opened base.capacity (untimed (v.seen ++ between)) floor call moment → ⊥
     pub back : receipt.back ≡ back_of call.act receipt.ruling
     pub same : w ≡ record { lock = v.lock; seen = w.seen; own = v.own ++ receipt.place ∷ []; weight = v.weight; base = v.base; taken = v.taken }

@@ -1,11 +1,11 @@
 -- A shard of a host, as it lies under its lock. (Own.)
-use Rattle.std.specs.Prelude.{◌≡◌, ℕ, ◌≤◌, ◌<◌, false, [], ◌∷◌, ◌++◌, length, Option, Some}
+use Rattle.std.specs.Prelude.{◌≡◌, ℕ, ◌≤◌, false, [], ◌∷◌, ◌++◌, length, Option, Some}
 use Rattle.outside.specs.Folder.{Files, Keeps}
 use Rattle.wopi_model.specs.declared.calls.Call.{Call}
 use Rattle.wopi_model.specs.Host.{FullAt}
 use Rattle.host_core.specs.declared.caller.Receipt.{Receipt}
 use Rattle.host_core.specs.declared.caller.CallFault.{CallFault}
-use Rattle.host_core.specs.Caller.{entry_of, called_back, IsFullCall}
+use Rattle.host_core.specs.Caller.{entry_of, called_back, IsFullCall, next_stamp}
 use Rattle.host_core.specs.Entries.{back_of}
 use Rattle.host_core.specs.Value.{Book, Left, IsLawful}
 use Rattle.host_core.specs.Times.{untimed}
@@ -25,7 +25,7 @@ pub record Adds {F : Type 0} (old new : Book F) (call : Call) (pass floor moment
   pub made : new.made ≡ old.made ++ record { time = time; step = entry_of pass call moment receipt } ∷ []
   pub shard : old.only ≡ Some receipt.shard
   pub place : receipt.place ≡ length old.made
-  pub above : floor < receipt.stamp
+  pub stamp : receipt.stamp ≡ next_stamp floor (untimed old.made)
   pub room : FullAt old.opening old.opened old.capacity (untimed old.made) floor call moment → ⊥
   pub back : receipt.back ≡ back_of call.act receipt.ruling
 
