@@ -1,5 +1,5 @@
 //! The bytes of a connection that were read and not yet used.
-ghost use Rattle.std.specs.Prelude.{◌≡◌, ◌≤◌, ◌<◌, ◌+◌, ◌-◌, [], ◌++◌, IfOk, OnOk, OnErr, length, take, drop, vec_len};
+ghost use Rattle.std.specs.Prelude.{◌≡◌, ◌≤◌, ◌<◌, ◌+◌, ◌-◌, [], ◌++◌, IfOk, OnOk, OnErr, length, take, drop, vec_len, vec_capacity};
 ghost use Rattle.std.specs.Io.KnownBytes.{Consumes, Keeps, IsAtEnd, prepend_known};
 ghost use Rattle.outside.specs.Faults.{Rose};
 
@@ -9,7 +9,7 @@ use std::marker::Model;
 use wopi_text::Memory;
 
 /// The bytes that a buffer has room for.
-const ROOM: usize = 32768;
+pub(crate) const ROOM: usize = 32768;
 
 /// A read asks for so many bytes at least.
 const PIECE: usize = 16384;
@@ -55,7 +55,8 @@ impl Buffer {
         self.alloc
     }
 
-    pub(crate) fn len(&self) -> usize
+    /// How many bytes were read and not yet used.
+    pub fn held(&self) -> usize
         ensures value { result ≡ length self.now }
         ensures few { result ≤ 32768 }
     {
@@ -131,6 +132,7 @@ pub(crate) fn read_behind<S: Source>(
     ensures end { IfOk result (λ n. n ≡ 0 → IsAtEnd (S.left source.new)) }
     ensures kept { OnErr result (Keeps (S.left source.old) (S.left source.new)) }
     ensures len { vec_len space.new ≡ vec_len space.old }
+    ensures capacity { vec_capacity space.new ≡ vec_capacity space.old }
     ensures beside { S.beside_reads source.new ≡ S.beside_reads source.old }
     ensures never_falls { S.read_faults source.old ≤ S.read_faults source.new }
     ensures failed { OnErr result (Rose (S.read_faults source.old) (S.read_faults source.new)) }

@@ -19,7 +19,7 @@ struct Expecting {
 }
 
 /// Gives as much as there is room for, and says how much that was and what is left.
-fn given(from: &'static [u8], into: &mut [u8]) -> (usize, &'static [u8])
+pub fn given(from: &'static [u8], into: &mut [u8]) -> (usize, &'static [u8])
     ensures { result.0 ≤ length into.old }
 {
     let count = into.len().min(from.len());

@@ -1,4 +1,4 @@
-use Rattle.std.proofs.Common.{◌≡◌, ◌≤◌, ◌-◌, vec_len}
+use Rattle.std.proofs.Common.{◌≡◌, ◌≤◌, ◌-◌, vec_len, vec_capacity}
 use Rattle.wopi_http.specs.Waits.{Takes}
 use Rattle.wopi_http.proofs.body.read_more.Given as goal
 
@@ -6,6 +6,7 @@ abbrev pub invariant-growing : goal.invariant-growing
 invariant-growing g l = record {
   from : l.start ≤ vec_len l.body;
   inside : vec_len l.body ≤ l.end;
+  room : l.end ≤ vec_capacity l.body;
   taken : Takes (g.S.Source.left l.initial.source) (g.S.Source.left l.source) l.initial.body.items l.body.items (vec_len l.body - l.start);
   beside : g.S.Source.beside_reads l.source ≡ g.S.Source.beside_reads l.initial.source;
   never_falls : g.S.Source.read_faults l.initial.source ≤ g.S.Source.read_faults l.source;

@@ -17,6 +17,7 @@ reading-preserved g c =
       from = omega (arith, l.invariant.from);
       inside = omega (arith, c.in-Ok.ensures.fits);
       len = c.in-Ok.ensures.len ∙ l.invariant.len;
+      capacity = c.in-Ok.ensures.capacity ∙ l.invariant.capacity;
       taken = subst (Takes _ _ _ _) sum (takes_then _ _ _ _ _ _ _ _ l.invariant.taken more);
       beside = c.in-Ok.ensures.beside ∙ l.invariant.beside;
       never_falls = omega (arith, c.in-Ok.ensures.never_falls, l.invariant.never_falls);

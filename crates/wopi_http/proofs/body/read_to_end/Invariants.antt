@@ -1,4 +1,4 @@
-use Rattle.std.proofs.Common.{◌≡◌, ◌≤◌, ◌-◌, take, vec_len}
+use Rattle.std.proofs.Common.{◌≡◌, ◌≤◌, ◌-◌, take, vec_len, vec_capacity}
 use Rattle.wopi_http.specs.Waits.{Takes}
 use Rattle.wopi_http.proofs.body.read_to_end.Given as goal
 
@@ -7,6 +7,7 @@ invariant-reading g l = record {
   from : l.filled ≤ l.done;
   inside : l.done ≤ vec_len l.body;
   len : vec_len l.body ≡ vec_len l.initial.body;
+  capacity : vec_capacity l.body ≡ vec_capacity l.initial.body;
   taken : Takes (g.S.Source.left l.initial.source) (g.S.Source.left l.source) (take l.filled l.initial.body.items) (take l.done l.body.items) (l.done - l.filled);
   beside : g.S.Source.beside_reads l.source ≡ g.S.Source.beside_reads l.initial.source;
   never_falls : g.S.Source.read_faults l.initial.source ≤ g.S.Source.read_faults l.source;
