@@ -10,6 +10,7 @@ use wopi_text::Bytes;
 mod client;
 mod expecting;
 mod places;
+mod writes;
 
 const CHUNKED: &[u8] =
     b"POST /wopi/files/61/contents HTTP/1.1\r\nHost: localhost:8880\r\nExpect: 100-Continue\r\nTransfer-Encoding: Chunked\r\n\r\n4;name=value\r\n1,9\n\r\n0\r\nTrailer: x\r\n\r\n";
