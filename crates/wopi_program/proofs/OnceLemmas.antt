@@ -1,12 +1,15 @@
 -- From a shard that was served to a run of `once`.
-use Rattle.std.proofs.Common.{◌≡◌, ◌≢◌, ℕ, Bool, false, List, [], ◌++◌, map, Option, None, sym, ap, ◌∙◌, subst, inl, inr, arith}
-use Rattle.outside.specs.Folder.{Files}
+use Rattle.std.proofs.Common.{◌≡◌, ◌≢◌, ◌≤◌, ℕ, Bool, false, List, [], ◌++◌, map, Option, None, refl, sym, ap, ◌∙◌, subst, inl, inr, arith}
+use Rattle.outside.specs.Faults.{Rose}
+use Rattle.outside.specs.Folder.{Files, Keeps}
 use Rattle.outside.specs.Clock.{Gives}
 use Rattle.wopi_model.specs.Shard.{Opening, Item, Step, Entry, Legal, entries}
+use Rattle.host_core.specs.declared.opening.StartFault.{StartFault}
+use Rattle.host_core.specs.declared.opening.StartFault.TheVariants as refusal
 use Rattle.host_core.specs.Entries.{Made, items_of}
 use Rattle.host_core.specs.Times.{untimed, happened_of}
 use Rattle.host_core.specs.Value.{Book, IsLawful}
-use Rattle.host_core.specs.Opening.{IsOpening, Fits}
+use Rattle.host_core.specs.Opening.{IsOpening, Fits, IsTooLarge, IfTooLarge}
 use Rattle.host_core.specs.Single.{sight_of, sees_its_own, SeesItsOwn}
 use Rattle.host_server.specs.declared.desk.Desk.{Desk}
 use Rattle.host_server.specs.declared.connection.ConnEnd.{ConnEnd}
@@ -17,7 +20,7 @@ use Rattle.wopi_program.specs.declared.outside_world.Outside.{Outside}
 use Rattle.wopi_program.specs.declared.once.OnceEnd.{OnceEnd}
 use Rattle.wopi_program.specs.declared.once.OnceEnd.TheVariants.{Served, FolderFault, TooLarge, Memory}
 use Rattle.wopi_program.specs.Meanings.{Meanings}
-use Rattle.wopi_program.specs.Once.{IsFresh, ServesShard, OpensAndServes, Finishes, OnceEnds}
+use Rattle.wopi_program.specs.Once.{IsFresh, ServesShard, OpensAndServes, OpensNone, OnceRuns, Untouched, Finishes, OnceEnds, end_of}
 
 module _ {F : Type 0} (files : F → Option Files) (faults : F → ℕ) where
   pub shard_serves : (desk : Desk) (end : ConnEnd) (left clock clock' held held' : Option (List ℕ)) (first began ended last : Book F) (folder : F)
@@ -80,6 +83,31 @@ module _ {F : Type 0} (files : F → Option Files) (faults : F → ℕ) where
     legal = subst (λ (m : ℕ). Legal first.opening m (map Step (made serves.serves.deeds))) (ap (λ (b : Book F). b.opened) book ∙ sym opened_is)
         (legal_alone desk end left mid clock' held held' folder' first (ap (λ (b : Book F). b.made) book) (ap (λ (b : Book F). b.ticked) book) serves);
   }
+
+-- where a shard was refused, what the run did by its end
+pub opens_none : {F : Type 0} (files : F → Option Files) (faults : F → ℕ) (key base : List ℕ) (fault : StartFault) (opened : ℕ)
+    (left clock clock' held held' : Option (List ℕ)) (folder folder' : F)
+    → Gives clock clock' opened → Keeps (files folder) (files folder') → faults folder ≤ faults folder' → IfTooLarge fault (IsTooLarge None (files folder))
+    → (fault ≡ refusal.FolderFault → Rose (faults folder) (faults folder'))
+    → OnceRuns files faults key base (end_of fault) left clock clock' held held' folder folder'
+opens_none files faults key base refusal.FolderFault opened left clock clock' held held' folder folder' gives keeps counts too_large failed =
+    (failed refl, record { opened = opened; gives = gives; keeps = keeps; counts = counts })
+opens_none files faults key base (refusal.TooLarge name) opened left clock clock' held held' folder folder' gives keeps counts too_large failed =
+    (too_large, record { opened = opened; gives = gives; keeps = keeps; counts = counts })
+opens_none files faults key base refusal.Memory opened left clock clock' held held' folder folder' gives keeps counts too_large failed =
+    record { opened = opened; gives = gives; keeps = keeps; counts = counts }
+
+-- at status 6 nothing was read
+pub reads_nothing : {S K : Type 0} (bytes : S → Option (List ℕ)) (held : K → Option (List ℕ)) (count : K → ℕ) (status : ℕ) (source source' : S) (sink sink' old new : K)
+    (end : OnceEnd) → Finishes held count status old new end → Untouched end source source' sink sink' → (end ≡ Served conn.Memory → bytes source' ≡ bytes source)
+    → status ≡ 6 → bytes source' ≡ bytes source
+reads_nothing bytes held count status source source' sink sink' old new (Served conn.Done) is untouched nothing six = absurd (omega (arith, is.0, six))
+reads_nothing bytes held count status source source' sink sink' old new (Served conn.ReadFault) is untouched nothing six = absurd (omega (arith, is.0, six))
+reads_nothing bytes held count status source source' sink sink' old new (Served conn.WriteFault) is untouched nothing six = absurd (omega (arith, is.0, six))
+reads_nothing bytes held count status source source' sink sink' old new (Served conn.Memory) is untouched nothing six = nothing refl
+reads_nothing bytes held count status source source' sink sink' old new FolderFault is untouched nothing six = ap bytes untouched.0
+reads_nothing bytes held count status source source' sink sink' old new (TooLarge name) is untouched nothing six = ap bytes untouched.0
+reads_nothing bytes held count status source source' sink sink' old new Memory is untouched nothing six = ap bytes untouched.0
 
 Finishes-known : {K : Type 0} (held : K → Option (List ℕ)) (count : K → ℕ) (status : ℕ) (old new : K) (end : OnceEnd)
     → Finishes held count status old new end → status ≢ 2

@@ -1,5 +1,5 @@
 -- What a run of `once` promises.
-use Rattle.std.specs.Prelude.{◌≡◌, ◌⊎◌, ⊤, ℕ, false, List, [], ◌∷◌, ◌++◌, map, Option, None, codes}
+use Rattle.std.specs.Prelude.{◌≡◌, ◌⊎◌, ◌≤◌, ⊤, ℕ, false, List, [], ◌∷◌, ◌++◌, map, Option, None, codes}
 use Rattle.outside.specs.Faults.{Rose}
 use Rattle.outside.specs.Clock.{Gives}
 use Rattle.outside.specs.Folder.{Files, Keeps}
@@ -92,16 +92,23 @@ pub record OpensAndServes {F : Type 0} (files : F → Option Files) (faults : F 
   pub serves : ServesShard files faults desk end left mid clock' held held' first folder'
   pub legal : Legal first.opening desk.opened (map Step (made serves.serves.deeds))
 
--- What a run did, by its end. Where no shard was opened the folder holds what it held.
+-- No shard was opened at the moment that the clock gave: the folder holds what it held, and its count hasn't fallen.
+pub record OpensNone {F : Type 0} (files : F → Option Files) (faults : F → ℕ) (clock clock' : Option (List ℕ)) (folder folder' : F) : Type 0 where
+  pub opened : ℕ
+  pub gives : Gives clock clock' opened
+  pub keeps : Keeps (files folder) (files folder')
+  pub counts : faults folder ≤ faults folder'
+
+-- What a run did, by its end.
 abbrev pub OnceRuns : {F : Type 0} → (F → Option Files) → (F → ℕ) → List ℕ → List ℕ → OnceEnd
     → Option (List ℕ) → Option (List ℕ) → Option (List ℕ) → Option (List ℕ) → Option (List ℕ) → F → F → Type 0
 OnceRuns files faults key base (Served end) left clock clock' held held' folder folder' =
     OpensAndServes files faults key base end left clock clock' held held' folder folder'
 OnceRuns files faults key base FolderFault left clock clock' held held' folder folder' =
-    Rose (faults folder) (faults folder') × Keeps (files folder) (files folder')
+    Rose (faults folder) (faults folder') × OpensNone files faults clock clock' folder folder'
 OnceRuns files faults key base (TooLarge name) left clock clock' held held' folder folder' =
-    IsTooLarge None (files folder) name × Keeps (files folder) (files folder')
-OnceRuns files faults key base Memory left clock clock' held held' folder folder' = Keeps (files folder) (files folder')
+    IsTooLarge None (files folder) name × OpensNone files faults clock clock' folder folder'
+OnceRuns files faults key base Memory left clock clock' held held' folder folder' = OpensNone files faults clock clock' folder folder'
 
 -- the same with the one folder and the one clock in their lists, in which they are again
 pub record OnceRunsIn {F C : Type 0} (files : F → Option Files) (faults : F → ℕ) (moments : C → Option (List ℕ)) (key base : List ℕ) (end : OnceEnd)
@@ -130,6 +137,7 @@ pub record OnceRan {S K F N D C L : Type 0} (m : Meanings S K F N D C L) (words 
   pub runs : OnceRunsIn m.files m.folder_faults m.moments key base end (m.left old.input) (m.held old.output) (m.held new.output)
       old.folders.items new.folders.items old.clocks.items new.clocks.items
   pub untouched : Untouched end old.input new.input old.output new.output
+  pub nothing_read : status ≡ 6 → m.left new.input ≡ m.left old.input
   pub read_cause : status ≡ 3 → Rose (m.read_faults old.input) (m.read_faults new.input)
   pub write_cause : status ≡ 4 → Rose (m.write_faults old.output) (m.write_faults new.output)
   pub finishes : Finishes m.held m.write_faults status old.notes new.notes end

@@ -49,6 +49,7 @@ fn serve<S: Source, K: Sink, F: Folder, C: Clock>(
     ensures writes_count { K.write_faults sink.old ≤ K.write_faults sink.new }
     ensures read_fault { result ≡ ConnEnd.ReadFault → Rose (S.read_faults source.old) (S.read_faults source.new) }
     ensures write_fault { result ≡ ConnEnd.WriteFault → Rose (K.write_faults sink.old) (K.write_faults sink.new) }
+    ensures nothing_read { result ≡ ConnEnd.Memory → S.left source.new ≡ S.left source.old }
 {
     let mut link = Lent::new(source, sink);
     serve_connection(alloc, single, desk, &mut link, clock)
@@ -70,6 +71,7 @@ fn serve_over<S: Source, K: Sink, F: Folder, C: Clock>(
     ensures writes_count { K.write_faults sink.old ≤ K.write_faults sink.new }
     ensures read_fault { result.1 ≡ ConnEnd.ReadFault → Rose (S.read_faults source.old) (S.read_faults source.new) }
     ensures write_fault { result.1 ≡ ConnEnd.WriteFault → Rose (K.write_faults sink.old) (K.write_faults sink.new) }
+    ensures nothing_read { result.1 ≡ ConnEnd.Memory → S.left source.new ≡ S.left source.old }
 {
     let mut single = Single::new(shard);
     let end = serve(alloc, desk, &mut single, source, sink, clock);
@@ -105,6 +107,7 @@ fn once_over<S: Source, K: Sink, F: Folder, C: Clock>(
     ensures untouched { Untouched result.1 source.old source.new sink.old sink.new }
     ensures read_fault { result.1 ≡ OnceEnd.Served ConnEnd.ReadFault → Rose (S.read_faults source.old) (S.read_faults source.new) }
     ensures write_fault { result.1 ≡ OnceEnd.Served ConnEnd.WriteFault → Rose (K.write_faults sink.old) (K.write_faults sink.new) }
+    ensures nothing_read { result.1 ≡ OnceEnd.Served ConnEnd.Memory → S.left source.new ≡ S.left source.old }
 {
     let opened = clock.now();
     let desk = Desk::new(key, base, opened);
@@ -138,6 +141,7 @@ fn once_in<S: Source, K: Sink, F: Folder, C: Clock>(
     ensures untouched { Untouched result source.old source.new sink.old sink.new }
     ensures read_fault { result ≡ OnceEnd.Served ConnEnd.ReadFault → Rose (S.read_faults source.old) (S.read_faults source.new) }
     ensures write_fault { result ≡ OnceEnd.Served ConnEnd.WriteFault → Rose (K.write_faults sink.old) (K.write_faults sink.new) }
+    ensures nothing_read { result ≡ OnceEnd.Served ConnEnd.Memory → S.left source.new ≡ S.left source.old }
 {
     let Some(folder) = folders.pop() else {
         unreachable!()
@@ -221,6 +225,7 @@ fn finish<K: Sink>(alloc: Global, notes: &mut K, end: &OnceEnd) -> u8
 
 /// Answers the requests of the input on the output, in their order, by calls on one shard over the
 /// folder.
+#[tactic(auto, using(crate::proofs::OnceLemmas::reads_nothing))]
 pub fn run_once<S: Source, K: Sink, F: Folder, N: Listener, D: Dialer, C: Clock>(
     alloc: Global,
     words: &[String],
