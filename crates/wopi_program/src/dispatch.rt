@@ -8,8 +8,8 @@ ghost use Rattle.wopi_program.specs.Runs.{RunEnds};
 use crate::serve::run_serve;
 use crate::serve_words::ServeAsk;
 use crate::{
-    Command, Outside, help, read_words, refuse, run_edit, run_once, run_replay, run_token, tell,
-    version,
+    Command, Meant, Outside, help, read_words, refuse, run_edit, run_once, run_replay, run_token,
+    tell, version,
 };
 use outside::{Clock, Dialer, Folder, Listener, Sink, Source};
 use std::alloc::Global;
@@ -34,26 +34,7 @@ pub fn run<
     ensures usage { result ≡ 2 ↔ (¬ IsCommand (map string_bytes words.now)) }
     ensures usage_leaves { ¬ IsCommand (map string_bytes words.now) → UsageEnds K.held K.write_faults result outside.old outside.new }
     ensures runs { (command : Command) → IsRow (map string_bytes words.now) command
-        → RunEnds (record {
-          left = S.left;
-          read_faults = S.read_faults;
-          held = K.held;
-          write_faults = K.write_faults;
-          files = F.files;
-          folder_faults = F.faults;
-          links_left = N.links_left;
-          finished_links = N.finished_links;
-          accepted = N.accepted;
-          finished = N.finished;
-          listener_faults = N.faults;
-          link_left = N.Link.left;
-          link_held = N.Link.held;
-          link_read_faults = N.Link.read_faults;
-          link_write_faults = N.Link.write_faults;
-          exchanges = D.exchanges;
-          dialer_faults = D.faults;
-          moments = C.moments;
-        }) (map string_bytes words.now) result outside.old outside.new command }
+        → RunEnds ⟦<Outside<S, K, F, N, D, C> as Meant<S, K, F, N, D, C, N::Link>>⟧.meanings (map string_bytes words.now) result outside.old outside.new command }
 {
     match read_words(words) {
         Some(Command::Once) => run_once(alloc, words, outside),

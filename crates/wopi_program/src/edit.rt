@@ -7,7 +7,7 @@ ghost use Rattle.wopi_program.specs.Edit.{EditEnds, Edits, HasRun, IsNewEditor, 
 
 use crate::edit_words::edit_words;
 use crate::telling::want;
-use crate::{Command, Outside, note};
+use crate::{Command, Meant, Outside, note};
 use grid_editor::{EditFault, Editor, InputFault, Script, Went, read_script};
 use itoa::Buffer;
 use outside::{Clock, Dialer, Failed, Folder, Listener, Sink, Source, write_whole};
@@ -168,26 +168,7 @@ pub fn run_edit<S: Source, K: Sink, F: Folder, N: Listener, D: Dialer, C: Clock>
     outside: &mut Outside<S, K, F, N, D, C>,
 ) -> u8
     requires { IsRow (map string_bytes words.now) Command.Edit }
-    ensures { EditEnds (record {
-      left = S.left;
-      read_faults = S.read_faults;
-      held = K.held;
-      write_faults = K.write_faults;
-      files = F.files;
-      folder_faults = F.faults;
-      links_left = N.links_left;
-      finished_links = N.finished_links;
-      accepted = N.accepted;
-      finished = N.finished;
-      listener_faults = N.faults;
-      link_left = N.Link.left;
-      link_held = N.Link.held;
-      link_read_faults = N.Link.read_faults;
-      link_write_faults = N.Link.write_faults;
-      exchanges = D.exchanges;
-      dialer_faults = D.faults;
-      moments = C.moments;
-    }) (map string_bytes words.now) result outside.old outside.new }
+    ensures { EditEnds ⟦<Outside<S, K, F, N, D, C> as Meant<S, K, F, N, D, C, N::Link>>⟧.meanings (map string_bytes words.now) result outside.old outside.new }
 {
     let Some(ask) = edit_words(words) else {
         unreachable!()

@@ -32,7 +32,7 @@ pub use edit::run_edit;
 pub use edit_words::edit_authority;
 pub use notes::note;
 pub use once::{OnceEnd, run_once};
-pub use outside_world::Outside;
+pub use outside_world::{Meant, Outside};
 pub use replay::run_replay;
 pub use replay_words::ReplayAsk;
 pub use serve::run_serve;

@@ -10,7 +10,7 @@ ghost use Rattle.wopi_program.specs.Once.{OnceEnds, ServesShard, OnceRuns, OnceR
 
 use crate::once_words::once_words;
 use crate::telling::want;
-use crate::{Command, Outside, note};
+use crate::{Command, Meant, Outside, note};
 use access_tokens::Key;
 use host_core::{Shard, Single, StartFault};
 use host_server::{ConnEnd, Desk, serve_connection};
@@ -235,26 +235,7 @@ pub fn run_once<S: Source, K: Sink, F: Folder, N: Listener, D: Dialer, C: Clock>
     requires folders { length outside.old.folders.items ≡ 1 }
     requires clocks { length outside.old.clocks.items ≡ 1 }
 
-    ensures { OnceEnds (record {
-      left = S.left;
-      read_faults = S.read_faults;
-      held = K.held;
-      write_faults = K.write_faults;
-      files = F.files;
-      folder_faults = F.faults;
-      links_left = N.links_left;
-      finished_links = N.finished_links;
-      accepted = N.accepted;
-      finished = N.finished;
-      listener_faults = N.faults;
-      link_left = N.Link.left;
-      link_held = N.Link.held;
-      link_read_faults = N.Link.read_faults;
-      link_write_faults = N.Link.write_faults;
-      exchanges = D.exchanges;
-      dialer_faults = D.faults;
-      moments = C.moments;
-    }) (map string_bytes words.now) result outside.old outside.new }
+    ensures { OnceEnds ⟦<Outside<S, K, F, N, D, C> as Meant<S, K, F, N, D, C, N::Link>>⟧.meanings (map string_bytes words.now) result outside.old outside.new }
 {
     let Some((key, base)) = once_words(words) else {
         unreachable!()

@@ -1,4 +1,7 @@
 //! What the program meets.
+ghost use Rattle.wopi_program.specs.Meanings.{Meanings};
+
+use outside::{Clock, Dialer, Folder, Listener, Sink, Source};
 
 /// What the program meets: its streams, and the folders, listeners, dialer and clocks that its
 /// command works with.
@@ -12,4 +15,42 @@ pub struct Outside<S, K, F, N, D, C> {
     pub listeners: Vec<N>,
     pub dialer: D,
     pub clocks: Vec<C>,
+}
+
+/// An outside world of a source S, a sink K, a folder F, a listener N with its links L, a dialer D and a
+/// clock C.
+pub trait Meant<S, K, F, N, D, C, L> {
+    /// What contracts see of its parts.
+    ghost meanings: { Meanings S K F N D C L };
+}
+
+impl<S: Source, K: Sink, F: Folder, N: Listener, D: Dialer, C: Clock> Meant<
+    S,
+    K,
+    F,
+    N,
+    D,
+    C,
+    N::Link,
+> for Outside<S, K, F, N, D, C> {
+    ghost meanings = { record {
+      left = S.left;
+      read_faults = S.read_faults;
+      held = K.held;
+      write_faults = K.write_faults;
+      files = F.files;
+      folder_faults = F.faults;
+      links_left = N.links_left;
+      finished_links = N.finished_links;
+      accepted = N.accepted;
+      finished = N.finished;
+      listener_faults = N.faults;
+      link_left = N.Link.left;
+      link_held = N.Link.held;
+      link_read_faults = N.Link.read_faults;
+      link_write_faults = N.Link.write_faults;
+      exchanges = D.exchanges;
+      dialer_faults = D.faults;
+      moments = C.moments;
+    } };
 }

@@ -9,7 +9,7 @@ ghost use Rattle.wopi_program.specs.Words.{IsRow};
 use crate::edit::{note_edit, refuse_script};
 use crate::replay_words::{ReplayAsk, replay_words};
 use crate::telling::say;
-use crate::{Command, Outside};
+use crate::{Command, Meant, Outside};
 use outside::{Clock, Dialer, Folder, Listener, Sink, Source};
 use replay_cmd::{
     InputFault, Schedule, Straight, World, generate, read_schedule, summary_text, trace_text,
@@ -96,26 +96,7 @@ pub fn run_replay<S: Source, K: Sink, F: Folder, N: Listener, D: Dialer, C: Cloc
     outside: &mut Outside<S, K, F, N, D, C>,
 ) -> u8
     requires { IsRow (map string_bytes words.now) Command.Replay }
-    ensures { ReplayEnds (record {
-      left = S.left;
-      read_faults = S.read_faults;
-      held = K.held;
-      write_faults = K.write_faults;
-      files = F.files;
-      folder_faults = F.faults;
-      links_left = N.links_left;
-      finished_links = N.finished_links;
-      accepted = N.accepted;
-      finished = N.finished;
-      listener_faults = N.faults;
-      link_left = N.Link.left;
-      link_held = N.Link.held;
-      link_read_faults = N.Link.read_faults;
-      link_write_faults = N.Link.write_faults;
-      exchanges = D.exchanges;
-      dialer_faults = D.faults;
-      moments = C.moments;
-    }) (map string_bytes words.now) result outside.old outside.new }
+    ensures { ReplayEnds ⟦<Outside<S, K, F, N, D, C> as Meant<S, K, F, N, D, C, N::Link>>⟧.meanings (map string_bytes words.now) result outside.old outside.new }
 {
     let Some(ask) = replay_words(words) else {
         unreachable!()

@@ -8,7 +8,7 @@ use crate::once::finish_too_large;
 use crate::serve_words::{ServeAsk, serve_words};
 use crate::serving::{ServeEnd, serve_in};
 use crate::telling::want;
-use crate::{Command, Outside, note};
+use crate::{Command, Meant, Outside, note};
 use outside::{Clock, Dialer, Folder, Listener, Sink, Source};
 use std::alloc::Global;
 use std::sync::Wait;
@@ -55,26 +55,7 @@ pub fn run_serve<
     requires folders { length outside.old.folders.items ≡ 16 }
     requires workers { (key : List ℕ) (base : List ℕ) (ask : ServeAsk) → IsServeRow (map string_bytes words.now) key base ask
         → (length outside.old.listeners.items ≡ ask.workers) × (length outside.old.clocks.items ≡ ask.workers) }
-    ensures { ServeEnds (record {
-      left = S.left;
-      read_faults = S.read_faults;
-      held = K.held;
-      write_faults = K.write_faults;
-      files = F.files;
-      folder_faults = F.faults;
-      links_left = N.links_left;
-      finished_links = N.finished_links;
-      accepted = N.accepted;
-      finished = N.finished;
-      listener_faults = N.faults;
-      link_left = N.Link.left;
-      link_held = N.Link.held;
-      link_read_faults = N.Link.read_faults;
-      link_write_faults = N.Link.write_faults;
-      exchanges = D.exchanges;
-      dialer_faults = D.faults;
-      moments = C.moments;
-    }) (map string_bytes words.now) result outside.old outside.new }
+    ensures { ServeEnds ⟦<Outside<S, K, F, N, D, C> as Meant<S, K, F, N, D, C, N::Link>>⟧.meanings (map string_bytes words.now) result outside.old outside.new }
 {
     let Some((key, base, ask)) = serve_words(words) else {
         unreachable!()

@@ -5,7 +5,7 @@ ghost use Rattle.wopi_program.specs.Token.{TokenEnds, token_line};
 
 use crate::telling::{tell, want};
 use crate::token_words::token_words;
-use crate::{Command, Outside};
+use crate::{Command, Meant, Outside};
 use access_tokens::{Key, Token, mint};
 use outside::{Clock, Dialer, Folder, Listener, Sink, Source};
 use std::alloc::Global;
@@ -27,26 +27,7 @@ pub fn run_token<S: Source, K: Sink, F: Folder, N: Listener, D: Dialer, C: Clock
     outside: &mut Outside<S, K, F, N, D, C>,
 ) -> u8
     requires { IsRow (map string_bytes words.now) Command.Token }
-    ensures { TokenEnds (record {
-      left = S.left;
-      read_faults = S.read_faults;
-      held = K.held;
-      write_faults = K.write_faults;
-      files = F.files;
-      folder_faults = F.faults;
-      links_left = N.links_left;
-      finished_links = N.finished_links;
-      accepted = N.accepted;
-      finished = N.finished;
-      listener_faults = N.faults;
-      link_left = N.Link.left;
-      link_held = N.Link.held;
-      link_read_faults = N.Link.read_faults;
-      link_write_faults = N.Link.write_faults;
-      exchanges = D.exchanges;
-      dialer_faults = D.faults;
-      moments = C.moments;
-    }) (map string_bytes words.now) result outside.old outside.new }
+    ensures { TokenEnds ⟦<Outside<S, K, F, N, D, C> as Meant<S, K, F, N, D, C, N::Link>>⟧.meanings (map string_bytes words.now) result outside.old outside.new }
 {
     let Some((key, token)) = token_words(words) else {
         unreachable!()
