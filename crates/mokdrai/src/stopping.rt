@@ -2,10 +2,10 @@
 //!
 //! The program can't hear a signal. Whoever wants it to end makes a file at a path that it was told
 //! when it began, and then connects to it once for each worker, so that each accept returns.
-ghost use Rattle.std.specs.Prelude.{◌≡◌, ◌≤◌, ◌+◌, ◌↔◌, false, IfOk, IfSome, IsSome, OnOk, IsErr, IsErrOf, None, Some, Ok, map, vec_len};
+ghost use Rattle.std.specs.Prelude.{◌≡◌, ◌≤◌, ◌<◌, ◌+◌, ◌↔◌, false, IfOk, IfSome, IsSome, OnOk, IsErr, IsErrOf, None, Some, Ok, map, vec_len};
+ghost use Rattle.std.specs.List.{AllByRecursion};
 ghost use Rattle.std.specs.Option.{ForSome};
-ghost use Rattle.outside.specs.Listener.{Accepts};
-ghost use Rattle.mokdrai.specs.Stopping.{IsLink};
+ghost use Rattle.mokdrai.specs.Stopping.{Answers, AreOver, IsLink, PassesOn, TakesBack};
 
 use outside::{Accepted, Listener, OutFault};
 use std::alloc::Global;
@@ -63,6 +63,7 @@ impl<'a, R: Files, N: Listener> StopListener<'a, R, N> {
         ensures listener { IfSome result.listener (λ one. one ≡ listener) }
         ensures untold { path.entry ≡ None → result.listener ≡ Some listener }
         ensures path { result.path ≡ path.entry }
+        ensures accepted { result.accepted ≡ 0 }
     {
         let listener = if is_there(rt, path) {
             None
@@ -85,7 +86,7 @@ where
     N::Link: Drop,
 {
     ghost use Rattle.outside.specs.Faults.{Rose};
-    ghost use Rattle.outside.specs.Listener.{Accepts, AcceptsNumber};
+    ghost use Rattle.outside.specs.Listener.{AcceptsNumber};
 
     type Link = N::Link;
 
@@ -111,10 +112,10 @@ where
 
         // It keeps its listener exactly where it gives a link, which is the listener's next one.
         ensures open { IsSome self.new.listener ↔ IsLink result }
-        ensures link { IfSome self.old.listener (λ before. IfSome self.new.listener (λ after. Accepts (N.links_left before) (N.links_left after) result)) }
+        ensures kept { IfSome self.old.listener (λ before. IfSome self.new.listener (λ after. Answers N.links_left N.finished_links N.accepted N.finished N.faults before after result)) }
 
-        // With no path it answers what its listener answers.
-        ensures untold { self.old.path ≡ None → IfSome self.old.listener (λ before. (left : _) × Accepts (N.links_left before) left result) }
+        // It answers what its listener answers, or turns a link away and ends.
+        ensures asked { IfSome self.old.listener (λ before. PassesOn N.links_left N.finished_links N.accepted N.finished N.faults self.old.path before result) }
 
         // Once closed it stays so.
         ensures closed { self.old.listener ≡ None → result ≡ Ok Accepted.Closed }
@@ -143,7 +144,17 @@ where
         }
     }
 
-    fn finish(&mut self, link: N::Link) {
+    fn finish(&mut self, link: N::Link)
+        requires { self.old.finished < self.old.accepted }
+        ensures finished { self.new.finished ≡ self.old.finished + 1 }
+        ensures accepted { self.new.accepted ≡ self.old.accepted }
+        ensures faults { self.new.faults ≡ self.old.faults }
+        ensures path { self.new.path ≡ self.old.path }
+
+        // Its listener has the link back.
+        ensures open { IsSome self.new.listener ↔ IsSome self.old.listener }
+        ensures kept { IfSome self.old.listener (λ before. IfSome self.new.listener (λ after. TakesBack N.links_left N.finished_links N.accepted N.finished N.faults before after link)) }
+    {
         self.finished += 1;
         match &mut self.listener {
             Some(listener) => listener.finish(link),
@@ -170,6 +181,8 @@ pub(crate) fn until_stopped<'a, R: Files, N: Listener>(
     listeners: Vec<N>,
 ) -> Result<Vec<StopListener<'a, R, N>>, Memory>
     ensures count { IfOk result (λ all. vec_len all ≡ vec_len listeners) }
+    ensures over { IfOk result (λ all. AreOver (λ one. one.listener) all.items listeners.items) }
+    ensures begins { IfOk result (λ all. AllByRecursion (λ one. (one.path ≡ path.entry) × (one.accepted ≡ 0)) all.items) }
     ensures untold { path.entry ≡ None → IfOk result (λ all. map (λ one. one.listener) all.items ≡ map Some listeners.items) }
 {
     let mut all = Vec::with_capacity(alloc, listeners.len())?;
