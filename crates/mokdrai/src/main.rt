@@ -1,7 +1,8 @@
 //! Makes the real streams, folders, listeners, dialer and clocks, hands them to the top call, and ends with its status.
 #![tactic(auto)]
 
-ghost use Rattle.std.specs.Prelude.{◌≡◌, ◌↔◌, ℕ, List, IfOk, IsErr, map, string_bytes, vec_len};
+ghost use Rattle.std.specs.Prelude.{◌≡◌, ◌↔◌, ℕ, List, None, IfOk, IfSome, IsErr, IsSome, map, string_bytes, vec_len};
+ghost use Rattle.std.specs.List.{AllByRecursion};
 ghost use Rattle.wopi_program.specs.EditWords.{IsEditRow};
 ghost use Rattle.wopi_program.specs.ServeWords.{IsServeRow};
 ghost use Rattle.wopi_program.specs.Words.{IsRow};
@@ -115,7 +116,10 @@ fn listen<'a, R: Net<Stream = TcpStream, Listener = TcpListener> + Files>(
     ask: ServeAsk,
     stop: Option<&'a str>,
 ) -> Result<Vec<StopListener<'a, R, TcpListen>>, Memory>
-    ensures { IfOk result (λ all. vec_len all ≡ ask.workers) }
+    ensures count { IfOk result (λ all. vec_len all ≡ ask.workers) }
+    ensures each { IfOk result (λ all. AllByRecursion (λ one. IfSome one.listener (λ own. (own.most ≡ ask.each) × (own.accepted ≡ 0))) all.items) }
+    ensures begins { IfOk result (λ all. AllByRecursion (λ one. (one.path ≡ stop.entry) × (one.accepted ≡ 0)) all.items) }
+    ensures untold { stop.entry ≡ None → IfOk result (λ all. AllByRecursion (λ one. IsSome one.listener) all.items) }
 {
     let address = format!(in alloc; "127.0.0.1:{}", ask.port)?;
     let bound = TcpListen::bind(
@@ -135,8 +139,12 @@ fn listeners<'a, R: Net<Stream = TcpStream, Listener = TcpListener> + Files>(
     words: &[String],
     stop: Option<&'a str>,
 ) -> Result<Vec<StopListener<'a, R, TcpListen>>, Memory>
-    ensures { (key : List ℕ) (base : List ℕ) (ask : ServeAsk) → IsServeRow (map string_bytes words.now) key base ask
+    ensures count { (key : List ℕ) (base : List ℕ) (ask : ServeAsk) → IsServeRow (map string_bytes words.now) key base ask
         → IfOk result (λ all. vec_len all ≡ ask.workers) }
+    ensures each { (key : List ℕ) (base : List ℕ) (ask : ServeAsk) → IsServeRow (map string_bytes words.now) key base ask
+        → IfOk result (λ all. AllByRecursion (λ one. IfSome one.listener (λ own. (own.most ≡ ask.each) × (own.accepted ≡ 0))) all.items) }
+    ensures begins { IfOk result (λ all. AllByRecursion (λ one. (one.path ≡ stop.entry) × (one.accepted ≡ 0)) all.items) }
+    ensures untold { stop.entry ≡ None → IfOk result (λ all. AllByRecursion (λ one. IsSome one.listener) all.items) }
 {
     match serve_ask(words) {
         Some(ask) => listen(alloc, rt, ask, stop),
