@@ -1,8 +1,9 @@
 //! Makes the real streams, folders, listeners, dialer and clocks, hands them to the top call, and ends with its status.
 #![tactic(auto)]
 
-ghost use Rattle.std.specs.Prelude.{◌≡◌, ◌↔◌, ℕ, List, None, IfOk, IfSome, IsErr, IsSome, map, string_bytes, vec_len};
+ghost use Rattle.std.specs.Prelude.{◌≡◌, ◌↔◌, ℕ, List, None, IfOk, IfSome, IsErr, IsSome, drop, map, string_bytes, vec_len};
 ghost use Rattle.std.specs.List.{AllByRecursion};
+ghost use Rattle.std.specs.Vec.Iter.{into_iter_items};
 ghost use Rattle.wopi_program.specs.EditWords.{IsEditRow};
 ghost use Rattle.wopi_program.specs.ServeWords.{IsServeRow};
 ghost use Rattle.wopi_program.specs.Words.{IsRow};
@@ -12,7 +13,7 @@ mod stopping;
 use crate::stopping::{StopListener, stop_path, until_stopped};
 use outside::{DirFolder, StdSink, StdSource, SystemClock, TcpDialer, TcpListen};
 use std::alloc::Global;
-use std::env::{self, Env};
+use std::env::{self, Args, Env};
 use std::fs::Files;
 use std::io::ErrorKind;
 use std::net::{Net, TcpListener, TcpStream};
@@ -177,17 +178,25 @@ fn unread(alloc: Global, kind: ErrorKind) -> Result<Vec<String>, Memory>
     }
 }
 
-/// The words after the program's name; none where one of them is no text.
-fn words<R: Env + AllocGlobal>(rt: &R) -> Result<Vec<String>, Memory> {
-    let args = match env::args(rt) {
-        Ok(args) => args,
-        Err(error) => return unread(rt.alloc(), error.kind()),
-    };
-    let mut all = Vec::new(rt.alloc());
-    for word in args.skip(1) {
+/// The words behind the first of the arguments, which is the program's name.
+fn after_name(alloc: Global, args: Args) -> Result<Vec<String>, Memory>
+    ensures { IfOk result (λ words. words.items ≡ drop 1 (into_iter_items args)) }
+{
+    let mut left = args;
+    let _name = left.next();
+    let mut all = Vec::new(alloc);
+    for word in left {
         all.push(word)?;
     }
     Ok(all)
+}
+
+/// The words after the program's name; none where one of them is no text.
+fn words<R: Env + AllocGlobal>(rt: &R) -> Result<Vec<String>, Memory> {
+    match env::args(rt) {
+        Ok(args) => after_name(rt.alloc(), args),
+        Err(error) => unread(rt.alloc(), error.kind()),
+    }
 }
 
 fn main(rt: HostRuntime) -> ExitCode {
