@@ -1,5 +1,6 @@
 -- What a step makes of the locks.
-use Rattle.std.proofs.Common.{◌≡◌, ◌≢◌, ◌⊎◌, inl, inr, ◌<◌, ◌≤◌, ℕ, zero, suc, Bool, true, false, if◌then◌else◌, List, [], ◌∷◌, ◌++◌, length, Option, None, Some, option_map, unwrap_or, refl, sym, ap, subst, ◌∙◌, arith, slice_get}
+use Rattle.std.proofs.Common.{◌≡◌, ◌≢◌, ◌⊎◌, inl, inr, ◌<◌, ◌≤◌, ℕ, zero, suc, Bool, true, false, if◌then◌else◌, List, [], ◌∷◌, ◌++◌, length, Option, None, Some, option_map, unwrap_or, nat_le, ◌+◌, refl, sym, ap, subst, ◌∙◌, arith, slice_get}
+use Rattle.std.proofs.lemmas.Bool.Decides.{eqb_tells, nat_tests}
 use Rattle.std.proofs.lemmas.List.{length-map}
 use Rattle.std.proofs.lemmas.Option.{slice_get-map, none-some}
 use Rattle.std.specs.Str.{bytes_eq}
@@ -9,10 +10,11 @@ use Rattle.wopi_model.specs.declared.locks.LockAct.{LockAct}
 use Rattle.wopi_model.specs.declared.locks.LockAct.TheVariants as asks
 use Rattle.wopi_model.specs.LockTable.{lock_after, spent_by, verdict, judged, is_accepted}
 use Rattle.wopi_model.specs.declared.locks.Judged.{Judged}
+use Rattle.wopi_model.specs.Moment.{lock_life}
 use Rattle.wopi_model.specs.Settle.{standing, is_over}
 use Rattle.kept_locks.specs.Locks.{Standing, unlocked, ended_at, all_ended, stepped, with_lock}
 use Rattle.kept_locks.specs.Ties.{BeganBy, GoesOn, Spends}
-use Rattle.host_core.specs.Turns.{LockFollows, SpendsOf, Ends}
+use Rattle.host_core.specs.Turns.{LockFollows, SpendsOf, Ends, AllStand}
 use Rattle.host_core.specs.Whole.{standing_at}
 use Rattle.host_core.proofs.Joining.{stands_at, stands_ended}
 
@@ -152,3 +154,54 @@ pub ends_by : (old held : Option Lock) (said : Judged) (asked : LockAct) (expire
 ends_by old held said asked expires now e is =
     let same : said ≡ judged (standing old now) false asked expires now = is ∙ ap (λ (h : Option Lock). judged h false asked expires now) e in
     subst (λ (j : Judged). Ends old (record { lock = j.lock; spend = j.spend }) now) (sym same) (judged_ends old asked expires now)
+
+-- what stands at a moment stands there
+pub stands_twice : (lock : Option Lock) (now : ℕ) → standing (standing lock now) now ≡ standing lock now
+stands_twice None now = refl
+stands_twice (Some lock) now = go (is_over lock now) refl where
+  go : (b : Bool) → is_over lock now ≡ b → standing (if b then None else Some lock) now ≡ (if b then None else Some lock)
+  go true e = refl
+  go false e = ap (λ (b : Bool). if b then None else Some lock) e
+
+new_stands : (lock : Lock) (now : ℕ) → lock.since ≡ now → standing (Some lock) now ≡ Some lock
+new_stands lock now e =
+    let stands : nat_le (lock.since + lock_life) now ≡ false = grind (arith, nat_tests, e) in
+    ap (λ (b : Bool). if b then None else Some lock) stands
+
+-- a lock that follows one that stands isn't over
+pub follower_stands : (old lock : Option Lock) (now : ℕ) → LockFollows (standing old now) lock now → standing lock now ≡ lock
+follower_stands old None now follows = refl
+follower_stands old (Some lock) now follows = go (standing old now) refl follows where
+  as_long : (held : Lock) → held.since ≡ lock.since → standing (Some held) now ≡ Some held → standing (Some lock) now ≡ Some lock
+  as_long held same stands = by (is_over held now) refl where
+    by : (b : Bool) → is_over held now ≡ b → standing (Some lock) now ≡ Some lock
+    by true e = absurd (none-some held (sym (ap (λ (b : Bool). if b then None else Some held) e) ∙ stands))
+    by false e = ap (λ (b : Bool). if b then None else Some lock) (sym (ap (λ (since : ℕ). nat_le (since + lock_life) now) same) ∙ e)
+
+  go : (held : Option Lock) → standing old now ≡ held → LockFollows held (Some lock) now → standing (Some lock) now ≡ Some lock
+  go None e h = new_stands lock now h
+  go (Some held) e (inl same) = as_long held same (ap (λ (l : Option Lock). standing l now) (sym e) ∙ stands_twice old now ∙ e)
+  go (Some held) e (inr h) = new_stands lock now h
+
+-- no lock is over once those have ended that are
+pub stand_ended : (ss : List Standing) (now : ℕ) → AllStand now (all_ended now ss)
+stand_ended ss now number =
+    let is = stands_ended now ss number in
+    ap (λ (s : Standing). standing s.lock now) is ∙ stands_twice (standing_at ss number).lock now ∙ sym (ap (λ (s : Standing). s.lock) is)
+
+-- nor when one of them became another one
+pub stand_set : (ss : List Standing) (number : ℕ) (lock : Option Lock) (spend : Option Spent) (now : ℕ) → number < length ss → standing lock now ≡ lock → AllStand now ss
+    → AllStand now (with_lock ss number lock spend now)
+stand_set ss number lock spend now lt stands all other = elim (eqb_tells other number) [
+  | inl same ↦
+  let is : standing_at (with_lock ss number lock spend now) other ≡ stepped lock spend now (standing_at ss number) =
+  ap (standing_at (with_lock ss number lock spend now)) same.1 ∙ stands_set ss number lock spend now lt in
+  ap (λ (s : Standing). standing s.lock now) is ∙ stands ∙ sym (ap (λ (s : Standing). s.lock) is)
+  | inr differ ↦
+  let is = stands_beside ss number lock spend now other differ.1 in
+  ap (λ (s : Standing). standing s.lock now) is ∙ all other ∙ sym (ap (λ (s : Standing). s.lock) is)
+]
+
+pub stand_same : (old new : List Standing) (time : ℕ) → ((n : ℕ) → standing_at new n ≡ standing_at old n) → AllStand time old → AllStand time new
+stand_same old new time same all number =
+    ap (λ (s : Standing). standing s.lock time) (same number) ∙ all number ∙ sym (ap (λ (s : Standing). s.lock) (same number))

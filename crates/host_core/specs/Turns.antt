@@ -1,9 +1,9 @@
 -- What a step makes of the locks.
-use Rattle.std.specs.Prelude.{◌≡◌, ◌≢◌, ◌⊎◌, ⊤, ℕ, ◌+◌, ◌≤◌, ◌<◌, length, Option, None, Some}
+use Rattle.std.specs.Prelude.{◌≡◌, ◌≢◌, ◌⊎◌, ⊤, ℕ, ◌+◌, ◌≤◌, ◌<◌, List, length, Option, None, Some}
 use Rattle.wopi_model.specs.declared.locks.Lock.{Lock}
 use Rattle.wopi_model.specs.declared.locks.Spent.{Spent}
 use Rattle.wopi_model.specs.Settle.{standing}
-use Rattle.kept_locks.specs.Locks.{Locks, ended_at}
+use Rattle.kept_locks.specs.Locks.{Standing, Locks, ended_at}
 use Rattle.kept_locks.specs.Ties.{BeganBy}
 use Rattle.host_core.specs.Whole.{standing_at}
 use Rattle.host_core.specs.declared.held.Effect.{Effect}
@@ -31,9 +31,14 @@ pub record Ends (old : Option Lock) (effect : Effect) (now : ℕ) : Type 0 where
   pub lock : LockFollows (standing old now) effect.lock now
   pub spend : SpendsOf (standing old now) effect.spend
 
+-- no lock is there that is over at that moment
+abbrev pub AllStand : ℕ → List Standing → Type 0
+AllStand now files = (number : ℕ) → standing (standing_at files number).lock now ≡ (standing_at files number).lock
+
 -- the locks that were over have ended, and one file was stepped
 pub record Turns (old new : Locks) (number now : ℕ) : Type 0 where
   pub others : (other : ℕ) → other ≢ number → standing_at new.files other ≡ ended_at now (standing_at old.files other)
   pub long : length new.files ≡ length old.files
   pub began : BeganBy now new.files
+  pub stand : AllStand now new.files
   pub spare : old.spare ≤ new.spare + 1

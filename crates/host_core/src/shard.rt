@@ -1,5 +1,5 @@
 //! A shard of the host over a folder.
-ghost use Rattle.std.specs.Prelude.{◌≡◌, ◌≢◌, ◌≤◌, ◌<◌, ◌+◌, ◌^◌, ◌++◌, ◌∷◌, [], length, max, IfOk, IfErr, IfSome, IsSome, OnOk, OnErr, true, false, ◌↔◌, option_map, slice_get, sum_by, List, ℕ};
+ghost use Rattle.std.specs.Prelude.{◌≡◌, ◌≢◌, ◌≤◌, ◌<◌, ◌+◌, ◌^◌, ◌++◌, ◌∷◌, [], length, vec_capacity, max, IfOk, IfErr, IfSome, IsSome, OnOk, OnErr, true, false, ◌↔◌, option_map, slice_get, sum_by, List, ℕ};
 ghost use Rattle.outside.specs.Folder.{Keeps};
 ghost use Rattle.outside.specs.Faults.{Rose};
 ghost use Rattle.wopi_model.specs.Moment.{IsMoment};
@@ -12,6 +12,7 @@ ghost use Rattle.host_core.specs.Stock.{IsStock};
 ghost use Rattle.host_core.specs.Entries.{history_of, back_of};
 ghost use Rattle.host_core.specs.Files.{files_of, torn_in};
 ghost use Rattle.host_core.specs.Ledger.{IsFullFault, handed_back};
+ghost use Rattle.host_core.specs.Memory.{takes_no_memory};
 ghost use Rattle.host_core.specs.Opening.{IsOfShard, IsOpening, Fits, IsTooLarge, IfTooLarge};
 
 use crate::entry::Entry;
@@ -96,7 +97,7 @@ impl<F: Folder> Shard<F> {
         let mut folder = folder;
         let start = Snapshot::of(&folder);
         match gather(alloc, &mut folder, only) {
-            Ok(stock) => match take_room(alloc, stock.files.len(), capacity) {
+            Ok(mut stock) => match take_room(alloc, &mut stock.versions, stock.files.len(), capacity) {
                 Ok(room) => {
                     let shard = Shard::assemble(
                         alloc, folder, only, start, stock, room, capacity, opened,
@@ -144,6 +145,7 @@ impl<F: Folder> Shard<F> {
             → FullAt self.old.opening self.old.opened self.old.capacity (history_of self.old.made self.old.time) floor call moment) }
         ensures err { OnErr result (self.new ≡ record self.old { folder = self.new.folder }) }
         ensures call { IfErr result (λ fault. handed_back fault ≡ call) }
+        ensures light { IfErr result (λ fault. takes_no_memory call.act ≡ true → IsFullFault fault) }
         ensures keeps { OnErr result (Keeps (F.files self.old.folder) (F.files self.new.folder)) }
         ensures never_falls { F.faults self.old.folder ≤ F.faults self.new.folder }
         ensures fault { IfOk result (λ step. step.1.status ≡ 500 → Rose (F.faults self.old.folder) (F.faults self.new.folder)) }
@@ -244,6 +246,8 @@ impl<F: Folder> Shard<F> {
         requires none { (number : ℕ) → standing_at room.locks.files number ≡ unlocked }
         requires long { length stock.files.items ≤ length room.locks.files }
         requires spare { capacity ≤ room.locks.spare }
+        requires shelf { capacity ≤ stock.versions.spare }
+        requires slots { capacity ≤ vec_capacity room.entries }
         requires entries { room.entries.items ≡ [] }
         requires opening { IsOpening only (F.files start.value) (opening_listed stock.opening.items) }
         requires same { Keeps (F.files start.value) (F.files folder) }

@@ -1,12 +1,12 @@
 //! Contents, put among the versions and into the folder.
-ghost use Rattle.std.specs.Prelude.{◌≡◌, ◌≤◌, ◌<◌, ◌+◌, length, None, Some, ◌∷◌, [], ◌++◌, IsSome, IfOk, IfErr, OnOk, OnErr, unwrap_or};
+ghost use Rattle.std.specs.Prelude.{◌≡◌, ◌≤◌, ◌<◌, ◌+◌, ◌↔◌, length, None, Some, ◌∷◌, [], ◌++◌, IsTrue, IfOk, IfErr, OnOk, OnErr};
 ghost use Rattle.outside.specs.Faults.{Rose};
-ghost use Rattle.outside.specs.Folder.{Keeps, OpensOnly, Replaces};
+ghost use Rattle.outside.specs.Folder.{Keeps, OpensOnly};
 ghost use Rattle.wopi_model.specs.Host.{most_kept};
-ghost use Rattle.file_versions.specs.Versions.{kept_in, found, removed};
+ghost use Rattle.file_versions.specs.Versions.{kept_in, found};
 ghost use Rattle.host_core.specs.Store.{Holds, MatchStored};
 
-use file_versions::{AddFault, Versions};
+use file_versions::{AddFault, MOST_KEPT, Versions};
 use outside::{Folder, OutFault};
 use wopi_text::{Bytes, FileName};
 
@@ -31,67 +31,30 @@ pub struct Unsaved {
     pub contents: Bytes,
 }
 
-/// Keeps contents as a version. An `Err` leaves the versions.
-fn keep(versions: &mut Versions, number: u32, version: u64, contents: Bytes) -> Result<(), Unsaved>
-    requires { found versions.old.list number version ≡ None }
-    ensures ok { OnOk result (versions.new.list ≡ versions.old.list ++ record { number = number; version = version; contents = contents } ∷ []) }
-    ensures room { OnOk result (kept_in versions.old.list + length contents ≤ most_kept) }
-    ensures err { OnErr result (versions.new.list ≡ versions.old.list) }
-    ensures back { IfErr result (λ unsaved. unsaved.contents ≡ contents) }
-    ensures full { IfErr result (λ unsaved. unsaved.why ≡ StoreRefusal.KeptFull → most_kept < kept_in versions.old.list + length contents) }
+/// The contents have room beside those that are kept.
+fn has_room(versions: &Versions, contents: &Bytes) -> bool
+    ensures { IsTrue result ↔ (kept_in versions.now.list + length contents.now ≤ most_kept) }
+{
+    let len = contents.as_slice().len() as u64;
+    versions.kept().saturating_add(len) <= MOST_KEPT
+}
+
+/// Keeps contents as a version. It takes no memory.
+fn keep(versions: &mut Versions, number: u32, version: u64, contents: Bytes)
+    requires fresh { found versions.old.list number version ≡ None }
+    requires room { kept_in versions.old.list + length contents ≤ most_kept }
+    requires free { 1 ≤ versions.old.spare }
+    ensures list { versions.new.list ≡ versions.old.list ++ record { number = number; version = version; contents = contents } ∷ [] }
+    ensures places { versions.old.spare ≤ versions.new.spare + 1 }
 {
     match versions.add(number, version, contents) {
-        Ok(()) => return Ok(()),
-        Err(AddFault::KeptFull(contents)) => {
-            return Err(Unsaved {
-                why: StoreRefusal::KeptFull,
-                contents,
-            });
-        }
-        Err(AddFault::Memory(contents)) => {
-            return Err(Unsaved {
-                why: StoreRefusal::Memory,
-                contents,
-            });
-        }
+        Ok(()) => {}
+        Err(AddFault::KeptFull(_contents)) => unreachable!(),
+        Err(AddFault::Memory(_contents)) => unreachable!(),
     }
 }
 
-/// Takes a version out again.
-fn take_back(versions: &mut Versions, number: u32, version: u64) -> Bytes
-    requires { IsSome (found versions.old.list number version) }
-    ensures contents { Some result ≡ found versions.old.list number version }
-    ensures rest { versions.new.list ≡ removed versions.old.list number version }
-{
-    match versions.remove(number, version) {
-        Some(contents) => contents,
-        None => unreachable!(),
-    }
-}
-
-/// Writes a version to the folder.
-fn write_out<F: Folder>(
-    folder: &mut F,
-    versions: &Versions,
-    number: u32,
-    version: u64,
-    name: &FileName,
-) -> Result<(), OutFault>
-    requires { IsSome (found versions.now.list number version) }
-    ensures done { OnOk result (Replaces (F.files folder.old) (F.files folder.new) name.now (unwrap_or (found versions.now.list number version) [])) }
-    ensures others { OpensOnly (F.files folder.old) (F.files folder.new) name.now }
-    ensures memory { result ≡ Err OutFault.Memory → Keeps (F.files folder.old) (F.files folder.new) }
-    ensures never_falls { F.faults folder.old ≤ F.faults folder.new }
-    ensures failed { result ≡ Err OutFault.Failed → Rose (F.faults folder.old) (F.faults folder.new) }
-{
-    let last = versions.len().saturating_sub(1);
-    match versions.near(last, number, version) {
-        Some(kept) => folder.replace(name.as_str(), kept.as_slice()),
-        None => unreachable!(),
-    }
-}
-
-/// Keeps contents as a version and writes them to the folder. What isn't done leaves the versions, and
+/// Writes contents to the folder, and keeps them as a version. What isn't done leaves the versions, and
 /// an `Err` leaves the folder.
 pub fn put_away<F: Folder>(
     folder: &mut F,
@@ -101,7 +64,8 @@ pub fn put_away<F: Folder>(
     name: &FileName,
     contents: Bytes,
 ) -> Result<Stored, Unsaved>
-    requires { found versions.old.list number version ≡ None }
+    requires fresh { found versions.old.list number version ≡ None }
+    requires free { 1 ≤ versions.old.spare }
     ensures stored { IfOk result (λ stored. MatchStored stored
         (Holds (F.files folder.new) name.now (Some contents) × (versions.new.list ≡ versions.old.list ++ record { number = number; version = version; contents = contents } ∷ []))
         (λ back. (back ≡ contents) × (versions.new.list ≡ versions.old.list) × Rose (F.faults folder.old) (F.faults folder.new))) }
@@ -112,19 +76,22 @@ pub fn put_away<F: Folder>(
     ensures back { IfErr result (λ unsaved. unsaved.contents ≡ contents) }
     ensures full { IfErr result (λ unsaved. unsaved.why ≡ StoreRefusal.KeptFull → most_kept < kept_in versions.old.list + length contents) }
     ensures never_falls { F.faults folder.old ≤ F.faults folder.new }
+    ensures places { versions.old.spare ≤ versions.new.spare + 1 }
+    ensures unused { OnErr result (versions.old.spare ≤ versions.new.spare) }
 {
-    match keep(versions, number, version, contents) {
-        Ok(()) => {}
-        Err(unsaved) => return Err(unsaved),
+    if !has_room(versions, &contents) {
+        return Err(Unsaved {
+            why: StoreRefusal::KeptFull,
+            contents,
+        });
     }
-    match write_out(folder, versions, number, version, name) {
-        Ok(()) => return Ok(Stored::Done),
-        Err(OutFault::Failed) => {
-            let contents = take_back(versions, number, version);
-            return Ok(Stored::Torn(contents));
+    match folder.replace(name.as_str(), contents.as_slice()) {
+        Ok(()) => {
+            keep(versions, number, version, contents);
+            return Ok(Stored::Done);
         }
+        Err(OutFault::Failed) => return Ok(Stored::Torn(contents)),
         Err(OutFault::Memory) => {
-            let contents = take_back(versions, number, version);
             return Err(Unsaved {
                 why: StoreRefusal::Memory,
                 contents,

@@ -1,6 +1,7 @@
 use Rattle.std.proofs.Common.{◌≡◌, ◌≤◌, ◌+◌, length, ap, sym, subst, arith}
 use Rattle.file_versions.specs.Versions.{kept_in}
 use Rattle.kept_locks.specs.Locks.{Locks, all_ended}
+use Rattle.host_core.specs.Whole.{standing_at}
 use Rattle.host_core.proofs.Joining.{long_joined}
 use Rattle.host_core.proofs.Results.{onerr_map, ifok_onok, iferr_onerr}
 use Rattle.host_core.proofs.Meeting.{found_first, found_none, locked_same, room_raw}
@@ -61,3 +62,7 @@ returns-in-None-clause-room g c =
     ifok_onok c.step_unmet.result _ _
     (λ carried steps. room_raw c.args.files.now.items c.args.locks.now.files c.args.call.name (kept_in c.args.versions.now.list) c.args.call c.args.opened c.args.now steps.room)
     c.step_unmet.ensures.ok
+
+pub returns-in-Some-clause-stand : goal.returns-in-Some-clause-stand
+returns-in-Some-clause-stand g c =
+    onerr_map c.step_met.result _ _ (λ same n. ap (λ (l : Locks). standing_at l.files n) same) c.step_met.ensures.same

@@ -9,6 +9,7 @@ use Rattle.host_core.specs.Steps.{StepsAll}
 use Rattle.host_core.specs.Turns.{Turns}
 use Rattle.host_core.specs.Whole.{Whole, whole, seen, standing_at, joined}
 use Rattle.host_core.proofs.Joining.{long_joined}
+use Rattle.host_core.proofs.Light.{create_takes}
 use Rattle.host_core.proofs.Meeting.{push_all, skip_all, skip_bare, still_all, stopped_new, bare_seen, fresh_name, joined_more, locked_more, locked_push, locked_skip}
 use Rattle.host_core.proofs.Numbering.{numbered_push, numbered_back, named_push}
 use Rattle.host_core.proofs.Stepping.{unmet_is_held}
@@ -237,3 +238,9 @@ returns-in-Err-step_file-clause-spared g c =
     let one = c.make_place.ensures.spare in
     let two : c.step_file.new.locks.spare ≡ c.make_place.new.locks.spare = ap (λ (l : Locks). l.spare) c.in-Err-step_file.ensures.same in
     omega (arith, one, two)
+
+pub returns-in-Err-clause-light : goal.returns-in-Err-clause-light
+returns-in-Err-clause-light g c = create_takes c.args.call.act c.requires.create
+
+pub returns-in-Err-step_file-clause-stand : goal.returns-in-Err-step_file-clause-stand
+returns-in-Err-step_file-clause-stand g c = λ n. ap (λ (l : Locks). standing_at l.files n) c.in-Err-step_file.ensures.same ∙ c.make_place.ensures.stands n

@@ -2,9 +2,10 @@ use Rattle.std.proofs.Common.{◌≡◌, ◌<◌, List, length, refl, sym, ap, s
 use Rattle.std.proofs.lemmas.List.{length-map}
 use Rattle.kept_locks.specs.Locks.{Standing, all_ended, ended_at, stepped, with_lock}
 use Rattle.kept_locks.specs.Ties.{BeganBy, GoesOn, Spends}
+use Rattle.host_core.specs.Turns.{AllStand}
 use Rattle.host_core.specs.Whole.{standing_at}
 use Rattle.host_core.proofs.Joining.{stands_ended}
-use Rattle.host_core.proofs.Turning.{goes_on, spends, began_ended, began_set, new_by, stands_set, stands_beside, long_set}
+use Rattle.host_core.proofs.Turning.{goes_on, spends, began_ended, began_set, new_by, stands_set, stands_beside, long_set, stand_ended, stand_set, follower_stands}
 use Rattle.host_core.proofs.held.apply.Goals as goal
 
 pub set-requires-clause-number : goal.set-requires-clause-number
@@ -44,6 +45,8 @@ returns c =
         long = ap (λ (l : List Standing). length l) is ∙ long_set mid number effect.lock effect.spend c.args.now ∙ same;
         began = subst (BeganBy c.args.now) (sym is) (began_set mid number effect.lock effect.spend c.args.now (began_ended old c.args.now c.args.now c.requires.ready.began)
             (new_by old number c.args.now effect.lock lt c.requires.ready.began c.requires.ends.lock));
+        stand = subst (AllStand c.args.now) (sym is) (stand_set mid number effect.lock effect.spend c.args.now lt'
+            (follower_stands (standing_at old number).lock effect.lock c.args.now c.requires.ends.lock) (stand_ended old c.args.now));
         spare = omega (arith, settled, set);
       };
     }

@@ -4,28 +4,37 @@ use Rattle.host_core.specs.Entries.{Made}
 use Rattle.host_core.specs.Ledger.{ended_in, made_by}
 use Rattle.host_core.specs.Steps.{TakesStep}
 use Rattle.host_core.specs.Whole.{joined}
+use Rattle.host_core.proofs.Turning.{stand_same}
 use Rattle.host_core.proofs.ledger.take_step.Goals as goal
 
 pub returns-in-KeptFull-clause-tied : goal.returns-in-KeptFull-clause-tied
 returns-in-KeptFull-clause-tied g c =
     let spare = c.requires.tied.spare in
     let more = c.in-Err.ensures.spared in
-    let same : length c.reserve.new.self.items ≡ length c.args.ledger.now.entries.items = ap (λ (l : List Made). length l) c.reserve.ensures.items in
+    let shelf = c.requires.tied.shelf in
+    let unused = c.in-Err.ensures.unused in
     record {
       numbered = c.step_files.ensures.numbered;
       locked = c.in-Err.ensures.stays c.args.ledger.now.time c.requires.tied.locked;
-      spare = omega (arith, spare, more, same);
+      stand = stand_same c.args.ledger.now.locks.files c.step_files.new.locks.files c.args.ledger.now.time c.in-Err.ensures.stand c.requires.tied.stand;
+      spare = omega (arith, spare, more);
+      shelf = omega (arith, shelf, unused);
+      slots = c.requires.tied.slots;
     }
 
 pub returns-in-Memory-clause-tied : goal.returns-in-Memory-clause-tied
 returns-in-Memory-clause-tied g c =
     let spare = c.requires.tied.spare in
     let more = c.in-Err.ensures.spared in
-    let same : length c.reserve.new.self.items ≡ length c.args.ledger.now.entries.items = ap (λ (l : List Made). length l) c.reserve.ensures.items in
+    let shelf = c.requires.tied.shelf in
+    let unused = c.in-Err.ensures.unused in
     record {
       numbered = c.step_files.ensures.numbered;
       locked = c.in-Err.ensures.stays c.args.ledger.now.time c.requires.tied.locked;
-      spare = omega (arith, spare, more, same);
+      stand = stand_same c.args.ledger.now.locks.files c.step_files.new.locks.files c.args.ledger.now.time c.in-Err.ensures.stand c.requires.tied.stand;
+      spare = omega (arith, spare, more);
+      shelf = omega (arith, shelf, unused);
+      slots = c.requires.tied.slots;
     }
 
 pub returns-in-Ok-clause-takes : goal.returns-in-Ok-clause-takes
@@ -41,7 +50,7 @@ returns-in-Ok-clause-takes g c =
     c.new-entry.ensures ∙ (λ i. record { time = now i; step = record { stamp = stamp i; pass = c.args.pass; moment = c.args.moment; call = asked i; ruling = ruling } }) in
     record {
       steps = subst (λ (t : ℕ). TakesStep (ended_in before t) after c.args.call before.opened t ruling) now ok.steps;
-      entries = c.record.ensures ∙ ap (λ (l : List Made). l ++ c.new-entry.result ∷ []) c.reserve.ensures.items ∙ ap (λ (m : Made). before.entries.items ++ m ∷ []) entry;
+      entries = c.record.ensures.items ∙ ap (λ (m : Made). before.entries.items ++ m ∷ []) entry;
       last = stamp;
       time = now;
       opened = refl;
@@ -53,3 +62,6 @@ returns-in-Ok-clause-takes g c =
       archived = ok.kept;
       kept = ok.bytes;
     }
+
+pub returns-in-Memory-clause-light : goal.returns-in-Memory-clause-light
+returns-in-Memory-clause-light g c = λ takes. absurd (cc (takes, c.in-Err.ensures.light))

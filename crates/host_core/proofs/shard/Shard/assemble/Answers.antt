@@ -1,4 +1,4 @@
-use Rattle.std.proofs.Common.{◌≡◌, ℕ, List, [], Option, length, refl, sym, ap, subst, arith}
+use Rattle.std.proofs.Common.{◌≡◌, ℕ, List, [], Option, length, refl, sym, ap, subst, ◌∙◌, arith}
 use Rattle.outside.specs.Faults.{RoseBy}
 use Rattle.file_versions.specs.Versions.{kept_in}
 use Rattle.host_core.specs.Archive.{IsArchive}
@@ -6,6 +6,8 @@ use Rattle.host_core.specs.Entries.{Made}
 use Rattle.host_core.specs.Files.{files_of, torn_in}
 use Rattle.host_core.specs.ShardView.{opening_listed}
 use Rattle.host_core.specs.Value.{Reflects, Agrees, Stands, faults_in}
+use Rattle.kept_locks.specs.Locks.{Standing}
+use Rattle.wopi_model.specs.Settle.{standing}
 use Rattle.host_core.specs.Whole.{Whole, joined}
 use Rattle.host_core.proofs.Joining.{long_joined}
 use Rattle.host_core.specs.Times.{GoesByEntries}
@@ -59,7 +61,10 @@ invariant_of-result g c =
       record {
         numbered = c.requires.stock.numbered;
         locked = free_locked stock.files.items c.args.room.locks c.args.opened c.requires.none c.requires.long;
+        stand = λ number. ap (λ (s : Standing). standing s.lock c.args.opened) (c.requires.none number) ∙ sym (ap (λ (s : Standing). s.lock) (c.requires.none number));
         spare = let spare = c.requires.spare in omega (arith, spare);
+        shelf = let shelf = c.requires.shelf in omega (arith, shelf);
+        slots = c.requires.slots;
       },
     )
 

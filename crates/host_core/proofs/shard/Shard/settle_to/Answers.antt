@@ -2,6 +2,7 @@ use Rattle.std.proofs.Common.{◌≡◌, ◌≤◌, ℕ, List, length, refl, sub
 use Rattle.std.proofs.lemmas.List.{length-map}
 use Rattle.kept_locks.specs.Locks.{Standing, all_ended, ended_at, unlocked}
 use Rattle.kept_locks.specs.Ties.{BeganBy}
+use Rattle.host_core.specs.Turns.{AllStand}
 use Rattle.host_core.specs.Whole.{Whole, standing_at, joined}
 use Rattle.host_core.specs.Archive.{IsArchive}
 use Rattle.host_core.specs.Files.{files_of, torn_in}
@@ -11,6 +12,7 @@ use Rattle.host_core.specs.ShardView.{book_of}
 use Rattle.file_versions.specs.Versions.{kept_in}
 use Rattle.host_core.proofs.Standing.{lawful, stands-tick}
 use Rattle.host_core.proofs.Meeting.{locked_ended}
+use Rattle.host_core.proofs.Turning.{stand_ended}
 use Rattle.host_core.proofs.shard.Shard.settle_to.Goals as goal
 
 pub invariant_of-self : goal.invariant_of-self
@@ -21,13 +23,17 @@ invariant_of-self g c =
     let ledger = inside.ledger in
     let tied = c.self.invariant.1 in
     let more = c.settle.ensures.spare in
-    let spare = tied.spare in (
+    let spare = tied.spare in
+    let shelf = tied.shelf in (
       stands-tick (book_of inside) ledger (files inside.start.value) (files inside.folder) (faults inside.start.value) (faults inside.folder) c.args.moment
           _ _ _ c.requires c.max-self-inside.ensures c.settle.ensures.files c.of.ensures c.self.invariant.0,
       record {
         numbered = tied.numbered;
         locked = locked_ended ledger.files.items ledger.locks _ ledger.time _ tied.locked (let is = c.max-self-inside.ensures in omega (arith, is)) c.settle.ensures.files;
+        stand = subst (AllStand c.max-self-inside.result) (sym c.settle.ensures.files) (stand_ended ledger.locks.files c.max-self-inside.result);
         spare = omega (arith, more, spare);
+        shelf = shelf;
+        slots = tied.slots;
       },
     )
 
