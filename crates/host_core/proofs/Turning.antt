@@ -194,12 +194,12 @@ pub stand_set : (ss : List Standing) (number : ℕ) (lock : Option Lock) (spend 
     → AllStand now (with_lock ss number lock spend now)
 stand_set ss number lock spend now lt stands all other = elim (eqb_tells other number) [
   | inl same ↦
-  let is : standing_at (with_lock ss number lock spend now) other ≡ stepped lock spend now (standing_at ss number) =
-  ap (standing_at (with_lock ss number lock spend now)) same.1 ∙ stands_set ss number lock spend now lt in
-  ap (λ (s : Standing). standing s.lock now) is ∙ stands ∙ sym (ap (λ (s : Standing). s.lock) is)
+      let is : standing_at (with_lock ss number lock spend now) other ≡ stepped lock spend now (standing_at ss number) =
+      ap (standing_at (with_lock ss number lock spend now)) same.1 ∙ stands_set ss number lock spend now lt in
+      ap (λ (s : Standing). standing s.lock now) is ∙ stands ∙ sym (ap (λ (s : Standing). s.lock) is)
   | inr differ ↦
-  let is = stands_beside ss number lock spend now other differ.1 in
-  ap (λ (s : Standing). standing s.lock now) is ∙ all other ∙ sym (ap (λ (s : Standing). s.lock) is)
+      let is = stands_beside ss number lock spend now other differ.1 in
+      ap (λ (s : Standing). standing s.lock now) is ∙ all other ∙ sym (ap (λ (s : Standing). s.lock) is)
 ]
 
 pub stand_same : (old new : List Standing) (time : ℕ) → ((n : ℕ) → standing_at new n ≡ standing_at old n) → AllStand time old → AllStand time new

@@ -97,7 +97,12 @@ impl<F: Folder> Shard<F> {
         let mut folder = folder;
         let start = Snapshot::of(&folder);
         match gather(alloc, &mut folder, only) {
-            Ok(mut stock) => match take_room(alloc, &mut stock.versions, stock.files.len(), capacity) {
+            Ok(mut stock) => match take_room(
+                alloc,
+                &mut stock.versions,
+                stock.files.len(),
+                capacity,
+            ) {
                 Ok(room) => {
                     let shard = Shard::assemble(
                         alloc, folder, only, start, stock, room, capacity, opened,
