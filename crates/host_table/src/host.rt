@@ -1,9 +1,10 @@
 //! The host.
-ghost use Rattle.std.specs.Prelude.{◌≡◌, ◌+◌, ◌<◌, ◌≤◌, ◌∷◌, [], ◌++◌, length, map, IfOk, IfErr, OnOk, OnErr, None, Some, IsSomeAnd, IsTrue, ◌↔◌};
+ghost use Rattle.std.specs.Prelude.{◌≡◌, ◌+◌, ◌<◌, ◌≤◌, ◌∷◌, [], ◌++◌, length, map, IfOk, IfErr, OnOk, OnErr, None, Some, true, IsSomeAnd, IsTrue, ◌↔◌};
 ghost use Rattle.std.specs.List.{AllByRecursion};
 ghost use Rattle.wopi_model.specs.Moment.{IsMoment};
 ghost use Rattle.wopi_text.specs.FileName.{shard_of};
-ghost use Rattle.host_core.specs.Caller.{Makes, Refuses, Frames, entry_of};
+ghost use Rattle.host_core.specs.Caller.{Makes, Refuses, Frames, IsFullCall, entry_of};
+ghost use Rattle.host_core.specs.Memory.{takes_no_memory};
 ghost use Rattle.host_table.specs.Histories.{last_stamp, as_opened, IsSeen};
 ghost use Rattle.host_table.specs.Passes.{locks_of, own_of, top, sight_of, kept_pass, given_pass, IsPassOf, IsSamePass, HasSeen, AreBases};
 ghost use Rattle.host_table.specs.Start.{first_seats, first_pass, AreHanded, IsBlamed, Starts};
@@ -81,6 +82,7 @@ fn turn<F: Folder, R: Wait>(
     ensures seen { IsSomeAnd seat.old.base (λ base. IsSeen base seat.new.seen) }
     ensures made { IfOk result.1 (λ receipt. Calls seat.old call number floor moment receipt seat.new) }
     ensures refused { IfErr result.1 (λ refusal. Looks seat.old call floor moment refusal seat.new) }
+    ensures light { IfErr result.1 (λ refusal. takes_no_memory call.act ≡ true → IsFullCall refusal) }
 {
     let mut held = lock.take(rt, seat);
     let answer = held.call(call, number, floor, moment);
@@ -230,6 +232,7 @@ impl<F: Folder> Host<F> {
         ensures own { IfOk result (λ receipt. own_of pass.new ≡ own_of pass.old
             ++ record { shard = receipt.shard; place = receipt.place; entry = entry_of pass.old.number call moment receipt } ∷ []) }
         ensures none { OnErr result (own_of pass.new ≡ own_of pass.old) }
+        ensures light { IfErr result (λ refusal. takes_no_memory call.act ≡ true → IsFullCall refusal) }
         ensures same { IsSamePass pass.old pass.new }
         ensures seen { HasSeen pass.new }
     {
