@@ -1,8 +1,9 @@
 -- A pass that is split in two.
-use Rattle.std.proofs.Common.{◌≡◌, ℕ, ◌+◌, ◌-◌, ◌/◌, ◌≤◌, List, [], ◌∷◌, ◌++◌, map, refl, ap, sym, ◌∙◌, subst, arith}
+use Rattle.std.proofs.Common.{◌≡◌, ℕ, ◌+◌, ◌-◌, ◌/◌, ◌≤◌, List, [], ◌∷◌, ◌++◌, length, map, Option, None, Some, refl, ap, sym, ◌∙◌, subst, arith}
 use Rattle.std.proofs.lemmas.List.{length-map}
 use Rattle.wopi_model.specs.Shard.{RisesFrom}
-use Rattle.host_table.specs.Passes.{HostView, IsPassOf, lock_of, base_of, Place, PassView, Own, stamp_of, owned, owned_from, by_stamp, top, AreSeats, IsPass, given_half, kept_half, given_pass, kept_pass}
+use Rattle.host_core.specs.Value.{Book}
+use Rattle.host_table.specs.Passes.{HostView, IsHost, IsPassOf, AreBases, lock_of, base_of, Place, PassView, Own, stamp_of, owned, owned_from, by_stamp, top, AreSeats, IsPass, given_half, kept_half, given_pass, kept_pass}
 use Rattle.host_table.specs.Rows.{CanSplit}
 
 module _ {F : Type 0} where
@@ -73,3 +74,23 @@ module _ {F : Type 0} where
     bases_kept : (ss : List (Place F)) → map base_of (map kept_half ss) ≡ map base_of ss
     bases_kept [] = refl
     bases_kept (s ∷ ss) = ap (λ (z : List _). s.base ∷ z) (bases_kept ss)
+
+  abbrev begins_with : List (Option (Book F)) → Option (Book F)
+  begins_with [] = None
+  begins_with (base ∷ bases) = base
+
+  same_times : (number weight opened capacity opened' capacity' : ℕ) (bases : List (Book F)) (ss : List (Place F)) → AreBases opened capacity 0 bases → length bases ≡ 16
+      → AreSeats number weight opened' capacity' 0 ss → map base_of ss ≡ map Some bases → (opened' ≡ opened) × (capacity' ≡ capacity)
+  same_times number weight opened capacity opened' capacity' [] ss bases many seats same = absurd (omega (arith, many))
+  same_times number weight opened capacity opened' capacity' (base ∷ bases) [] are many seats same =
+      let none : None ≡ Some base = ap begins_with same in absurd (cc none)
+  same_times number weight opened capacity opened' capacity' (base ∷ bases) (s ∷ ss) are many seats same =
+      let first : s.base ≡ Some base = ap begins_with same in
+      let based : s.base ≡ Some seats.0.base = seats.0.based in
+      let is : seats.0.base ≡ base = cc (first, based) in
+      (sym seats.0.is_base.opened_is ∙ ap (λ (b : Book F). b.opened) is ∙ are.0.opened_is, sym seats.0.is_base.capacity_is ∙ ap (λ (b : Book F). b.capacity) is ∙ are.0.capacity_is)
+
+  -- a pass has the moment and the capacity of its host
+  pub as_its_host : (host : HostView F) (p : PassView F) → IsHost host → IsPass p → IsPassOf host p → (p.opened ≡ host.opened) × (p.capacity ≡ host.capacity)
+  as_its_host host p is_host is of =
+      same_times p.number p.weight host.opened host.capacity p.opened p.capacity host.bases p.seats is_host.bases is_host.many is.seats of.bases

@@ -112,8 +112,8 @@ fn begin<F: Folder>(
         number: 0,
         last: 0,
         weight: 1 << 62,
-        opened,
-        capacity,
+        opened: Snapshot::of(&opened),
+        capacity: Snapshot::of(&capacity),
         seats,
     };
     let host = Host {
@@ -209,8 +209,8 @@ impl<F: Folder> Host<F> {
             number,
             last: pass.last,
             weight: half,
-            opened: pass.opened,
-            capacity: pass.capacity,
+            opened: Snapshot::of(&self.opened),
+            capacity: Snapshot::of(&self.capacity),
             seats,
         }
     }

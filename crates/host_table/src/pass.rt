@@ -5,6 +5,7 @@ ghost use Rattle.host_table.specs.Passes.{HasSeen};
 use crate::held::Held;
 use outside::Folder;
 use std::marker::Model;
+use std::snapshot::Snapshot;
 use turn_lock::Seat;
 
 /// A seat at each shard of a host, under one number. Contracts see what it has seen of each shard, its own
@@ -17,8 +18,9 @@ pub struct Pass<F: Folder> {
     pub(crate) last: u64,
     /// That of each seat.
     pub(crate) weight: u64,
-    pub(crate) opened: u64,
-    pub(crate) capacity: u32,
+    /// Those of its host, as contracts see them.
+    pub(crate) opened: Snapshot<u64>,
+    pub(crate) capacity: Snapshot<u32>,
     pub(crate) seats: Vec<Seat<Held<F>>>,
 }
 
