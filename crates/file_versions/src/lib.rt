@@ -1,8 +1,7 @@
 //! The contents of every version of every file of a shard.
 //!
 //! Contents are moved in and handed out by reference, and never copied. A version is named by the
-//! number of its file's name and by the file's version. A shard takes nothing out during a run, save
-//! to undo an `add` whose contents then couldn't be stored.
+//! number of its file's name and by the file's version. A shard takes nothing out during a run.
 //!
 //! The versions stand in a list, in the order in which they came. No version of a file stands there
 //! twice, so whoever remembers at which place one was added finds it there in one step.
@@ -147,7 +146,7 @@ impl Versions {
         }
     }
 
-    /// Takes a version out again and hands its contents over, if it is kept: it undoes an `add`.
+    /// Takes a version out again and hands its contents over, if it is kept.
     pub fn remove(&mut self, number: u32, version: u64) -> Option<Bytes>
         ensures value { result ≡ found self.old.list number version }
         ensures rest { self.new.list ≡ removed self.old.list number version }
