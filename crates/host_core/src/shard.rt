@@ -32,7 +32,6 @@ use wopi_model::{Call, Ruling};
 use wopi_text::{Bytes, FileName, Memory};
 
 /// The files of one shard, their history, and the folder that keeps their contents.
-#[derive(Drop)]
 pub struct Shard<F: Folder> {
     ledger: Ledger,
     folder: F,
@@ -40,6 +39,19 @@ pub struct Shard<F: Folder> {
     only: Snapshot<Option<u8>>,
     start: Snapshot<F>,
     opening: Snapshot<Vec<OpeningFile>>,
+}
+
+impl<F: Folder> Drop for Shard<F> {
+    fn drop(self) {
+        let Shard {
+            ledger: _ledger,
+            folder: _folder,
+            ticked: _ticked,
+            only: _only,
+            start: _start,
+            opening: _opening,
+        } = self;
+    }
 }
 
 impl<F: Folder> Model for Shard<F> {
@@ -303,9 +315,10 @@ impl<F: Folder> Shard<F> {
         let Shard {
             ledger,
             folder,
+            ticked: _ticked,
+            only: _only,
             start,
             opening,
-            ..
         } = self;
         let past = Past {
             first_files: ledger.first_files,
