@@ -1,34 +1,23 @@
 -- What a session did is shown as the machine's turn.
-use Rattle.std.proofs.Common.{◌≡◌, ℕ, ◌+◌, List, ◌∷◌, length, codes, decimal, Option, Some, refl, sym, ap, ◌∙◌, subst}
+use Rattle.std.proofs.Common.{◌≡◌, ℕ, ◌+◌, List, ◌∷◌, length, codes, decimal, Some, refl, sym, ap, ◌∙◌, subst}
 use Rattle.std.specs.List.{slice_get}
 use Rattle.std.proofs.lemmas.List.{length-map}
 use Rattle.save_session.specs.declared.input.Input.{Input}
 use Rattle.save_session.specs.declared.state.State.{State}
-use Rattle.save_session.specs.declared.state.Waiting.{Waiting}
 use Rattle.save_session.specs.declared.state.Effect.{Effect}
 use Rattle.save_session.specs.declared.state.Effect.TheVariants.{Sends, Tells, Ignores}
 use Rattle.save_session.specs.declared.state.SessionOp.{SessionOp}
 use Rattle.save_session.specs.declared.output.Outcome.{Outcome}
 use Rattle.save_session.specs.declared.state.Turn.{Turn}
-use Rattle.save_session.specs.Session.{stepped, output_of, op_of, body_of, body_while, contents_with}
+use Rattle.save_session.specs.Session.{stepped, output_of, op_of, body_of}
 use Rattle.wopi_world.specs.Requests.{Client}
 use Rattle.wopi_world.specs.World.{World}
 use Rattle.replay_cmd.specs.declared.member.Request.{Request}
 use Rattle.replay_cmd.specs.declared.member.Member.{Member}
-use Rattle.replay_cmd.specs.Sessions.{WaitsFor, IsSameTurn, IsSameEffect}
+use Rattle.replay_cmd.specs.Sessions.{IsSameTurn, IsSameEffect}
 use Rattle.replay_cmd.specs.Members.{StepsTo, StepsIn, IsMember, ShowsSessions, request_kept}
 use Rattle.replay_cmd.specs.Words.{operation_shown, outcome_shown, output_shown}
-use Rattle.replay_cmd.specs.Trace.{effect_shown, turn_shown, client_shown}
-use Rattle.replay_cmd.proofs.Machines.{stepped_waits}
-
-by_effect : (nonce : List ℕ) (s count : ℕ) (session : State) (effect : Effect) → WaitsFor effect session
-    → output_shown s count (body_of session) (output_of nonce effect) ≡ effect_shown nonce s count session.body effect
-by_effect nonce s count session (Sends sent) waits =
-    let body : body_of session ≡ contents_with session.body sent =
-    ap (λ (w : Option Waiting). body_while w session.body) waits.1 ∙ ap (contents_with session.body) waits.2 in
-    ap (λ (b : List ℕ). codes "send" ∷ decimal (count + 1) ∷ operation_shown (op_of nonce sent) b) body
-by_effect nonce s count session (Tells outcome) waits = refl
-by_effect nonce s count session (Ignores given) waits = refl
+use Rattle.replay_cmd.specs.Trace.{turn_shown, client_shown}
 
 -- of a session that took an input
 pub steps_shown : (old new : Member) (requests requests' : List Request) (s : ℕ) (given : Input) (words : List (List ℕ)) → StepsTo old new requests requests' s given words
@@ -36,14 +25,12 @@ pub steps_shown : (old new : Member) (requests requests' : List Request) (s : �
 steps_shown old new requests requests' s given words h =
     let nonce = old.session.nonce in
     let turn = stepped nonce old.session.state given in
-    h.shown
-    ∙ ap (λ (st : State). output_shown s (length requests) (body_of st) (output_of nonce turn.effect)) h.state
-    ∙ by_effect nonce s (length requests) turn.session turn.effect (stepped_waits nonce old.session.state given)
+    h.shown ∙ ap (λ (st : State). output_shown s (length requests) (body_of st) (output_of nonce turn.effect)) h.state
 
-same_effect : (nonce : List ℕ) (s count : ℕ) (body : Option (List ℕ)) (one other : Effect) → IsSameEffect one other
-    → effect_shown nonce s count body one ≡ effect_shown nonce s count body other
+same_effect : (nonce : List ℕ) (s count : ℕ) (body : List ℕ) (one other : Effect) → IsSameEffect one other
+    → output_shown s count body (output_of nonce one) ≡ output_shown s count body (output_of nonce other)
 same_effect nonce s count body (Sends asked) (Sends other) h =
-    ap (λ (o : SessionOp). codes "send" ∷ decimal (count + 1) ∷ operation_shown (op_of nonce o) (contents_with body o)) h
+    ap (λ (o : SessionOp). codes "send" ∷ decimal (count + 1) ∷ operation_shown (op_of nonce o) body) h
 same_effect nonce s count body (Tells told) (Tells other) h = ap (λ (o : Outcome). codes "tell" ∷ decimal (s + 1) ∷ outcome_shown o) h
 same_effect nonce s count body (Ignores given) (Ignores other) h = refl
 same_effect nonce s count body (Sends asked) (Tells other) h = absurd h
@@ -56,8 +43,8 @@ same_effect nonce s count body (Ignores given) (Tells other) h = absurd h
 -- turns in which nothing differs but what is handed back
 pub same_shown : (nonce : List ℕ) (s count : ℕ) (one other : Turn) → IsSameTurn one other → turn_shown nonce s count one ≡ turn_shown nonce s count other
 same_shown nonce s count one other h =
-    ap (λ (st : State). effect_shown nonce s count st.body one.effect) h.session
-    ∙ same_effect nonce s count other.session.body one.effect other.effect h.effect
+    ap (λ (st : State). output_shown s count (body_of st) (output_of nonce one.effect)) h.session
+    ∙ same_effect nonce s count (body_of other.session) one.effect other.effect h.effect
 
 -- of a session of the world, whose member this is
 pub client_steps : (key : List ℕ) (clients : List Client) (members members' : List Member) (requests requests' : List Request) (world : World)
