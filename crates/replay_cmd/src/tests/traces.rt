@@ -110,6 +110,13 @@ end 652e637376 v2 absent\n";
 }
 
 #[test]
+fn a_copy_has_its_name_without_the_spaces_at_its_front(rt: HostRuntime) -> Result<(), Fail> {
+    let text = b"file 652e637376 -\nforeign 1 9000000 relative 652e637376 2020612e637376 no 78\n";
+    let shown = b"reply 1 200 612e637376\nend 612e637376 v1 - 78\nend 652e637376 v1 - -\n";
+    expect_over(&rt, rt.alloc(), &mut Straight, text, shown)
+}
+
+#[test]
 fn the_trace_shows_what_came_over_a_straight_wire(rt: HostRuntime) -> Result<(), Fail> {
     let shown = b"send 1 info\nreply 1 200 v1 4\nsend 2 lock n-1\nend 612e637376 v1 - 312c320a\n";
     expect_over(&rt, rt.alloc(), &mut Straight, BEGUN, shown)
