@@ -1,11 +1,12 @@
 -- A request answered by the calls that it makes.
 use Rattle.std.proofs.Common.{◌≡◌, ℕ, List, [], ◌∷◌, ◌++◌, map, Ok, refl, sym, ap, ◌∙◌, subst}
+use Rattle.std.specs.List.{AllByRecursion}
 use Rattle.std.proofs.lemmas.List.{map-append, append_cancel_left}
 use Rattle.wopi_model.specs.Shard.{Entry, Legal, entries}
 use Rattle.wopi_headers.specs.declared.answer.Answer.{Answer}
 use Rattle.wopi_headers.specs.declared.ask.Ask.{Ask}
 use Rattle.host_core.specs.Entries.{Made, items_of, history_of}
-use Rattle.host_core.specs.Value.{Book}
+use Rattle.host_core.specs.Value.{Book, faults_in}
 use Rattle.host_core.specs.Single.{sight_of, SeesItsOwn}
 use Rattle.host_server.specs.declared.desk.Desk.{Desk}
 use Rattle.host_server.specs.Deeds.{Deed, made, Does}
@@ -15,7 +16,8 @@ use Rattle.wopi_http.specs.declared.message.Request.{Request}
 use Rattle.wopi_headers.specs.Operations.{AsksFor, IsRefusal}
 use Rattle.host_server.specs.Calls.{Tells}
 use Rattle.replay_cmd.specs.Hosts.{Grown, HasGrown}
-use Rattle.replay_cmd.specs.Exchanges.{Exchanges}
+use Rattle.replay_cmd.specs.Exchanges.{Exchanges, IsStored}
+use Rattle.replay_cmd.proofs.Faults.{later_stored, of_full}
 
 -- the entries of what was made
 pub entries_made : (made : List Made) → entries (items_of made) ≡ map (λ one. one.step) made
@@ -24,8 +26,8 @@ entries_made (one ∷ made) = ap (λ (l : List Entry). one.step ∷ l) (entries_
 
 pub exchanged : {F : Type 0} (desk : Desk) (ask : Ask) (body : List ℕ) (moment : ℕ) (old start new : Book F) (a : Answer) → start ≡ old
     → Tells (Ruled desk ask body moment) SeesItsOwn (sight_of old) (sight_of new) (Ok a) → HasGrown start new
-    → Legal new.opening new.opened (history_of new.made new.time) → Exchanges desk ask body moment old new a
-exchanged {F} desk ask body moment old start new a same tells grown legal =
+    → Legal new.opening new.opened (history_of new.made new.time) → faults_in new.made ≡ 0 → Exchanges desk ask body moment old new a
+exchanged {F} desk ask body moment old start new a same tells grown legal fine =
     let deeds : List Deed = tells.0 in
     let does : Does SeesItsOwn (sight_of old) (sight_of new) deeds = tells.1 in
     let since : HasGrown old new = subst (λ (b : Book F). HasGrown b new) same grown in
@@ -36,13 +38,17 @@ exchanged {F} desk ask body moment old start new a same tells grown legal =
     let joined : map step old.made ++ map step more ≡ map step old.made ++ made deeds =
     sym (map-append step old.made more) ∙ sym (entries_made (old.made ++ more)) ∙ ap (λ (b : Book F). entries (items_of b.made)) (sym g.same) ∙ own
     ∙ ap (λ (l : List Entry). l ++ made deeds) (entries_made old.made) in
+    let steps : map step more ≡ made deeds = append_cancel_left (map step old.made) (map step more) (made deeds) joined in
+    let stored : AllByRecursion IsStored (map step more) =
+    later_stored old.made more (ap (λ (b : Book F). faults_in b.made) (sym g.same) ∙ fine) in
     record {
       deeds = deeds;
       more = more;
       grown = g;
-      steps = append_cancel_left (map step old.made) (map step more) (made deeds) joined;
+      steps = steps;
       ruled = tells.2;
       legal = legal;
+      stored = λ fault. of_full desk a fault ask body moment deeds (subst (AllByRecursion IsStored) steps stored) tells.2;
     }
 
 -- a request that asks for just that is answered by that

@@ -1,6 +1,7 @@
 pub mod Hosting
 pub mod Machines
 pub mod Watching
+pub mod Faults
 pub mod AskLemmas
 pub mod Turning
 pub mod Calling

@@ -1,5 +1,6 @@
 pub mod Schedules
 pub mod Runs
+pub mod Folders
 pub mod Hosts
 pub mod Stages
 pub mod Starts

@@ -17,6 +17,7 @@ mod delivering;
 mod drawing;
 mod event_rows;
 mod exchanging;
+mod faultless;
 mod fitting;
 mod foreign;
 mod foreign_rows;
@@ -45,6 +46,7 @@ mod wire;
 mod words;
 mod world;
 
+pub use faultless::FaultlessFolder;
 pub use generating::generate;
 pub use history::Item;
 pub use input::{InputFault, read_schedule};

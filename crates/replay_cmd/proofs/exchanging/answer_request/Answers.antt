@@ -1,10 +1,10 @@
 use Rattle.std.proofs.Common.{Ok, ◌∙◌, subst}
-use Rattle.outside.specs.declared.memory.folder.MemFolder.{MemFolder}
 use Rattle.host_core.specs.Value.{Book}
 use Rattle.host_core.specs.Single.{sight_of, SeesItsOwn}
 use Rattle.host_server.specs.Turns.{Answers}
 use Rattle.host_server.specs.Answering.{Ruled}
 use Rattle.host_server.specs.Calls.{Tells}
+use Rattle.replay_cmd.specs.declared.faultless.FaultlessFolder.{FaultlessFolder}
 use Rattle.replay_cmd.proofs.AskLemmas.{asked_ruled, exchanged}
 use Rattle.replay_cmd.proofs.exchanging.answer_request.Goals as goal
 
@@ -12,7 +12,7 @@ pub returns : goal.returns
 returns c =
     let new = c.answer.new.caller in
     let a = c.in_ok-answer.answer in
-    let answers = subst (λ (b : Book MemFolder). Answers c.args.desk.now c.args.request c.args.moment SeesItsOwn (sight_of b) (sight_of new.shard) (Ok a))
+    let answers = subst (λ (b : Book FaultlessFolder). Answers c.args.desk.now c.args.request c.args.moment SeesItsOwn (sight_of b) (sight_of new.shard) (Ok a))
     c.begin.ensures.shard c.in_ok-answer.ensures.answers in
     λ ask body asks same.
     let tells : Tells (Ruled c.args.desk.now ask body c.args.moment) SeesItsOwn (sight_of c.args.host.now.shard) (sight_of new.shard) (Ok a) = (
@@ -22,4 +22,4 @@ returns c =
           c.a_refused_request_asks_for_nothing.ensures.nothing asks same answers.2,
     ) in
     exchanged c.args.desk.now ask body c.args.moment c.args.host.now.shard new.start new.shard a
-    (c.answer.ensures.basis ∙ c.begin.ensures.start) tells c.now-time.ensures.grown c.now-time.ensures.legal
+    (c.answer.ensures.basis ∙ c.begin.ensures.start) tells c.now-time.ensures.grown c.now-time.ensures.legal c.now-time.ensures.stored
