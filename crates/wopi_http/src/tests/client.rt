@@ -111,6 +111,10 @@ fn a_body_that_cannot_be_framed_is_bad_where_it_begins(rt: HostRuntime) -> Resul
         (b"HTP".as_slice(), 0),
         (GO_ON, 25),
         (
+            b"HTTP/1.1 200 OK\r\nContent-Length: 5\r\n\r\nabc".as_slice(),
+            38,
+        ),
+        (
             b"HTTP/1.1 200 OK\r\nContent-Length: 16777217\r\n\r\n1,2\n".as_slice(),
             45,
         ),
