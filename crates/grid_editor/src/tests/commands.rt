@@ -1,9 +1,11 @@
 //! What commands write and send.
 use super::{ACCEPTED, CONTENTS, INFO, Left, dialer, editor, run};
 use crate::{EditFault, Script, Went};
-use outside::MemSink;
+use outside::{MemSink, ScriptDialer};
+use std::alloc::Global;
 use std::process::Abort;
 use std::test::Fail;
+use wopi_text::Bytes;
 
 const PUT: &[u8] = b"POST /wopi/files/612e637376/contents?access_token=t0 HTTP/1.1\r\n\
 Host: localhost:8880\r\nX-WOPI-Override: PUT\r\nX-WOPI-Lock: n-1\r\nContent-Length: 4\r\nConnection: close\r\n\r\n1,9\n";
@@ -50,6 +52,42 @@ fn a_sheet_is_opened_edited_saved_and_closed(rt: HostRuntime) -> Result<(), Fail
     let exchanges = left.dialer.exchanges();
     assert!(rt; exchanges.len() > 3);
     assert_eq!(rt; exchanges[3].request.as_slice(), PUT);
+    Ok(())
+}
+
+/// A host whose answers are lost where they stand here without bytes.
+fn losing(alloc: Global, replies: &[&[u8]]) -> Result<ScriptDialer, Fail> {
+    let mut script = Vec::new(alloc);
+    for reply in replies {
+        if reply.is_empty() {
+            script.push(None)?;
+        } else {
+            script.push(Some(Bytes::from_slice(alloc, reply)?))?;
+        }
+    }
+    Ok(ScriptDialer::new(alloc, script))
+}
+
+#[test]
+fn a_save_whose_answer_is_lost_is_sent_again(rt: HostRuntime) -> Result<(), Fail> {
+    let alloc = rt.alloc();
+    let script = Script::read(alloc, b"open\nset 1 2 9\nsave\nset 1 1 7\nsave\nclose\n")?;
+    let replies = [
+        INFO, ACCEPTED, CONTENTS, b"", ACCEPTED, ACCEPTED, SAVED, SAVED,
+    ];
+    let mut host = losing(alloc, &replies)?;
+    let mut output = MemSink::new(alloc, 100, Vec::new(alloc))?;
+    let mut editor = editor(alloc)?;
+    let end = editor.run(&mut host, &mut output, &script);
+    assert!(rt; matches!(end, Ok(Went::On)));
+    assert_eq!(rt;
+        output.as_slice(),
+        b"opened v1 1\nsaved v2\nsaved v3\nclosed\n".as_slice()
+    );
+    let exchanges = host.exchanges();
+    assert!(rt; exchanges.len() == 8);
+    assert_eq!(rt; exchanges[3].request.as_slice(), PUT);
+    assert_eq!(rt; exchanges[4].request.as_slice(), PUT);
     Ok(())
 }
 
