@@ -5,10 +5,12 @@ mod edits;
 mod endless;
 mod faults;
 mod gates;
+mod heads;
 mod limits;
 mod replays;
 mod replies;
 mod serve;
+mod smuggling;
 mod tokens;
 mod words;
 
