@@ -6,6 +6,7 @@ mod endless;
 mod faults;
 mod gates;
 mod heads;
+mod hostile;
 mod limits;
 mod replays;
 mod replies;
