@@ -251,3 +251,30 @@ fn a_shard_that_is_full_makes_no_file(rt: HostRuntime) -> Result<(), Fail> {
     assert!(rt; contents(&single, b"a.txt").is_none());
     Ok(())
 }
+
+/// A caller over `a.csv`, whose removal fails once.
+fn over_a_failing_removal(alloc: Global) -> Result<Single<MemFolder>, Fail> {
+    let mut folder = MemFolder::new(alloc, Vec::new(alloc), [4u64].as_slice().to_vec(alloc)?);
+    folder.replace("a.csv", b"1,2").ok().ok_or("a file")?;
+    over(alloc, 4096, folder)
+}
+
+fn is_torn(single: &Single<MemFolder>) -> Result<bool, Fail> {
+    let name = FileName::read(b"a.csv")?;
+    Ok(single.shard().file(&name).ok_or("the file")?.torn)
+}
+
+#[test]
+fn a_deletion_that_the_folder_fails_leaves_a_torn_file(rt: HostRuntime) -> Result<(), Fail> {
+    let alloc = rt.alloc();
+    let mut single = over_a_failing_removal(alloc)?;
+    assert!(rt; !is_torn(&single)?);
+    assert_eq!(rt; act(alloc, &mut single, Act::Delete, 0)?, (500, None));
+    assert!(rt; is_torn(&single)?);
+    assert_eq!(rt; contents(&single, b"a.csv"), Some(b"1,2".as_slice()));
+    let get = Act::Get { most: None };
+    assert_eq!(rt; act(alloc, &mut single, get, 0)?, (200, None));
+    assert_eq!(rt; act(alloc, &mut single, Act::Delete, 0)?, (200, None));
+    assert!(rt; !is_torn(&single)?);
+    Ok(())
+}
