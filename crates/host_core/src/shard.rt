@@ -41,6 +41,7 @@ pub struct Shard<F: Folder> {
     opening: Snapshot<Vec<OpeningFile>>,
 }
 
+// Written, since a derived one is spelled out, and proved, wherever a shard goes.
 impl<F: Folder> Drop for Shard<F> {
     fn drop(self) {
         let Shard {
