@@ -53,13 +53,25 @@ pub struct Given<'a> {
 }
 
 /// What a run left.
-#[derive(Drop)]
 pub struct Left {
     pub status: u8,
     pub output: MemSink,
     pub notes: MemSink,
     pub folders: Vec<MemFolder>,
     pub dialer: ScriptDialer,
+}
+
+// Written, since a derived one is spelled out, and proved, wherever it goes.
+impl Drop for Left {
+    fn drop(self) {
+        let Left {
+            status: _status,
+            output: _output,
+            notes: _notes,
+            folders: _folders,
+            dialer: _dialer,
+        } = self;
+    }
 }
 
 impl Left {
