@@ -1,9 +1,10 @@
 //! Makes the real streams, folders, listeners, dialer and clocks, hands them to the top call, and ends with its status.
 #![tactic(auto)]
 
-ghost use Rattle.std.specs.Prelude.{◌≡◌, ◌↔◌, ℕ, List, None, IfOk, IfSome, IsErr, IsSome, drop, map, string_bytes, vec_len};
+ghost use Rattle.std.specs.Prelude.{◌≡◌, ◌↔◌, ℕ, List, None, IfOk, IfErr, IfSome, IsErr, IsSome, drop, map, string_bytes, vec_len};
 ghost use Rattle.std.specs.List.{AllByRecursion};
 ghost use Rattle.std.specs.Vec.Iter.{into_iter_items};
+ghost use Rattle.std.specs.IoError.{error_kind};
 ghost use Rattle.wopi_program.specs.EditWords.{IsEditRow};
 ghost use Rattle.wopi_program.specs.ServeWords.{IsServeRow};
 ghost use Rattle.wopi_program.specs.Words.{IsRow};
@@ -15,7 +16,7 @@ use outside::{DirFolder, StdSink, StdSource, SystemClock, TcpDialer, TcpListen};
 use std::alloc::Global;
 use std::env::{self, Args, Env};
 use std::fs::Files;
-use std::io::ErrorKind;
+use std::io::{self, ErrorKind};
 use std::net::{Net, TcpListener, TcpStream};
 use std::process::ExitCode;
 use std::time;
@@ -191,12 +192,21 @@ fn after_name(alloc: Global, args: Args) -> Result<Vec<String>, Memory>
     Ok(all)
 }
 
+/// The words behind the program's name; of arguments that could not be read none, or want of memory.
+fn words_of(alloc: Global, read: io::Result<Args>) -> Result<Vec<String>, Memory>
+    ensures words { IfOk read (λ args. IfOk result (λ words. words.items ≡ drop 1 (into_iter_items args))) }
+    ensures unread { IfErr read (λ error. IsErr result ↔ (error_kind error ≡ ErrorKind.OutOfMemory)) }
+    ensures none { IfErr read (λ _. IfOk result (λ words. vec_len words ≡ 0)) }
+{
+    match read {
+        Ok(args) => return after_name(alloc, args),
+        Err(error) => return unread(alloc, error.kind()),
+    }
+}
+
 /// The words after the program's name; none where one of them is no text.
 fn words<R: Env + AllocGlobal>(rt: &R) -> Result<Vec<String>, Memory> {
-    match env::args(rt) {
-        Ok(args) => after_name(rt.alloc(), args),
-        Err(error) => unread(rt.alloc(), error.kind()),
-    }
+    words_of(rt.alloc(), env::args(rt))
 }
 
 fn main(rt: HostRuntime) -> ExitCode {

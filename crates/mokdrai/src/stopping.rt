@@ -2,7 +2,7 @@
 //!
 //! The program can't hear a signal. Whoever wants it to end makes a file at a path that it was told
 //! when it began, and then connects to it once for each worker, so that each accept returns.
-ghost use Rattle.std.specs.Prelude.{◌≡◌, ◌≤◌, ◌<◌, ◌+◌, ◌↔◌, false, IfOk, IfSome, IsSome, OnOk, IsErr, IsErrOf, None, Some, Ok, map, vec_len};
+ghost use Rattle.std.specs.Prelude.{◌≡◌, ◌≤◌, ◌<◌, ◌+◌, ◌↔◌, false, IfOk, IfErr, IfSome, IsSome, OnOk, IsErr, IsErrOf, None, Some, Ok, map, vec_len};
 ghost use Rattle.std.specs.List.{AllByRecursion};
 ghost use Rattle.std.specs.Option.{ForSome};
 ghost use Rattle.mokdrai.specs.Stopping.{Answers, AreOver, IsLink, PassesOn, TakesBack};
@@ -28,12 +28,21 @@ pub(crate) fn no_path(error: VarError) -> Result<Option<String>, Memory>
     }
 }
 
+/// The path that a variable has; of one that could not be read none, or want of memory.
+pub(crate) fn path_of(read: Result<String, VarError>) -> Result<Option<String>, Memory>
+    ensures path { IfOk read (λ path. result ≡ Ok (Some path)) }
+    ensures unread { IfErr read (λ error. IsErr result ↔ (error ≡ VarError.OutOfMemory)) }
+    ensures none { IfErr read (λ error. result ≡ Ok None ↔ ¬ (error ≡ VarError.OutOfMemory)) }
+{
+    match read {
+        Ok(path) => return Ok(Some(path)),
+        Err(error) => return no_path(error),
+    }
+}
+
 /// The path of the stop file, where the environment has one that is text.
 pub(crate) fn stop_path<R: Env + AllocGlobal>(rt: &R) -> Result<Option<String>, Memory> {
-    match env::var(rt, STOP) {
-        Ok(path) => Ok(Some(path)),
-        Err(error) => no_path(error),
-    }
+    path_of(env::var(rt, STOP))
 }
 
 /// Takes the links of another listener until the stop file is there.
