@@ -229,4 +229,17 @@ mod tests {
         assert_eq!(rt; versions.kept(), 0);
         Ok(())
     }
+
+    #[test]
+    fn a_reserved_place_takes_a_version(rt: HostRuntime) -> Result<(), Fail> {
+        let alloc = rt.alloc();
+        let mut versions = Versions::new(alloc);
+        versions.reserve(1)?;
+        let added = versions.add(0, 1, bytes(alloc, b"x")?);
+        assert!(rt; matches!(added, Ok(())));
+        assert_eq!(rt; versions.len(), 1);
+        let held = versions.near(0, 0, 1).ok_or("a version")?;
+        assert_eq!(rt; held.as_slice(), b"x".as_slice());
+        Ok(())
+    }
 }
