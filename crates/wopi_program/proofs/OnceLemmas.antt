@@ -84,30 +84,29 @@ module _ {F : Type 0} (files : F → Option Files) (faults : F → ℕ) where
         (legal_alone desk end left mid clock' held held' folder' first (ap (λ (b : Book F). b.made) book) (ap (λ (b : Book F). b.ticked) book) serves);
   }
 
--- where a shard was refused, what the run did by its end
-pub opens_none : {F : Type 0} (files : F → Option Files) (faults : F → ℕ) (key base : List ℕ) (fault : StartFault) (opened : ℕ)
-    (left clock clock' held held' : Option (List ℕ)) (folder folder' : F)
-    → Gives clock clock' opened → Keeps (files folder) (files folder') → faults folder ≤ faults folder' → IfTooLarge fault (IsTooLarge None (files folder))
-    → (fault ≡ refusal.FolderFault → Rose (faults folder) (faults folder'))
-    → OnceRuns files faults key base (end_of fault) left clock clock' held held' folder folder'
-opens_none files faults key base refusal.FolderFault opened left clock clock' held held' folder folder' gives keeps counts too_large failed =
-    (failed refl, record { opened = opened; gives = gives; keeps = keeps; counts = counts })
-opens_none files faults key base (refusal.TooLarge name) opened left clock clock' held held' folder folder' gives keeps counts too_large failed =
-    (too_large, record { opened = opened; gives = gives; keeps = keeps; counts = counts })
-opens_none files faults key base refusal.Memory opened left clock clock' held held' folder folder' gives keeps counts too_large failed =
-    record { opened = opened; gives = gives; keeps = keeps; counts = counts }
+-- status 3 comes only with a fault of reading
+pub by_read_fault : {K : Type 0} (R : Type 0) (held : K → Option (List ℕ)) (count : K → ℕ) (status : ℕ) (old new : K) (end : OnceEnd)
+    → Finishes held count status old new end → (end ≡ Served conn.ReadFault → R) → status ≡ 3 → R
+by_read_fault R held count status old new (Served conn.Done) is cause s = absurd (omega (arith, is.0, s))
+by_read_fault R held count status old new (Served conn.ReadFault) is cause s = cause refl
+by_read_fault R held count status old new (Served conn.WriteFault) is cause s = absurd (omega (arith, is.0, s))
+by_read_fault R held count status old new (Served conn.Memory) is cause s = absurd (omega (arith, is.0, s))
+by_read_fault R held count status old new FolderFault is cause s = absurd (omega (arith, is.0, s))
+by_read_fault R held count status old new (TooLarge name) (inl told) cause s = absurd (omega (arith, told.0, s))
+by_read_fault R held count status old new (TooLarge name) (inr want) cause s = absurd (omega (arith, want.0, s))
+by_read_fault R held count status old new Memory is cause s = absurd (omega (arith, is.0, s))
 
--- at status 6 nothing was read
-pub reads_nothing : {S K : Type 0} (bytes : S → Option (List ℕ)) (held : K → Option (List ℕ)) (count : K → ℕ) (status : ℕ) (source source' : S) (sink sink' old new : K)
-    (end : OnceEnd) → Finishes held count status old new end → Untouched end source source' sink sink' → (end ≡ Served conn.Memory → bytes source' ≡ bytes source)
-    → status ≡ 6 → bytes source' ≡ bytes source
-reads_nothing bytes held count status source source' sink sink' old new (Served conn.Done) is untouched nothing six = absurd (omega (arith, is.0, six))
-reads_nothing bytes held count status source source' sink sink' old new (Served conn.ReadFault) is untouched nothing six = absurd (omega (arith, is.0, six))
-reads_nothing bytes held count status source source' sink sink' old new (Served conn.WriteFault) is untouched nothing six = absurd (omega (arith, is.0, six))
-reads_nothing bytes held count status source source' sink sink' old new (Served conn.Memory) is untouched nothing six = nothing refl
-reads_nothing bytes held count status source source' sink sink' old new FolderFault is untouched nothing six = ap bytes untouched.0
-reads_nothing bytes held count status source source' sink sink' old new (TooLarge name) is untouched nothing six = ap bytes untouched.0
-reads_nothing bytes held count status source source' sink sink' old new Memory is untouched nothing six = ap bytes untouched.0
+-- status 4 comes only with a fault of writing
+pub by_write_fault : {K : Type 0} (R : Type 0) (held : K → Option (List ℕ)) (count : K → ℕ) (status : ℕ) (old new : K) (end : OnceEnd)
+    → Finishes held count status old new end → (end ≡ Served conn.WriteFault → R) → status ≡ 4 → R
+by_write_fault R held count status old new (Served conn.Done) is cause s = absurd (omega (arith, is.0, s))
+by_write_fault R held count status old new (Served conn.ReadFault) is cause s = absurd (omega (arith, is.0, s))
+by_write_fault R held count status old new (Served conn.WriteFault) is cause s = cause refl
+by_write_fault R held count status old new (Served conn.Memory) is cause s = absurd (omega (arith, is.0, s))
+by_write_fault R held count status old new FolderFault is cause s = absurd (omega (arith, is.0, s))
+by_write_fault R held count status old new (TooLarge name) (inl told) cause s = absurd (omega (arith, told.0, s))
+by_write_fault R held count status old new (TooLarge name) (inr want) cause s = absurd (omega (arith, want.0, s))
+by_write_fault R held count status old new Memory is cause s = absurd (omega (arith, is.0, s))
 
 Finishes-known : {K : Type 0} (held : K → Option (List ℕ)) (count : K → ℕ) (status : ℕ) (old new : K) (end : OnceEnd)
     → Finishes held count status old new end → status ≢ 2

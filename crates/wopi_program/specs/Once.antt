@@ -137,7 +137,7 @@ pub record OnceRan {S K F N D C L : Type 0} (m : Meanings S K F N D C L) (words 
   pub runs : OnceRunsIn m.files m.folder_faults m.moments key base end (m.left old.input) (m.held old.output) (m.held new.output)
       old.folders.items new.folders.items old.clocks.items new.clocks.items
   pub untouched : Untouched end old.input new.input old.output new.output
-  pub nothing_read : status ≡ 6 → m.left new.input ≡ m.left old.input
+  pub nothing_read : end ≡ Served conn.Memory → m.left new.input ≡ m.left old.input
   pub read_cause : status ≡ 3 → Rose (m.read_faults old.input) (m.read_faults new.input)
   pub write_cause : status ≡ 4 → Rose (m.write_faults old.output) (m.write_faults new.output)
   pub finishes : Finishes m.held m.write_faults status old.notes new.notes end

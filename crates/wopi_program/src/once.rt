@@ -225,7 +225,6 @@ fn finish<K: Sink>(alloc: Global, notes: &mut K, end: &OnceEnd) -> u8
 
 /// Answers the requests of the input on the output, in their order, by calls on one shard over the
 /// folder.
-#[tactic(auto, using(crate::proofs::OnceLemmas::reads_nothing))]
 pub fn run_once<S: Source, K: Sink, F: Folder, N: Listener, D: Dialer, C: Clock>(
     alloc: Global,
     words: &[String],
