@@ -7,8 +7,8 @@ pub returns : goal.returns
 returns g c =
     let ran = c.once_in-end in
     let Runs : List ℕ → Type 0 = λ base. OnceRunsIn g.F.Folder.files g.F.Folder.faults g.C.Clock.moments c.in-Some.key base ran.result
-        (g.S.Source.left c.args.outside.now.input) (g.K.Sink.held c.args.outside.now.output) (g.K.Sink.held ran.new.sink)
-        c.args.outside.now.folders.items ran.new.folders.items c.args.outside.now.clocks.items ran.new.clocks.items
+    (g.S.Source.left c.args.outside.now.input) (g.K.Sink.held c.args.outside.now.output) (g.K.Sink.held ran.new.sink)
+    c.args.outside.now.folders.items ran.new.folders.items c.args.outside.now.clocks.items ran.new.clocks.items
     in
     inr (record {
       end = ran.result;
