@@ -8,8 +8,8 @@
 //!
 //! `memory` has a fake of each, which tells all that its trait leaves optional and fails at the
 //! calls that it was told to fail at. `standard`, `directory` and `network` have the real things,
-//! which tell nothing of content. `read_link`, `write_link` and `write_whole` are what the crates
-//! above read and write by.
+//! which tell nothing of content. `read_link`, `read_piece`, `write_link` and `write_whole` are what
+//! the crates above read and write by.
 #![tactic(auto)]
 
 mod clock;
@@ -39,7 +39,7 @@ pub use memory::{
 pub use names::Names;
 pub use network::{TcpDialer, TcpLink, TcpListen};
 pub use standard::{StdSink, StdSource, SystemClock};
-pub use transfer::{read_link, write_link, write_whole};
+pub use transfer::{piece_room, read_link, read_piece, write_link, write_whole};
 
 #[cfg(test)]
 mod tests;

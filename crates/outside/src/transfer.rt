@@ -1,10 +1,38 @@
 //! Whole pieces over a sink or a link.
-ghost use Rattle.std.specs.Prelude.{◌≡◌, ◌≤◌, ℕ, length, IfOk, OnOk, OnErr};
-ghost use Rattle.std.specs.Io.KnownBytes.{Appends, ReadConsumes};
+ghost use Rattle.std.specs.Prelude.{◌≡◌, ◌≤◌, ◌<◌, ℕ, length, take, vec_len, IfOk, OnOk, OnErr};
+ghost use Rattle.std.specs.Io.KnownBytes.{Appends, Consumes, IsAtEnd, ReadConsumes};
 ghost use Rattle.outside.specs.Faults.{Rose};
 ghost use Rattle.outside.specs.Stream.{GrewByPrefix};
 
-use crate::{Failed, Link, Sink};
+use crate::{Failed, Link, Sink, Source};
+use std::alloc::Global;
+use wopi_text::Memory;
+
+/// How many bytes of an input are read at once.
+const PIECE: usize = 65_536;
+
+/// Where a piece of an input goes.
+pub fn piece_room(alloc: Global) -> Result<Vec<u8>, Memory>
+    ensures { IfOk result (λ piece. vec_len piece ≡ 65536) }
+{
+    let mut piece = Vec::new(alloc);
+    piece.resize(PIECE, 0u8)?;
+    Ok(piece)
+}
+
+/// Reads a piece of an input, and says how many bytes came; 0 only at its end.
+pub fn read_piece<S: Source>(source: &mut S, piece: &mut Vec<u8>) -> Result<usize, Failed>
+    requires { 0 < vec_len piece.old }
+    ensures fits { IfOk result (λ count. count ≤ vec_len piece.new) }
+    ensures bytes { IfOk result (λ count. Consumes (S.left source.old) (S.left source.new) (take count piece.new.items)) }
+    ensures end { IfOk result (λ count. count ≡ 0 → IsAtEnd (S.left source.new)) }
+    ensures room { vec_len piece.new ≡ vec_len piece.old }
+    ensures beside { S.beside_reads source.new ≡ S.beside_reads source.old }
+    ensures never_falls { S.read_faults source.old ≤ S.read_faults source.new }
+    ensures failed { OnErr result (Rose (S.read_faults source.old) (S.read_faults source.new)) }
+{
+    source.read(&mut piece[0..])
+}
 
 /// Appends the whole piece, in as many writes as it takes.
 pub fn write_whole<K: Sink>(sink: &mut K, piece: &[u8]) -> Result<(), Failed>

@@ -1,6 +1,6 @@
 //! A schedule, read from an input piece by piece.
-ghost use Rattle.std.specs.Prelude.{◌≡◌, ◌≤◌, ◌<◌, ◌+◌, ℕ, List, Option, Err, IfErr, IfOk, OnErr, OnOk, take, vec_len};
-ghost use Rattle.std.specs.Io.KnownBytes.{Consumes, IsAtEnd};
+ghost use Rattle.std.specs.Prelude.{◌≡◌, ◌≤◌, ◌<◌, ◌+◌, ℕ, List, Option, Err, IfErr, IfOk, OnOk, vec_len};
+ghost use Rattle.std.specs.Io.KnownBytes.{IsAtEnd};
 ghost use Rattle.outside.specs.Faults.{Rose};
 ghost use Rattle.replay_cmd.specs.Inputs.{HasTaken, IsInputRead, fault_of, input_result};
 ghost use Rattle.replay_cmd.specs.Pieces.{MayTakeLine, room_of};
@@ -8,12 +8,8 @@ ghost use Rattle.replay_cmd.specs.Pieces.{MayTakeLine, room_of};
 use crate::pieces::PieceReader;
 use crate::reading::ScheduleFault;
 use crate::schedule::Schedule;
-use outside::{Failed, Source};
+use outside::{Failed, Source, piece_room, read_piece};
 use std::alloc::Global;
-use wopi_text::Memory;
-
-/// The most bytes of one read.
-const PIECE: usize = 65_536;
 
 /// Why an input gave no schedule.
 #[derive(Clone, Copy, Debug, PartialEq, Eq)]
@@ -34,7 +30,7 @@ pub fn read_schedule<S: Source>(alloc: Global, source: &mut S) -> Result<Schedul
     ensures never_falls { S.read_faults source.old ≤ S.read_faults source.new }
     ensures failed { result ≡ Err InputFault.Read → Rose (S.read_faults source.old) (S.read_faults source.new) }
 {
-    let Ok(mut piece) = room(alloc) else {
+    let Ok(mut piece) = piece_room(alloc) else {
         return Err(InputFault::Memory);
     };
     let mut pieces = PieceReader::new(alloc);
@@ -65,36 +61,13 @@ fn take_piece<S: Source>(
     ensures never_falls { S.read_faults source.old ≤ S.read_faults source.new }
     ensures failed { result ≡ Err InputFault.Read → Rose (S.read_faults source.old) (S.read_faults source.new) }
 {
-    match read_into(source, piece) {
+    match read_piece(source, piece) {
         Ok(count) => match pieces.take_all(&piece[..count]) {
             Ok(()) => return Ok(count),
             Err(fault) => return Err(fault_of(fault)),
         },
         Err(Failed) => return Err(InputFault::Read),
     }
-}
-
-/// Reads once into the vector.
-fn read_into<S: Source>(source: &mut S, piece: &mut Vec<u8>) -> Result<usize, Failed>
-    requires { 0 < vec_len piece.old }
-    ensures fits { IfOk result (λ count. count ≤ vec_len piece.new) }
-    ensures bytes { IfOk result (λ count. Consumes (S.left source.old) (S.left source.new) (take count piece.new.items)) }
-    ensures end { IfOk result (λ count. count ≡ 0 → IsAtEnd (S.left source.new)) }
-    ensures room { vec_len piece.new ≡ vec_len piece.old }
-    ensures beside { S.beside_reads source.new ≡ S.beside_reads source.old }
-    ensures never_falls { S.read_faults source.old ≤ S.read_faults source.new }
-    ensures failed { OnErr result (Rose (S.read_faults source.old) (S.read_faults source.new)) }
-{
-    source.read(&mut piece[0..])
-}
-
-/// Where a piece of the input goes.
-fn room(alloc: Global) -> Result<Vec<u8>, Memory>
-    ensures { IfOk result (λ piece. vec_len piece ≡ 65536) }
-{
-    let mut piece = Vec::new(alloc);
-    piece.resize(PIECE, 0u8)?;
-    Ok(piece)
 }
 
 fn fault_of(fault: ScheduleFault) -> InputFault
