@@ -1,0 +1,50 @@
+-- What the index of spent ids says, and what is shown of a chain of them.
+use Rattle.std.specs.Prelude.{◌≡◌, ◌≢◌, ℕ, ◌<◌, ◌≤◌, Bool, true, false, ◌&&◌, ◌||◌, List, Option, None, Some, max, nat_lt, nat_eq, bytes_eq, if◌then◌else◌}
+use Rattle.std.specs.HashMap.{HashMap, get}
+use Rattle.wopi_model.specs.Act.{is_spent}
+use Rattle.wopi_model.specs.Settle.{still_spent}
+use Rattle.wopi_model.specs.declared.locks.Spent.{Spent}
+use Rattle.expiry_queue.specs.Chains.{Chains, Becomes, spent_of}
+use Rattle.kept_locks.specs.declared.index.SpentOn.{SpentOn}
+use Rattle.kept_locks.specs.declared.trail.Trail.{Trail}
+use Rattle.kept_locks.specs.Keys.{is_same}
+
+-- that moment is before the end
+abbrev pub ends_after : ℕ → Option ℕ → Bool
+ends_after now None = false
+ends_after now (Some until) = nat_lt now until
+
+-- the later one of two ends
+abbrev pub later_of : ℕ → Option ℕ → ℕ
+later_of until None = until
+later_of until (Some known) = max until known
+
+-- the index has the id of the file as refused at that moment
+abbrev pub refused_by : {S : Type 0} → HashMap SpentOn ℕ S → ℕ → List ℕ → ℕ → Bool
+refused_by index file id now = ends_after now (get is_same index (record { file = file; id = id }))
+
+-- the index has one more id as refused until then, and says the same of all others
+abbrev pub Notes : {S : Type 0} → HashMap SpentOn ℕ S → HashMap SpentOn ℕ S → ℕ → List ℕ → ℕ → Type 0
+Notes old new file id until = (on : ℕ) (one : List ℕ) (now : ℕ)
+    → refused_by new on one now ≡ ((nat_eq file on && bytes_eq id one) && nat_lt now until) || refused_by old on one now
+
+-- the ids of a trail: those of its chain, without the ones that were over when the file was stepped
+abbrev pub shown_of : Chains → Trail → List Spent
+shown_of chains trail = if trail.purged then spent_of chains trail.chain else still_spent (spent_of chains trail.chain) trail.as_of
+
+-- at each moment from the last step on, that tells of each id whether the chain refuses it
+abbrev pub Tells : (List ℕ → ℕ → Bool) → Chains → Trail → Type 0
+Tells refused chains trail = (id : List ℕ) (now : ℕ) → trail.as_of ≤ now → refused id now ≡ is_spent (still_spent (spent_of chains trail.chain) now) id
+
+-- the same trail, or another one, after a step
+pub record Goes (old new : Chains) (trail result : Trail) (shown : List Spent) : Type 0 where
+  pub becomes : Becomes old.cells new.cells trail.chain result.chain (spent_of new result.chain)
+  pub shows : shown_of new result ≡ shown
+
+-- what told of the one trail tells of the other
+abbrev pub TellsOn : Chains → Chains → Trail → Trail → Type 0
+TellsOn old new trail result = (refused : List ℕ → ℕ → Bool) → Tells refused old trail → Tells refused new result
+
+-- the index says the same of all other files
+abbrev pub OthersStay : {S : Type 0} → HashMap SpentOn ℕ S → HashMap SpentOn ℕ S → ℕ → Type 0
+OthersStay old new file = (other : ℕ) (id : List ℕ) (now : ℕ) → other ≢ file → refused_by new other id now ≡ refused_by old other id now
