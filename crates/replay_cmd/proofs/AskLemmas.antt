@@ -17,7 +17,7 @@ use Rattle.wopi_headers.specs.Operations.{AsksFor, IsRefusal}
 use Rattle.host_server.specs.Calls.{Tells}
 use Rattle.replay_cmd.specs.Hosts.{Grown, HasGrown}
 use Rattle.replay_cmd.specs.Exchanges.{Exchanges, IsStored}
-use Rattle.replay_cmd.proofs.Faults.{later_stored, of_full}
+use Rattle.replay_cmd.proofs.Faults.{later_stored}
 
 -- the entries of what was made
 pub entries_made : (made : List Made) → entries (items_of made) ≡ map (λ one. one.step) made
@@ -45,10 +45,11 @@ exchanged {F} desk ask body moment old start new a same tells grown legal fine =
       deeds = deeds;
       more = more;
       grown = g;
+      does = does;
       steps = steps;
       ruled = tells.2;
       legal = legal;
-      stored = λ fault. of_full desk a fault ask body moment deeds (subst (AllByRecursion IsStored) steps stored) tells.2;
+      stored = subst (AllByRecursion IsStored) steps stored;
     }
 
 -- a request that asks for just that is answered by that

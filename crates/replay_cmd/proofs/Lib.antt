@@ -5,6 +5,8 @@ pub mod Faults
 pub mod AskLemmas
 pub mod Turning
 pub mod Calling
+pub mod Within
+pub mod Spacious
 pub mod Rulings
 pub mod ReplyLemmas
 pub mod OneReply
@@ -18,6 +20,7 @@ pub mod Validity
 pub mod Lines
 pub mod Joining
 pub mod FirstWorld
+pub mod Opened
 pub mod WorkedRows
 pub mod Generated
 mod CarriedLemmas

@@ -15,6 +15,7 @@ pub mod Answers
 pub mod Histories
 pub mod Members
 pub mod Exchanges
+pub mod Limits
 pub mod Sessions
 pub mod Wires
 pub mod Grammar

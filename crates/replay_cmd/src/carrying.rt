@@ -218,7 +218,7 @@ fn has_phrase(status: u16) -> bool
     ensures { result ≡ true → 0 < length (phrase_of status) }
 {
     match status {
-        200 | 400 | 401 | 404 | 409 | 412 | 413 | 501 | 503 => true,
+        200 | 400 | 401 | 404 | 409 | 412 | 413 | 500 | 501 | 503 => true,
         _ => false,
     }
 }

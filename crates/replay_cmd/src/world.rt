@@ -13,18 +13,26 @@ use wopi_text::{Bytes, Memory};
 use wopi_world::laws::safe_always;
 
 /// The world after the last event of a schedule, and what its events showed, a line each.
-#[derive(Drop)]
 pub struct World {
     pub stage: Stage,
     pub trace: Bytes,
 }
 
+impl Drop for World {
+    fn drop(self) {
+        let World {
+            stage: _stage,
+            trace: _trace,
+        } = self;
+    }
+}
+
 impl World {
     /// Runs a schedule: its sessions, its host, and the wire between them. The request of each
     /// delivery and of each ask of somebody else goes over the wire once, and so does the reply that
-    /// a session takes. Want of memory stands also for a full shard and for a message that wouldn't
-    /// be read back as it was written: by a schedule's limits none should come, and no clause excludes
-    /// them.
+    /// a session takes. Over a straight wire the shard is never full. Want of memory stands also for a
+    /// file at the opening that passes a limit of the host's and for a message that wouldn't be read back
+    /// as it was written: by a schedule's limits none should come, and no clause excludes them.
     pub fn run<W: Wire>(alloc: Global, schedule: &Schedule, wire: &mut W) -> Result<World, Memory>
         ensures runs { W.is_straight wire.old ≡ true → IfOk result (IsRunOf schedule.now) }
         ensures safe { IfOk result (λ _. IsSafe (setting_of schedule.now) (world_of schedule.now)) }
