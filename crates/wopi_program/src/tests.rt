@@ -5,10 +5,13 @@ mod edits;
 mod endless;
 mod faults;
 mod gates;
+mod heads;
+mod hostile;
 mod limits;
 mod replays;
 mod replies;
 mod serve;
+mod smuggling;
 mod tokens;
 mod words;
 

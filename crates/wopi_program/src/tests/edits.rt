@@ -9,16 +9,18 @@ use wopi_text::Bytes;
 
 const WORDS: [&str; 5] = ["edit", "localhost:8880", "612e637376", TOKEN, "n"];
 
-const INFO: &[u8] =
+pub const INFO: &[u8] =
     b"HTTP/1.1 200 OK\r\nContent-Length: 79\r\nContent-Type: application/json\r\n\r\n\
 {\"BaseFileName\":\"a.csv\",\"OwnerId\":\"owner\",\"Size\":4,\"UserId\":\"u\",\"Version\":\"v1\"}";
 
-const CONTENTS: &[u8] =
+pub const CONTENTS: &[u8] =
     b"HTTP/1.1 200 OK\r\nContent-Length: 4\r\nX-WOPI-ItemVersion: v1\r\n\r\n1,2\n";
 
-const VERSION_1: &[u8] = b"HTTP/1.1 200 OK\r\nContent-Length: 0\r\nX-WOPI-ItemVersion: v1\r\n\r\n";
+pub const VERSION_1: &[u8] =
+    b"HTTP/1.1 200 OK\r\nContent-Length: 0\r\nX-WOPI-ItemVersion: v1\r\n\r\n";
 
-const VERSION_2: &[u8] = b"HTTP/1.1 200 OK\r\nContent-Length: 0\r\nX-WOPI-ItemVersion: v2\r\n\r\n";
+pub const VERSION_2: &[u8] =
+    b"HTTP/1.1 200 OK\r\nContent-Length: 0\r\nX-WOPI-ItemVersion: v2\r\n\r\n";
 
 const VERSION_3: &[u8] = b"HTTP/1.1 200 OK\r\nContent-Length: 0\r\nX-WOPI-ItemVersion: v3\r\n\r\n";
 
@@ -108,7 +110,7 @@ const ROWS: [Row; 9] = [
 ];
 
 /// Runs `edit` on a script, over a host that answers so.
-fn edit<R: Threads + Wait + Sync>(
+pub fn edit<R: Threads + Wait + Sync>(
     rt: &R,
     alloc: Global,
     script: &[u8],

@@ -3,14 +3,14 @@ use super::{joined, run_with, whole};
 use std::test::Fail;
 
 /// A session opens its file.
-const OPENING: &str =
+pub const OPENING: &str =
     "file 612e637376 312c320a\nsession 612e637376 n 9000000\nopen 1\ndeliver 1 0\nanswer 1\ndeliver 2 0\nanswer 2\ndeliver 3 0\nanswer 3\n";
 
 const OPENED: &str =
     "send 1 info\nreply 1 200 v1 4\nsend 2 lock n-1\nreply 2 200 v1\nsend 3 get\nreply 3 200 v1 312c320a\ntell 1 opened v1\n";
 
 /// It saves and gets no answer, saves again, and the first save comes late.
-const LATE: &str =
+pub const LATE: &str =
     "save 1 41\nlose 1\nlose 1\nlose 1\nsave 1 42\ndeliver 7 10\nanswer 4\ndeliver 8 11\nanswer 5\ndeliver 4 12\n";
 
 const REFUSED: &str =
