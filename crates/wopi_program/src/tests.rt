@@ -1,6 +1,8 @@
 //! The program over fakes in memory: each request and its reply to the byte.
+mod answers;
 mod chunks;
 mod demos;
+mod edit_faults;
 mod edits;
 mod endless;
 mod faults;
@@ -11,7 +13,9 @@ mod limits;
 mod replays;
 mod replies;
 mod serve;
+mod serve_faults;
 mod smuggling;
+mod spoiling;
 mod tokens;
 mod words;
 

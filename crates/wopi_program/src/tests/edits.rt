@@ -1,11 +1,11 @@
 //! The command `edit` over a host that answers by a script.
-use super::{Left, TOKEN, fakes, run_in, run_with, whole};
+use super::{Given, Left, TOKEN, fakes, run_in, run_with, whole};
 use outside::ScriptDialer;
 use std::alloc::Global;
 use std::sync::Wait;
 use std::test::Fail;
 use std::thread::Threads;
-use wopi_text::Bytes;
+use wopi_text::{Bytes, Memory};
 
 const WORDS: [&str; 5] = ["edit", "localhost:8880", "612e637376", TOKEN, "n"];
 
@@ -22,7 +22,8 @@ pub const VERSION_1: &[u8] =
 pub const VERSION_2: &[u8] =
     b"HTTP/1.1 200 OK\r\nContent-Length: 0\r\nX-WOPI-ItemVersion: v2\r\n\r\n";
 
-const VERSION_3: &[u8] = b"HTTP/1.1 200 OK\r\nContent-Length: 0\r\nX-WOPI-ItemVersion: v3\r\n\r\n";
+pub const VERSION_3: &[u8] =
+    b"HTTP/1.1 200 OK\r\nContent-Length: 0\r\nX-WOPI-ItemVersion: v3\r\n\r\n";
 
 const LOCKED: &[u8] =
     b"HTTP/1.1 409 Conflict\r\nContent-Length: 0\r\nX-WOPI-Lock: other\r\nX-WOPI-LockFailureReason: locked\r\n\r\n";
@@ -109,20 +110,30 @@ const ROWS: [Row; 9] = [
     },
 ];
 
+/// Runs `edit` on this, over this host.
+pub fn edit_on<R: Threads + Wait + Sync>(
+    rt: &R,
+    alloc: Global,
+    given: &Given,
+    host: ScriptDialer,
+) -> Result<Left, Memory> {
+    let mut outside = fakes(alloc, given)?;
+    outside.dialer = host;
+    run_in(rt, alloc, &WORDS, outside)
+}
+
 /// Runs `edit` on a script, over a host that answers so.
 pub fn edit<R: Threads + Wait + Sync>(
     rt: &R,
     alloc: Global,
     script: &[u8],
     replies: &[&[u8]],
-) -> Result<Left, Fail> {
-    let mut outside = fakes(alloc, &whole(script))?;
+) -> Result<Left, Memory> {
     let mut list = Vec::new(alloc);
     for reply in replies {
         list.push(Some(Bytes::from_slice(alloc, reply)?))?;
     }
-    outside.dialer = ScriptDialer::new(alloc, list);
-    Ok(run_in(rt, alloc, &WORDS, outside)?)
+    edit_on(rt, alloc, &whole(script), ScriptDialer::new(alloc, list))
 }
 
 #[test]

@@ -1,4 +1,5 @@
 //! Streams and folders that fail.
+use super::replays::{LATE, OPENED, OPENING, REFUSED};
 use super::{ONCE, fakes, joined, requests, run_in, run_with, whole};
 use outside::MemSink;
 use std::test::Fail;
@@ -34,6 +35,7 @@ fn a_fault_is_told_and_ends_the_run(rt: HostRuntime) -> Result<(), Fail> {
         (3, 0, 0, 3, "read fault\n"),
         (0, 1, 0, 4, "write fault\n"),
         (0, 0, 2, 5, "folder fault\n"),
+        (0, 0, 3, 5, "folder fault\n"),
     ] {
         given.failing_read = read;
         given.failing_write = write;
@@ -137,5 +139,45 @@ fn a_deletion_that_the_folder_fails_leaves_the_file(rt: HostRuntime) -> Result<(
     assert_eq!(rt; left.status, 0);
     assert_eq!(rt; left.output.as_slice(), wanted.as_bytes());
     assert_eq!(rt; left.kept("a.csv"), b"1,2\n".as_slice());
+    Ok(())
+}
+
+#[test]
+fn a_read_of_a_schedule_that_fails_leaves_no_trace(rt: HostRuntime) -> Result<(), Fail> {
+    let alloc = rt.alloc();
+    let input = joined(alloc, &[OPENING, LATE])?;
+    let wanted = joined(alloc, &[OPENED, REFUSED, "end 612e637376 v2 n-2 42\n"])?;
+    let mut given = whole(&input);
+    given.piece = 64;
+    let reads = input.len().div_ceil(64).saturating_add(1) as u64;
+    for place in 1..8 {
+        given.failing_read = place;
+        let left = run_with(&rt, alloc, &["replay"], &given)?;
+        if place <= reads {
+            assert_eq!(rt; left.status, 3, "read {place}");
+            assert!(rt; left.output.as_slice().is_empty(), "read {place}");
+        } else {
+            assert_eq!(rt; left.status, 0, "read {place}");
+            assert_eq!(rt; left.output.as_slice(), wanted.as_slice(), "read {place}");
+        }
+    }
+    Ok(())
+}
+
+#[test]
+fn a_write_of_a_trace_that_fails_leaves_a_front_of_it(rt: HostRuntime) -> Result<(), Fail> {
+    let alloc = rt.alloc();
+    let input = joined(alloc, &[OPENING, LATE])?;
+    let wanted = joined(alloc, &[OPENED, REFUSED, "end 612e637376 v2 n-2 42\n"])?;
+    let mut given = whole(&input);
+    for place in 1..4 {
+        given.failing_write = place;
+        let left = run_with(&rt, alloc, &["replay"], &given)?;
+        let is_whole = left.output.as_slice() == wanted.as_slice();
+        let status = if is_whole { 0 } else { 4 };
+        assert_eq!(rt; left.status, status, "write {place}");
+        assert!(rt; wanted.starts_with(left.output.as_slice()), "write {place}");
+        assert!(rt; place > 1 || !is_whole);
+    }
     Ok(())
 }

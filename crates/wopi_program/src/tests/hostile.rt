@@ -1,146 +1,16 @@
 //! Inputs with bytes changed, dropped, doubled and spliced, from fixed seeds: each run ends by a status of its command,
 //! and each reply is one that a client reads.
+use super::answers::sized;
 use super::edits::{CONTENTS, INFO, VERSION_1, VERSION_2, edit};
 use super::replays::{LATE, OPENING};
-use super::{ONCE, TOKEN, joined, requests, run_with, whole};
+use super::spoiling::{Draws, replaced, spoiled};
+use super::{ONCE, TOKEN, joined, once, request_by, requests, run_with, whole};
 use std::alloc::Global;
 use std::sync::Wait;
 use std::test::Fail;
 use std::thread::Threads;
 use wopi_http::{Reply, ReplyFault, count_named, read_placed_reply};
 use wopi_text::Memory;
-
-/// Numbers from a seed.
-#[derive(Drop)]
-struct Draws {
-    state: u64,
-}
-
-impl Draws {
-    /// A number below this one, or 0.
-    fn below(&mut self, limit: usize) -> usize {
-        self.state = self
-            .state
-            .wrapping_mul(6_364_136_223_846_793_005)
-            .wrapping_add(1_442_695_040_888_963_407);
-        ((self.state >> 33) as usize)
-            .checked_rem(limit)
-            .unwrap_or(0)
-    }
-
-    fn byte(&mut self) -> u8 {
-        (self.below(256) % 256) as u8
-    }
-
-    fn one_of<'a>(&mut self, list: &[&'a [u8]]) -> &'a [u8] {
-        match list.get(self.below(list.len())) {
-            Some(bytes) => bytes,
-            None => b"",
-        }
-    }
-}
-
-/// What is spliced in.
-const PIECES: [&[u8]; 56] = [
-    b"\r\n",
-    b"\n",
-    b"\r",
-    b"\r\n\r\n",
-    b"\r\n ",
-    b"\0",
-    b"\x0b",
-    b"\x7f",
-    b"\xff",
-    b" ",
-    b"\t",
-    b":",
-    b";",
-    b",",
-    b"-",
-    b".",
-    b"%",
-    b"%0",
-    b"%00",
-    b"%zz",
-    b"%C3%28",
-    b"+",
-    b"+-",
-    b"+AAA-",
-    b"+AOk-",
-    b"+2AA-",
-    b"+AOl-",
-    b"&",
-    b"?",
-    b"#",
-    b"access_token=",
-    b"&access_token=x",
-    b"/contents",
-    b"http://h:80",
-    b"HTTP/1.0\r\n",
-    b"GET / HTTP/1.1\r\nHost: h\r\n\r\n",
-    b"Host: h\r\n",
-    b"Content-Length: 4\r\n",
-    b"Content-Length: -1\r\n",
-    b"Content-Length: 99999999999999999999999\r\n",
-    b"Transfer-Encoding: chunked\r\n",
-    b"Transfer-Encoding : chunked\r\n",
-    b"Connection: close\r\n",
-    b"Expect: 100-continue\r\n",
-    b"X-WOPI-Lock: L1\r\n",
-    b"X-WOPI-OldLock: L1\r\n",
-    b"X-WOPI-MaxExpectedSize: 3\r\n",
-    b"0\r\n\r\n",
-    b"4\r\n1,2\n\r\n",
-    b"1000001\r\n",
-    b"fffffffffffffffff\r\n",
-    b"18446744073709551616",
-    b"253402300800000",
-    b"^0",
-    b"set 1 1 ",
-    b"open",
-];
-
-/// The bytes with another text in place of so many of them.
-fn replaced(
-    alloc: Global,
-    bytes: &[u8],
-    from: usize,
-    count: usize,
-    text: &[u8],
-) -> Result<Vec<u8>, Memory> {
-    let from = from.min(bytes.len());
-    let to = from.saturating_add(count).min(bytes.len());
-    let mut all = bytes[..from].to_vec(alloc)?;
-    all.extend_from_slice(text)?;
-    all.extend_from_slice(&bytes[to..])?;
-    Ok(all)
-}
-
-/// The bytes with one of them changed, a few dropped or doubled, a few others in their place, or others between them.
-fn spoiled_once(alloc: Global, draws: &mut Draws, bytes: &[u8]) -> Result<Vec<u8>, Memory> {
-    let from = draws.below(bytes.len());
-    let count = draws.below(9);
-    let piece = draws.one_of(&PIECES);
-    match draws.below(5) {
-        0 => replaced(alloc, bytes, from, 1, &[draws.byte()]),
-        1 => replaced(alloc, bytes, from, count, b""),
-        2 => {
-            let to = from.saturating_add(count).min(bytes.len());
-            replaced(alloc, bytes, to, 0, &bytes[from.min(to)..to])
-        }
-        3 => replaced(alloc, bytes, from, count, piece),
-        _ => replaced(alloc, bytes, from, 0, piece),
-    }
-}
-
-/// The bytes with up to four things wrong.
-fn spoiled(alloc: Global, draws: &mut Draws, bytes: &[u8]) -> Result<Vec<u8>, Memory> {
-    let mut now = bytes.to_vec(alloc)?;
-    for _ in 0..=draws.below(4) {
-        now = spoiled_once(alloc, draws, &now)?;
-    }
-    Ok(now)
-}
 
 /// What a host answers where nothing fails and memory is ample.
 const ANSWERED: [u16; 8] = [200, 400, 401, 404, 409, 412, 413, 501];
@@ -326,6 +196,56 @@ fn replies_spoiled_anywhere_end_by_a_status_of_edit(rt: HostRuntime) -> Result<(
             assert!(rt; [0, 8, 9, 11].contains(&left.status), "round {round}");
             assert!(rt; left.notes.as_slice().is_empty(), "round {round}");
         }
+    }
+    Ok(())
+}
+
+/// What a host tells of a file and of a copy.
+const TELLS_INFO: &[u8] =
+    b"{\"BaseFileName\":\"a.csv\",\"OwnerId\":\"owner\",\"Size\":4,\"UserCanWrite\":true,\"UserId\":\"u\",\"Version\":\"v1\"}";
+
+const TELLS_COPY: &[u8] =
+    b"{\"Name\":\"b.csv\",\"Url\":\"http://h/wopi/files/622e637376?access_token=t\"}";
+
+#[test]
+fn bodies_spoiled_anywhere_end_by_a_status_of_edit(rt: HostRuntime) -> Result<(), Fail> {
+    let alloc = rt.alloc();
+    let mut draws = Draws { state: 7 };
+    for round in 0..150 {
+        let info = sized(alloc, &spoiled(alloc, &mut draws, TELLS_INFO)?)?;
+        let copy = sized(alloc, &spoiled(alloc, &mut draws, TELLS_COPY)?)?;
+        for replies in [
+            [info.as_slice(), VERSION_1, CONTENTS, VERSION_2],
+            [INFO, VERSION_1, CONTENTS, copy.as_slice()],
+        ] {
+            let left = edit(&rt, alloc, b"open\nsaveas b.csv\n", &replies)?;
+            assert!(rt; left.status == 0 || left.status == 11, "round {round}");
+            assert!(rt; left.notes.as_slice().is_empty(), "round {round}");
+        }
+    }
+    Ok(())
+}
+
+/// What comes in the place of a byte of a token.
+const LETTERS: [&[u8]; 13] = [
+    b"", b"0", b"00", b"1", b"a", b"f", b"A", b"r", b"w", b".", b"-", b"_", b"~",
+];
+
+const LOCKED: &str = "HTTP/1.1 200 OK\r\nContent-Length: 0\r\nX-WOPI-ItemVersion: v1\r\n\r\n";
+
+const DEAD: &str = "HTTP/1.1 401 Unauthorized\r\nContent-Length: 0\r\n\r\n";
+
+#[test]
+fn a_token_changed_anywhere_is_dead(rt: HostRuntime) -> Result<(), Fail> {
+    let alloc = rt.alloc();
+    let mut draws = Draws { state: 8 };
+    for place in 0..TOKEN.len() {
+        let letter = draws.one_of(&LETTERS);
+        let token = replaced(alloc, TOKEN.as_bytes(), place, 1, letter)?;
+        let text = str::from_utf8(&token)?;
+        let wanted = if text == TOKEN { LOCKED } else { DEAD };
+        let left = once(&rt, alloc, &request_by(alloc, text, &LOCK)?)?;
+        assert_eq!(rt; left.output.as_slice(), wanted.as_bytes(), "place {place}");
     }
     Ok(())
 }

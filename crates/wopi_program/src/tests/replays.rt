@@ -6,14 +6,14 @@ use std::test::Fail;
 pub const OPENING: &str =
     "file 612e637376 312c320a\nsession 612e637376 n 9000000\nopen 1\ndeliver 1 0\nanswer 1\ndeliver 2 0\nanswer 2\ndeliver 3 0\nanswer 3\n";
 
-const OPENED: &str =
+pub const OPENED: &str =
     "send 1 info\nreply 1 200 v1 4\nsend 2 lock n-1\nreply 2 200 v1\nsend 3 get\nreply 3 200 v1 312c320a\ntell 1 opened v1\n";
 
 /// It saves and gets no answer, saves again, and the first save comes late.
 pub const LATE: &str =
     "save 1 41\nlose 1\nlose 1\nlose 1\nsave 1 42\ndeliver 7 10\nanswer 4\ndeliver 8 11\nanswer 5\ndeliver 4 12\n";
 
-const REFUSED: &str =
+pub const REFUSED: &str =
     "send 4 put n-1 41\nsend 5 put n-1 41\nsend 6 put n-1 41\ntell 1 no answer\nsend 7 relock n-1 n-2\nreply 4 200 v1\nsend 8 put n-2 42\nreply 5 200 v2\ntell 1 saved v2\nreply 6 409 n-2 lock id spent\n";
 
 /// Words, the parts of an input, and what comes of it: the status, and the parts of the output.

@@ -25,7 +25,7 @@ const FIRST: &str = crate::tests::TOKEN;
 const SECOND: &str =
     "v1.ann.622e637376.w.1.253402300000000.253402300799999.ecb6745633f01ab207ff2932290a35139878df681ed788df6dcd09cabf9387fb";
 
-const ONE_WORKER: [&str; 6] = [
+pub const ONE_WORKER: [&str; 6] = [
     "serve",
     ".",
     "8880",
@@ -43,10 +43,10 @@ const TWO_WORKERS: [&str; 6] = [
     "2",
 ];
 
-type MemLink = Pair<MemSource, MemSink>;
+pub type MemLink = Pair<MemSource, MemSink>;
 
 /// What `serve` meets in these tests.
-type Served<F, L> = Outside<MemSource, MemSink, F, MemListener<L>, ScriptDialer, ScriptClock>;
+pub type Served<F, L> = Outside<MemSource, MemSink, F, MemListener<L>, ScriptDialer, ScriptClock>;
 
 /// Whether there are 16 folders, and a listener and a clock for each worker.
 fn fits<F, L>(outside: &Served<F, L>, workers: u32) -> bool
@@ -81,7 +81,7 @@ fn serve_over<R: Threads + Wait + Sync, F: Folder + Send, L: Link + Send + Drop>
 }
 
 /// The same of words that are given as texts.
-fn serve<R: Threads + Wait + Sync, F: Folder + Send, L: Link + Send + Drop>(
+pub fn serve<R: Threads + Wait + Sync, F: Folder + Send, L: Link + Send + Drop>(
     rt: &R,
     alloc: Global,
     list: &[&str],
@@ -108,7 +108,7 @@ fn request(
 }
 
 /// Requests on `a.csv` one after another, each a method, a path behind the id, header lines and a body.
-fn requests(alloc: Global, list: &[[&str; 4]]) -> Result<Bytes, Memory> {
+pub fn requests(alloc: Global, list: &[[&str; 4]]) -> Result<Bytes, Memory> {
     let mut bytes = Vec::new(alloc);
     for [method, path, headers, body] in list {
         let text = format!(in alloc;
@@ -128,7 +128,7 @@ fn folder(alloc: Global, contents: &[u8]) -> MemFolder {
 }
 
 /// 16 folders with `a.csv`.
-fn folders(alloc: Global) -> Result<Vec<MemFolder>, Memory> {
+pub fn folders(alloc: Global) -> Result<Vec<MemFolder>, Memory> {
     let mut folders = Vec::new(alloc);
     for _ in 0..16 {
         folders.push(folder(alloc, b"1,2\n"))?;
@@ -157,7 +157,7 @@ fn one_worker(
     meet(alloc, folders(alloc)?, listeners, clocks)
 }
 
-fn meet<F: Drop, L: Drop>(
+pub fn meet<F: Drop, L: Drop>(
     alloc: Global,
     folders: Vec<F>,
     listeners: Vec<MemListener<L>>,
@@ -176,11 +176,11 @@ fn meet<F: Drop, L: Drop>(
 
 const LOCK: &str = "X-WOPI-Override: LOCK\r\nX-WOPI-Lock: L1\r\n";
 
-const LOCKED: &[u8] = b"HTTP/1.1 200 OK\r\nContent-Length: 0\r\nX-WOPI-ItemVersion: v1\r\n\r\n";
+pub const LOCKED: &[u8] = b"HTTP/1.1 200 OK\r\nContent-Length: 0\r\nX-WOPI-ItemVersion: v1\r\n\r\n";
 
-const ONE_LOCK: [[&str; 4]; 1] = [["POST", "", LOCK, ""]];
+pub const ONE_LOCK: [[&str; 4]; 1] = [["POST", "", LOCK, ""]];
 
-const ONE_LINE: [&str; 4] = [
+pub const ONE_LINE: [&str; 4] = [
     "wopi journal 1 opened 0",
     "file 612e637376 312c320a",
     "1 11 0 5 612e637376 lock 4c31 ann.612e637376.w.2.0.9000000 200 - - v1 -",
@@ -312,7 +312,7 @@ const ROWS: [Row; 3] = [
 ];
 
 /// The lines, each with its line feed.
-fn lines(alloc: Global, list: &[&str]) -> Result<Vec<u8>, Memory> {
+pub fn lines(alloc: Global, list: &[&str]) -> Result<Vec<u8>, Memory> {
     let mut bytes = Vec::new(alloc);
     for line in list {
         bytes.extend_from_slice(line.as_bytes())?;

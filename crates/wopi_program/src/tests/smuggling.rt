@@ -16,17 +16,28 @@ const MISSING: &str = "HTTP/1.1 404 Not Found\r\nContent-Length: 0\r\n\r\n";
 
 /// What `once` leaves of a POST with these lines in its head and these bytes behind it, and then a deletion of the
 /// folder's file.
-fn smuggled<R: Threads + Wait + Sync>(
+fn smuggled<'a, R: Threads + Wait + Sync>(
     rt: &R,
     alloc: Global,
-    lines: &str,
-    behind: &str,
+    lines: &'a str,
+    behind: &'a str,
 ) -> Result<Left, Memory> {
     let parts = [
         "POST / HTTP/1.1\r\nHost: h\r\n",
         lines,
         "\r\n",
         behind,
+        "POST /wopi/files/612e637376?access_token=",
+        TOKEN,
+        " HTTP/1.1\r\nHost: h\r\nX-WOPI-Override: DELETE\r\n\r\n",
+    ];
+    once(rt, alloc, &joined(alloc, &parts)?)
+}
+
+/// What `once` leaves of this head, and then a deletion of the folder's file.
+fn led_by<R: Threads + Wait + Sync>(rt: &R, alloc: Global, head: &str) -> Result<Left, Memory> {
+    let parts = [
+        head,
         "POST /wopi/files/612e637376?access_token=",
         TOKEN,
         " HTTP/1.1\r\nHost: h\r\nX-WOPI-Override: DELETE\r\n\r\n",
@@ -123,6 +134,7 @@ fn another_spelling_of_chunked_closes(rt: HostRuntime) -> Result<(), Fail> {
 fn a_space_before_the_colon_closes(rt: HostRuntime) -> Result<(), Fail> {
     for lines in [
         "Transfer-Encoding : chunked\r\n",
+        "Transfer-Encoding\r\n: chunked\r\n",
         "Transfer-Encoding\t: chunked\r\n",
         "Transfer-Encoding \r\n : chunked\r\n",
         "Content-Length : 5\r\n",
@@ -221,6 +233,47 @@ fn a_bare_line_feed_in_a_head_ends_its_line(rt: HostRuntime) -> Result<(), Fail>
         let left = smuggled(&rt, rt.alloc(), lines, behind)?;
         assert_eq!(rt; left.output.as_slice(), gone.as_slice(), "{lines:?}");
         assert!(rt; left.kept("a.csv").is_empty(), "{lines:?}");
+    }
+    Ok(())
+}
+
+#[test]
+fn a_line_without_a_colon_closes(rt: HostRuntime) -> Result<(), Fail> {
+    for lines in [
+        "Content-Length\r\n",
+        "Content-Length 5\r\n",
+        "Transfer-Encoding chunked\r\n",
+        "Transfer-Encoding=chunked\r\n",
+        "Content-Length\r\n: 5\r\n",
+    ] {
+        let left = smuggled(&rt, rt.alloc(), lines, "12345")?;
+        assert!(rt; is_left(&left, BAD), "{lines}");
+    }
+    Ok(())
+}
+
+#[test]
+fn request_lines_out_of_form_close(rt: HostRuntime) -> Result<(), Fail> {
+    for head in [
+        "POST /\r\n\r\n",
+        "POST / HTTP/0.9\r\nHost: h\r\n\r\n",
+        "POST / HTTP/1.2\r\nHost: h\r\n\r\n",
+        "POST / HTTP/2.0\r\nHost: h\r\n\r\n",
+        "PRI * HTTP/2.0\r\n\r\nSM\r\n\r\n",
+        "POST / http/1.1\r\nHost: h\r\n\r\n",
+        "POST / HTTP/1.1 x\r\nHost: h\r\n\r\n",
+        "POST / HTTP/1.1\rHost: h\r\n\r\n",
+        "POST  / HTTP/1.1\r\nHost: h\r\n\r\n",
+        "POST\t/ HTTP/1.1\r\nHost: h\r\n\r\n",
+        "POST / a HTTP/1.1\r\nHost: h\r\n\r\n",
+        " POST / HTTP/1.1\r\nHost: h\r\n\r\n",
+        "PO\0ST / HTTP/1.1\r\nHost: h\r\n\r\n",
+        "POST /\0 HTTP/1.1\r\nHost: h\r\n\r\n",
+        "POST / HTTP/1.1\r\n Host: h\r\n\r\n",
+        "POST / HTTP/1.1\r\n\r\nHost: h\r\n\r\n",
+    ] {
+        let left = led_by(&rt, rt.alloc(), head)?;
+        assert!(rt; is_left(&left, BAD), "{head:?}");
     }
     Ok(())
 }

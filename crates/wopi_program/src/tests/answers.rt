@@ -1,0 +1,319 @@
+//! Replies to `edit` that refuse, that say what they shouldn't, and whose bodies are out of form.
+use super::edits::{CONTENTS, INFO, VERSION_1, VERSION_2, VERSION_3, edit};
+use std::alloc::Global;
+use std::test::Fail;
+use wopi_text::Memory;
+
+const DEAD: &[u8] = b"HTTP/1.1 401 Unauthorized\r\nContent-Length: 0\r\n\r\n";
+
+const GONE: &[u8] = b"HTTP/1.1 404 Not Found\r\nContent-Length: 0\r\n\r\n";
+
+const LARGE: &[u8] = b"HTTP/1.1 413 Content Too Large\r\nContent-Length: 0\r\n\r\n";
+
+const FAULT: &[u8] = b"HTTP/1.1 500 Internal Server Error\r\n\r\nstore fault";
+
+const BUSY: &[u8] = b"HTTP/1.1 503 \r\nContent-Length: 0\r\n\r\n";
+
+const NOTHING: &[u8] = b"HTTP/1.1 204 No Content\r\nContent-Length: 9\r\n\r\n";
+
+const TAKEN: &[u8] =
+    b"HTTP/1.1 409 Conflict\r\nContent-Length: 0\r\nX-WOPI-Lock: other\r\nX-WOPI-LockFailureReason: locked\r\n\r\n";
+
+const BARE: &[u8] = b"HTTP/1.1 409 Conflict\r\nContent-Length: 0\r\n\r\n";
+
+const ODD: &[u8] =
+    b"HTTP/1.1 409 Conflict\r\nContent-Length: 0\r\nX-WOPI-Lock: \xe9\r\nX-WOPI-LockFailureReason: because\r\n\r\n";
+
+const RELOCKED: &[u8] =
+    b"HTTP/1.1 409 Conflict\r\nContent-Length: 0\r\nX-WOPI-Lock: n-2\r\nX-WOPI-LockFailureReason: lock id spent\r\n\r\n";
+
+const SPENT: &[u8] =
+    b"HTTP/1.1 409 Conflict\r\nContent-Length: 0\r\nX-WOPI-Lock: \r\nX-WOPI-LockFailureReason: lock id spent\r\n\r\n";
+
+const SCRIPT: &[u8] = b"open\nset 1 2 9\nsave\nset 1 1 7\nsave\nclose\n";
+
+/// The host's answers to a script of two saves, and what it comes to: the status, the output and how many requests there
+/// were.
+struct Row {
+    replies: &'static [&'static [u8]],
+    status: u8,
+    output: &'static [u8],
+    requests: usize,
+}
+
+const ROWS: [Row; 18] = [
+    Row {
+        replies: &[DEAD],
+        status: 8,
+        output: b"token dead\n",
+        requests: 1,
+    },
+    Row {
+        replies: &[TAKEN],
+        status: 8,
+        output: b"host fault 409\n",
+        requests: 1,
+    },
+    Row {
+        replies: &[INFO, GONE],
+        status: 8,
+        output: b"gone\n",
+        requests: 2,
+    },
+    Row {
+        replies: &[INFO, BARE],
+        status: 8,
+        output: b"conflict - -\n",
+        requests: 2,
+    },
+    Row {
+        replies: &[INFO, ODD],
+        status: 8,
+        output: b"conflict - -\n",
+        requests: 2,
+    },
+    Row {
+        replies: &[INFO, VERSION_1, FAULT],
+        status: 8,
+        output: b"host fault 500\n",
+        requests: 3,
+    },
+    Row {
+        replies: &[INFO, VERSION_1, LARGE],
+        status: 8,
+        output: b"host fault 413\n",
+        requests: 3,
+    },
+    Row {
+        replies: &[INFO, VERSION_1, CONTENTS, LARGE],
+        status: 8,
+        output: b"opened v1 1\ntoo large\n",
+        requests: 4,
+    },
+    Row {
+        replies: &[INFO, VERSION_1, CONTENTS, BUSY],
+        status: 8,
+        output: b"opened v1 1\nhost fault 503\n",
+        requests: 4,
+    },
+    Row {
+        replies: &[INFO, VERSION_1, CONTENTS, NOTHING],
+        status: 8,
+        output: b"opened v1 1\nhost fault 204\n",
+        requests: 4,
+    },
+    Row {
+        replies: &[INFO, VERSION_1, CONTENTS, TAKEN],
+        status: 8,
+        output: b"opened v1 1\nlock lost other locked\n",
+        requests: 4,
+    },
+    Row {
+        replies: &[INFO, VERSION_1, CONTENTS, SPENT],
+        status: 8,
+        output: b"opened v1 1\nlock lost - lock id spent\n",
+        requests: 4,
+    },
+    Row {
+        replies: &[INFO, VERSION_1, CONTENTS, VERSION_2, TAKEN],
+        status: 8,
+        output: b"opened v1 1\nsaved v2\nlock lost other locked\n",
+        requests: 5,
+    },
+    Row {
+        replies: &[
+            INFO, VERSION_1, CONTENTS, VERSION_2, RELOCKED, VERSION_3, VERSION_3,
+        ],
+        status: 0,
+        output: b"opened v1 1\nsaved v2\nsaved v3\nclosed\n",
+        requests: 7,
+    },
+    Row {
+        replies: &[INFO, VERSION_1, CONTENTS, VERSION_2, VERSION_2, RELOCKED],
+        status: 8,
+        output: b"opened v1 1\nsaved v2\nlock lost n-2 lock id spent\n",
+        requests: 6,
+    },
+    Row {
+        replies: &[
+            INFO, VERSION_1, CONTENTS, VERSION_2, VERSION_2, VERSION_3, SPENT,
+        ],
+        status: 0,
+        output: b"opened v1 1\nsaved v2\nsaved v3\nclosed\n",
+        requests: 7,
+    },
+    Row {
+        replies: &[
+            INFO, VERSION_1, CONTENTS, VERSION_2, VERSION_2, VERSION_3, TAKEN,
+        ],
+        status: 8,
+        output: b"opened v1 1\nsaved v2\nsaved v3\nlock lost other locked\n",
+        requests: 7,
+    },
+    Row {
+        replies: &[INFO, VERSION_1, CONTENTS, VERSION_2, VERSION_2, GONE],
+        status: 8,
+        output: b"opened v1 1\nsaved v2\ngone\n",
+        requests: 6,
+    },
+];
+
+#[test]
+fn each_refusal_of_a_host_has_its_outcome(rt: HostRuntime) -> Result<(), Fail> {
+    let alloc = rt.alloc();
+    for (place, row) in ROWS.iter().enumerate() {
+        let left = edit(&rt, alloc, SCRIPT, row.replies)?;
+        assert_eq!(rt; left.status, row.status, "row {place}");
+        assert_eq!(rt; left.output.as_slice(), row.output, "row {place}");
+        assert_eq!(rt; left.dialer.exchanges().len(), row.requests, "row {place}");
+    }
+    Ok(())
+}
+
+/// A reply of 200 with this body.
+pub fn sized(alloc: Global, body: &[u8]) -> Result<Vec<u8>, Memory> {
+    let head = format!(in alloc; "HTTP/1.1 200 OK\r\nContent-Length: {}\r\n\r\n", body.len())?;
+    let mut bytes = head.into_bytes();
+    bytes.extend_from_slice(body)?;
+    Ok(bytes)
+}
+
+/// Bodies that tell nothing of a file.
+const UNTOLD: [&[u8]; 31] = [
+    b"",
+    b" ",
+    b"null",
+    b"4",
+    b"[]",
+    b"{}",
+    b"{",
+    b"\xef\xbb\xbf{\"BaseFileName\":\"a\",\"OwnerId\":\"o\",\"Size\":4,\"UserId\":\"u\",\"Version\":\"v1\"}",
+    b"{\"BaseFileName\":\"a\",\"OwnerId\":\"o\",\"Size\":4,\"UserId\":\"u\",\"Version\":\"v1\"",
+    b"{\"BaseFileName\":\"a\",\"OwnerId\":\"o\",\"Size\":4,\"UserId\":\"u\",\"Version\":\"v1\",}",
+    b"{\"BaseFileName\":\"a\",\"OwnerId\":\"o\",\"Size\":4,\"UserId\":\"u\",\"Version\":\"v1\"}}",
+    b"{\"BaseFileName\":\"a\",\"OwnerId\":\"o\",\"Size\":4,\"UserId\":\"u\",\"Version\":\"v1\"} x",
+    b"{'BaseFileName':'a','OwnerId':'o','Size':4,'UserId':'u','Version':'v1'}",
+    b"{\"BaseFileName\":\"a\",\"OwnerId\":\"o\",\"Size\":4,\"UserId\":\"u\"}",
+    b"{\"basefilename\":\"a\",\"OwnerId\":\"o\",\"Size\":4,\"UserId\":\"u\",\"Version\":\"v1\"}",
+    b"{\"BaseFileName\":7,\"OwnerId\":\"o\",\"Size\":4,\"UserId\":\"u\",\"Version\":\"v1\"}",
+    b"{\"BaseFileName\":\"a\",\"OwnerId\":null,\"Size\":4,\"UserId\":\"u\",\"Version\":\"v1\"}",
+    b"{\"BaseFileName\":\"a\",\"OwnerId\":\"o\",\"Size\":\"4\",\"UserId\":\"u\",\"Version\":\"v1\"}",
+    b"{\"BaseFileName\":\"a\",\"OwnerId\":\"o\",\"Size\":-1,\"UserId\":\"u\",\"Version\":\"v1\"}",
+    b"{\"BaseFileName\":\"a\",\"OwnerId\":\"o\",\"Size\":4.0,\"UserId\":\"u\",\"Version\":\"v1\"}",
+    b"{\"BaseFileName\":\"a\",\"OwnerId\":\"o\",\"Size\":4e0,\"UserId\":\"u\",\"Version\":\"v1\"}",
+    b"{\"BaseFileName\":\"a\",\"OwnerId\":\"o\",\"Size\":04,\"UserId\":\"u\",\"Version\":\"v1\"}",
+    b"{\"BaseFileName\":\"a\",\"OwnerId\":\"o\",\"Size\":+4,\"UserId\":\"u\",\"Version\":\"v1\"}",
+    b"{\"BaseFileName\":\"a\",\"OwnerId\":\"o\",\"Size\":18446744073709551616,\"UserId\":\"u\",\"Version\":\"v1\"}",
+    b"{\"BaseFileName\":\"a\",\"OwnerId\":\"o\",\"Size\":NaN,\"UserId\":\"u\",\"Version\":\"v1\"}",
+    b"{\"BaseFileName\":\"a\",\"OwnerId\":\"o\",\"Size\":4,\"UserId\":[\"u\"],\"Version\":\"v1\"}",
+    b"{\"BaseFileName\":\"a\",\"OwnerId\":\"o\",\"Size\":4,\"UserId\":\"u\",\"Version\":1}",
+    b"{\"BaseFileName\":\"\xff\",\"OwnerId\":\"o\",\"Size\":4,\"UserId\":\"u\",\"Version\":\"v1\"}",
+    b"{\"BaseFileName\":\"\x01\",\"OwnerId\":\"o\",\"Size\":4,\"UserId\":\"u\",\"Version\":\"v1\"}",
+    b"{\"BaseFileName\":\"\\ud800\",\"OwnerId\":\"o\",\"Size\":4,\"UserId\":\"u\",\"Version\":\"v1\"}",
+    b"{\"BaseFileName\":\"\\x61\",\"OwnerId\":\"o\",\"Size\":4,\"UserId\":\"u\",\"Version\":\"v1\"}",
+];
+
+/// Bodies that tell more than was asked, or tell it otherwise.
+const TOLD: [&[u8]; 5] = [
+    b" {\"Version\":\"v1\",\"UserId\":\"u\",\"Size\":4,\"OwnerId\":\"o\",\"BaseFileName\":\"a\"}\r\n",
+    b"{\"BaseFileName\":\"\\u0061\\ud83d\\ude00\",\"OwnerId\":\"\",\"Size\":18446744073709551615,\"UserId\":\"\",\"Version\":\"\"}",
+    b"{\"BaseFileName\":\"a\",\"OwnerId\":\"o\",\"Size\":4,\"UserId\":\"u\",\"Version\":\"v1\",\"UserCanWrite\":\"yes\"}",
+    b"{\"BaseFileName\":\"a\",\"OwnerId\":\"o\",\"Size\":4,\"UserId\":\"u\",\"Version\":\"v1\",\"More\":[{\"A\":[null,-1.5e3]}]}",
+    b"{\"Size\":\"x\",\"BaseFileName\":\"a\",\"OwnerId\":\"o\",\"Size\":4,\"UserId\":\"u\",\"Version\":\"v1\"}",
+];
+
+#[test]
+fn bodies_that_tell_nothing_of_a_file_are_bad_where_they_begin(
+    rt: HostRuntime,
+) -> Result<(), Fail> {
+    let alloc = rt.alloc();
+    for (place, body) in UNTOLD.iter().enumerate() {
+        let reply = sized(alloc, body)?;
+        let at = reply.len().saturating_sub(body.len());
+        let told = format!(in alloc; "bad reply {at}\n")?;
+        let left = edit(
+            &rt,
+            alloc,
+            b"open\n",
+            &[reply.as_slice(), VERSION_1, CONTENTS],
+        )?;
+        assert_eq!(rt; left.status, 11, "body {place}");
+        assert_eq!(rt; left.output.as_slice(), told.as_bytes(), "body {place}");
+    }
+    Ok(())
+}
+
+#[test]
+fn bodies_that_tell_more_than_was_asked_are_read(rt: HostRuntime) -> Result<(), Fail> {
+    let alloc = rt.alloc();
+    for (place, body) in TOLD.iter().enumerate() {
+        let reply = sized(alloc, body)?;
+        let left = edit(
+            &rt,
+            alloc,
+            b"open\n",
+            &[reply.as_slice(), VERSION_1, CONTENTS],
+        )?;
+        assert_eq!(rt; left.status, 0, "body {place}");
+        assert_eq!(rt;
+            left.output.as_slice(),
+            b"opened v1 1\n".as_slice(),
+            "body {place}"
+        );
+    }
+    Ok(())
+}
+
+/// Bodies that tell no name of a copy.
+const UNNAMED: [&[u8]; 8] = [
+    b"",
+    b"{}",
+    b"{\"Name\":\"b.csv\"}",
+    b"{\"Url\":\"u\"}",
+    b"{\"Name\":1,\"Url\":\"u\"}",
+    b"{\"Name\":\"b.csv\",\"Url\":{}}",
+    b"{\"Name\":\"b.csv\",\"Url\":\"u\"",
+    b"{\"Name\":\"\\udc00\",\"Url\":\"u\"}",
+];
+
+#[test]
+fn bodies_that_tell_no_name_of_a_copy_are_bad_where_they_begin(
+    rt: HostRuntime,
+) -> Result<(), Fail> {
+    let alloc = rt.alloc();
+    for (place, body) in UNNAMED.iter().enumerate() {
+        let reply = sized(alloc, body)?;
+        let at = reply.len().saturating_sub(body.len());
+        let told = format!(in alloc; "opened v1 1\nbad reply {at}\n")?;
+        let replies = [INFO, VERSION_1, CONTENTS, reply.as_slice()];
+        let left = edit(&rt, alloc, b"open\nsaveas b.csv\n", &replies)?;
+        assert_eq!(rt; left.status, 11, "body {place}");
+        assert_eq!(rt; left.output.as_slice(), told.as_bytes(), "body {place}");
+    }
+    Ok(())
+}
+
+/// A list in a list, and so on.
+fn nested(alloc: Global, depth: usize) -> Result<Vec<u8>, Memory> {
+    let mut bytes = vec![in alloc; b'['; depth]?;
+    for _ in 0..depth {
+        bytes.push(b']')?;
+    }
+    Ok(bytes)
+}
+
+#[test]
+fn a_body_of_lists_in_lists_is_bad_where_it_begins(rt: HostRuntime) -> Result<(), Fail> {
+    let alloc = rt.alloc();
+    let body = nested(alloc, 100_000)?;
+    let reply = sized(alloc, &body)?;
+    let left = edit(
+        &rt,
+        alloc,
+        b"open\n",
+        &[reply.as_slice(), VERSION_1, CONTENTS],
+    )?;
+    assert_eq!(rt; left.status, 11);
+    assert_eq!(rt; left.output.as_slice(), b"bad reply 43\n".as_slice());
+    Ok(())
+}
