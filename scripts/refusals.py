@@ -3,7 +3,7 @@
 
 Runs PROGRAM (the built program of crates/mokdrai where it is left out: it has to be a program, and no script) over
 folders and ports of its own, once for each place at which something is refused: `once` at a lock and at a save,
-`replay` at a late save, `edit` at two saves, and `serve` at one lock. What is refused is the N-th call of malloc,
+`replay` at a late save, `edit` at two saves, `serve` at one lock, and `token`. What is refused is the N-th call of malloc,
 calloc or realloc, or the N-th of those on files and streams, by a shim that this script has cc compile and the loader
 put before the C library; where a command makes no N-th such call, its next case comes, at the latest after MOST places
 (2,000 where it is left out).
@@ -132,6 +132,7 @@ SCHEDULE = (b"file 612e637376 312c320a\nsession 612e637376 n 9000000\nopen 1\nde
             b"deliver 3 0\nanswer 3\nsave 1 41\nlose 1\nlose 1\nlose 1\nsave 1 42\ndeliver 7 10\nanswer 4\ndeliver 8 11\n"
             b"answer 5\ndeliver 4 12\n")
 SCRIPT = b"open\nset 1 2 9\nsave\nset 1 1 7\nsave\nclose\n"
+WORDS = ["token", KEY, "ann", "a.csv", "w", "1", "253402300000000", "253402300799999"]
 
 
 class Room:
@@ -313,12 +314,24 @@ def served(room):
     return status
 
 
+def written(room):
+    status, output, notes = room.run(WORDS, b"")
+    is_told(status, notes)
+    whole = TOKEN.encode() + b"\n"
+    must(whole.startswith(output), f"another token: {output[:80]}")
+    must(status != 0 or output == whole, "status 0, and a part of the token")
+    must(status != 6 or not output, "want of memory after a part of the token")
+    must(room.kept() == OLD, "other contents")
+    return status
+
+
 CASES = {
     "once, at a lock": locked_once,
     "once, at a save": saved_once,
     "replay": replayed,
     "edit": edited,
     "serve": served,
+    "token": written,
 }
 
 
