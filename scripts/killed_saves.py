@@ -2,8 +2,8 @@
 """Shows that a save which is killed leaves the old or the new bytes: scripts/killed_saves.py [PROGRAM [TIMES]]
 
 Runs PROGRAM (./mokdrai where it is left out) as `once` over a folder of its own, has it save 8 MiB under a lock, and
-kills it by SIGKILL at a random moment: every other time somewhere in the run, else between the end of the body and the
-reply. Then the file has to have its old bytes or the new ones and nothing else, and the next start has to answer just
+kills it by SIGKILL: of three times once at a random moment of the run, once at one between the end of the body and the
+reply, and once as soon as the reply is there, while its input goes on. Then the file has to have its old bytes or the new ones and nothing else, and the next start has to answer just
 these. After TIMES kills (100 where it is left out) it says how often the old and the new bytes were found, how often a
 reply had come, and how often a half-written file was left under the name that the folder's writes go to first; a reply
 is never followed by the old bytes. It is no part of the gate.
@@ -42,10 +42,11 @@ GET = request("GET", "/contents", "")
 class Save:
     """A run that saves some bytes, and what is known of it."""
 
-    def __init__(self, program, folder, contents):
+    def __init__(self, program, folder, contents, goes_on=False):
         words = [program, "once", folder, KEY, BASE]
         self.process = subprocess.Popen(words, stdin=subprocess.PIPE, stdout=subprocess.PIPE, stderr=subprocess.DEVNULL)
-        self.contents, self.sent, self.output = contents, threading.Event(), b""
+        self.contents, self.goes_on, self.output = contents, goes_on, b""
+        self.sent, self.answered = threading.Event(), threading.Event()
         self.threads = [threading.Thread(target=self.feed), threading.Thread(target=self.read)]
         for thread in self.threads:
             thread.start()
@@ -53,20 +54,31 @@ class Save:
     def feed(self):
         try:
             self.process.stdin.write(LOCK + PUT + self.contents)
-            self.process.stdin.close()
+            self.process.stdin.flush()
+            if not self.goes_on:
+                self.process.stdin.close()
         except OSError:
             pass
         self.sent.set()
 
     def read(self):
-        self.output = self.process.stdout.read()
+        while piece := self.process.stdout.read1(65536):
+            self.output += piece
+            if self.replies() == 2:
+                self.answered.set()
+        self.answered.set()
+
+    def replies(self):
+        return self.output.count(b"HTTP/1.1 200 OK\r\n")
 
     def end(self):
         self.process.wait()
         for thread in self.threads:
             thread.join()
         self.process.stdout.close()
-        return self.output.count(b"HTTP/1.1 200 OK\r\n")
+        if self.goes_on:
+            self.process.stdin.close()
+        return self.replies()
 
 
 def contents_at_the_next_start(program, folder):
@@ -102,12 +114,14 @@ def main():
         whole, last = whole_run(program, folder, old)
         for number in range(times):
             new = os.urandom(SIZE)
-            save = Save(program, folder, new)
-            if number % 2:
+            save = Save(program, folder, new, goes_on=number % 3 == 2)
+            if number % 3 == 0:
+                time.sleep(random.uniform(0, whole))
+            elif number % 3 == 1:
                 save.sent.wait()
                 time.sleep(random.uniform(0, last))
             else:
-                time.sleep(random.uniform(0, whole))
+                save.answered.wait()
             save.process.kill()
             has_reply = save.end() == 2
             with open(path, "rb") as file:
