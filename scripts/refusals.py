@@ -193,8 +193,8 @@ def listens(port):
         return any(line.split()[1].endswith(f":{port:04X}") and line.split()[3] == "0A" for line in list(table)[1:])
 
 
-def is_told(status, notes):
-    must(status in LINES, f"status {status}, {notes}")
+def is_told(status, notes, ends):
+    must(status in ends, f"status {status}, {notes}")
     must(notes in (LINES[status], b""), f"status {status}, but the notes say {notes}")
     must(notes or status in (0, 6), f"status {status}, and nothing on the notes")
 
@@ -227,7 +227,7 @@ def reply(version, body=b"", status=b"200 OK"):
 
 def locked_once(room):
     status, output, notes = room.run(["once", room.folder, KEY, BASE], LOCK)
-    is_told(status, notes)
+    is_told(status, notes, (0, 3, 4, 5, 6))
     statuses = are_replies(output, [reply(1)])
     must(room.kept() == OLD, "other contents")
     must(status != 6 or not statuses, "want of memory after a reply")
@@ -236,7 +236,7 @@ def locked_once(room):
 
 def saved_once(room):
     status, output, notes = room.run(["once", room.folder, KEY, BASE], LOCK + SAVE)
-    is_told(status, notes)
+    is_told(status, notes, (0, 3, 4, 5, 6))
     conflict = b"HTTP/1.1 409 Conflict\r\nContent-Length: 0\r\nX-WOPI-Lock: \r\nX-WOPI-LockFailureReason: not locked\r\n\r\n"
     try:
         statuses = are_replies(output, [reply(1), reply(2)])
@@ -250,7 +250,7 @@ def saved_once(room):
 
 def replayed(room):
     status, output, notes = room.run(["replay"], SCHEDULE)
-    is_told(status, notes)
+    is_told(status, notes, (0, 3, 4, 6))
     whole = room.run(["replay"], SCHEDULE, refusing=False)[1]
     must(whole.startswith(output), f"another trace: {output[:80]}")
     must(status != 0 or output == whole, "status 0, and a part of the trace")
@@ -262,17 +262,18 @@ def edited(room):
     """At a host to which nothing is refused."""
     host, port = room.host(1_000_000, refusing=False)
     try:
-        status, output, notes = room.run(["edit", f"localhost:{port}", "612e637376", TOKEN, "n"], SCRIPT)
+        status, output, notes = room.run(["edit", f"127.0.0.1:{port}", "612e637376", TOKEN, "n"], SCRIPT)
     finally:
         host.send_signal(signal.SIGKILL)
         host.communicate()
     # (a request whose answer was lost is sent again, so that a save may count twice)
     whole = b"opened v 1\nsaved v\nsaved v\nclosed\n"
     if status in (9, 11):
-        must(notes == b"" and re.fullmatch(rb"no answer|bad reply \d+", output.splitlines()[-1]), f"the output ends {output[-80:]}")
-        output = b"".join(line + b"\n" for line in output.splitlines()[:-1])
+        *lines, last = output.splitlines() or [b""]
+        must(notes == b"" and re.fullmatch(rb"no answer|bad reply \d+", last), f"the output ends {output[-80:]}")
+        output = b"".join(line + b"\n" for line in lines)
     else:
-        is_told(status, notes)
+        is_told(status, notes, (0, 3, 4, 6))
     output = re.sub(rb"v\d+", b"v", output)
     must(whole.startswith(output), f"another output: {output[:80]}")
     must(status != 0 or output == whole, "status 0, and a part of the output")
@@ -303,7 +304,7 @@ def served(room):
         ask(port)
         notes = host.communicate(timeout=20)[1]
     status = host.returncode
-    is_told(status, notes)
+    is_told(status, notes, (0, 4, 5, 6, 10))
     statuses = are_replies(got, [reply(1)])
     lines = room.journal().splitlines()
     must(not lines or lines[0].startswith(b"wopi journal 1 opened "), f"another journal: {lines[:1]}")
@@ -316,7 +317,7 @@ def served(room):
 
 def written(room):
     status, output, notes = room.run(WORDS, b"")
-    is_told(status, notes)
+    is_told(status, notes, (0, 4, 6))
     whole = TOKEN.encode() + b"\n"
     must(whole.startswith(output), f"another token: {output[:80]}")
     must(status != 0 or output == whole, "status 0, and a part of the token")

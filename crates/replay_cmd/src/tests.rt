@@ -1,3 +1,4 @@
+mod asks;
 mod reading;
 mod runs;
 mod traces;

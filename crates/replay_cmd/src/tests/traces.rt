@@ -26,7 +26,7 @@ tell 1 no answer\nsend 7 relock n-1 n-2\nreply 4 200 v1\nsend 8 put n-2 42\nrepl
 tell 1 saved v2\nreply 6 409 n-2 lock id spent\n";
 
 /// Over the wire, the trace of the schedule that the text is reads so.
-fn expect_over<W: Wire>(
+pub fn expect_over<W: Wire>(
     rt: &impl Abort,
     alloc: Global,
     wire: &mut W,
