@@ -56,12 +56,13 @@ class File:
         return request("POST", self.path + self.query, fields)
 
 
-def connect():
-    while True:
+def connect(host):
+    while host.poll() is None:
         try:
             return socket.create_connection(("127.0.0.1", PORT))
         except ConnectionRefusedError:
             time.sleep(0.05)
+    raise SystemExit(f"the host ended: {host.stderr.read()}")
 
 
 def reply_ends(reader):
@@ -76,8 +77,8 @@ def reply_ends(reader):
     reader.read(length)
 
 
-def ask_all(requests):
-    with connect() as link:
+def ask_all(host, requests):
+    with connect(host) as link:
         reader = link.makefile("rb")
         for one in requests:
             link.sendall(one)
@@ -91,7 +92,7 @@ def instructions(program, room, folder, requests):
     words += ["serve", str(folder), str(PORT), KEY, BASE, "1", "--journal", "32768", "--each", str(len(parts))]
     host = subprocess.Popen(words, stdout=subprocess.DEVNULL, stderr=subprocess.PIPE, text=True)
     for part in parts:
-        ask_all(part)
+        ask_all(host, part)
     notes = host.communicate()[1]
     if host.returncode:
         raise SystemExit(notes)
@@ -121,7 +122,7 @@ def cost(program, room, files, before, ask):
 def main():
     program = str(pathlib.Path(sys.argv[1]).resolve())
     entries = [int(word) for word in sys.argv[2:]] or [10, 1000, 30000]
-    kinds = {"Lock": File.lock, "GetFile": File.get, "PutFile": File.put, "UnlockAndRelock": File.relock}
+    kinds = {"PutFile": File.put, "UnlockAndRelock": File.relock, "Lock": File.lock, "GetFile": File.get}
     with tempfile.TemporaryDirectory() as room:
         for name, ask in kinds.items():
             row = [cost(program, room, files, 0, ask) for files in (10, 1000, 10000)]

@@ -1,4 +1,6 @@
 //! All that sessions and somebody else may ask, as it is written, read and answered over a wire.
+ghost use Rattle.std.specs.Prelude.{◌≡◌, true};
+
 use super::traces::expect_over;
 use crate::{Schedule, Straight, Wire, World};
 use std::alloc::Global;
