@@ -27,9 +27,9 @@ abbrev pub opening_of : ℕ → Opening → Opening
 opening_of shard opening = filter (λ file. shard_of file.0 == shard) opening
 
 -- entries that one host may make: the journal
-pub record LegalHost (opening : Opening) (opened : ℕ) (merge : List Entry) : Type 0 where
+pub record LegalHost (opening : Opening) (opened first : ℕ) (merge : List Entry) : Type 0 where
   pub ordered : IsInOrder merge
-  pub shards : (shard : ℕ) → shard < 16 → Legal (opening_of shard opening) opened (part_of shard merge)
+  pub shards : (shard : ℕ) → shard < 16 → Legal (opening_of shard opening) opened first (part_of shard merge)
   pub passes : (pass : ℕ) → RisesFrom 0 (stamps (filter (λ entry. entry.pass == pass) merge))
 
 -- the most bytes of contents that a shard keeps
@@ -59,13 +59,13 @@ abbrev pub HasNoStamp : ℕ → List Item → Type 0
 HasNoStamp floor history = max floor (last_from 0 (stamps (entries history))) ≡ 2 ^ 64 - 1
 
 -- the call would be accepted, and there is no room for its contents
-abbrev pub HasNoRoom : Opening → ℕ → List Item → Call → ℕ → Type 0
-HasNoRoom opening opened history call moment =
-    let at = at_moment (after (opened_shard opening opened) history) moment in
+abbrev pub HasNoRoom : Opening → ℕ → ℕ → List Item → Call → ℕ → Type 0
+HasNoRoom opening opened first history call moment =
+    let at = at_moment (after (opened_shard opening opened first) history) moment in
     (decision (at.files call.name) call opened at.now ≡ Accept) × (brings_contents call.act ≡ true)
     × (most_kept < kept opening history + new_bytes call.act)
 
 -- the shard takes no such call
-abbrev pub FullAt : Opening → ℕ → ℕ → List Item → ℕ → Call → ℕ → Type 0
-FullAt opening opened capacity history floor call moment =
-    HasNoPlace capacity history ⊎ (HasNoStamp floor history ⊎ HasNoRoom opening opened history call moment)
+abbrev pub FullAt : Opening → ℕ → ℕ → ℕ → List Item → ℕ → Call → ℕ → Type 0
+FullAt opening opened first capacity history floor call moment =
+    HasNoPlace capacity history ⊎ (HasNoStamp floor history ⊎ HasNoRoom opening opened first history call moment)

@@ -1,5 +1,5 @@
 -- The files of one shard, and what happens to them.
-use Rattle.std.specs.Prelude.{⊤, ◌↔◌, ℕ, ◌<◌, max, List, [], ◌∷◌, map, if◌then◌else◌}
+use Rattle.std.specs.Prelude.{⊤, ◌↔◌, ℕ, ◌<◌, ◌≤◌, max, List, [], ◌∷◌, map, if◌then◌else◌}
 use Rattle.std.specs.Str.{bytes_eq}
 use Rattle.std.specs.List.{Contains}
 use Rattle.std.specs.List.Sorted.{IsStrictlySortedBy}
@@ -14,6 +14,7 @@ use Rattle.wopi_model.specs.Step.{IsOutcome, after_step}
 -- `files` has a file for each name, also for one that was never met
 pub record Shard : Type 0 where
   pub opened : ℕ
+  pub first : ℕ  -- the version of the files of the opening
   pub now : ℕ
   pub files : List ℕ → File
 
@@ -21,18 +22,18 @@ pub record Shard : Type 0 where
 abbrev pub Opening : Type 0
 Opening = List (List ℕ × List ℕ)
 
-abbrev pub opening_file : Opening → List ℕ → File
-opening_file [] name = never_met
-opening_file ((first, contents) ∷ rest) name =
-    if bytes_eq first name then opened_with contents else opening_file rest name
+abbrev pub opening_file : ℕ → Opening → List ℕ → File
+opening_file first [] name = never_met first
+opening_file first ((one, contents) ∷ rest) name =
+    if bytes_eq one name then opened_with first contents else opening_file first rest name
 
-abbrev pub opened_shard : Opening → ℕ → Shard
-opened_shard opening opened = record { opened = opened; now = opened; files = opening_file opening }
+abbrev pub opened_shard : Opening → ℕ → ℕ → Shard
+opened_shard opening opened first = record { opened = opened; first = first; now = opened; files = opening_file first opening }
 
--- the names with a version, in the order of their bytes
+-- the names that were met, in the order of their bytes
 pub record AreNames (shard : Shard) (names : List (List ℕ)) : Type 0 where
   pub ordered : IsStrictlySortedBy (slice_cmp nat_cmp) names
-  pub exact : (name : List ℕ) → Contains names name ↔ (0 < (shard.files name).version)
+  pub exact : (name : List ℕ) → Contains names name ↔ (shard.first ≤ (shard.files name).version)
 
 pub record Entry : Type 0 where
   pub stamp : ℕ
@@ -49,7 +50,7 @@ pub data Item : Type 0 where
 abbrev pub at_moment : Shard → ℕ → Shard
 at_moment shard moment =
     let now = max shard.now moment in
-    record { opened = shard.opened; now = now; files = λ name. settled (shard.files name) now }
+    record { opened = shard.opened; first = shard.first; now = now; files = λ name. settled (shard.files name) now }
 
 abbrev pub with_file : Shard → List ℕ → File → Shard
 with_file shard name file =
@@ -100,6 +101,6 @@ last_from low [] = low
 last_from low (stamp ∷ rest) = last_from stamp rest
 
 -- a history that one shard may have
-pub record Legal (opening : Opening) (opened : ℕ) (history : List Item) : Type 0 where
-  pub allowed : Along IsAllowed (opened_shard opening opened) history
+pub record Legal (opening : Opening) (opened first : ℕ) (history : List Item) : Type 0 where
+  pub allowed : Along IsAllowed (opened_shard opening opened first) history
   pub stamps : RisesFrom 0 (stamps (entries history))

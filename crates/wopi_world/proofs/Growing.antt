@@ -4,9 +4,9 @@ use Rattle.std.proofs.Common.{◌≡◌, ◌≢◌, ◌⊎◌, ℕ, ◌+◌, ◌
 use Rattle.std.specs.List.{slice_get}
 use Rattle.std.proofs.lemmas.List.{length-append}
 use Rattle.wopi_model.specs.declared.calls.Ruling.{Ruling}
-use Rattle.wopi_model.specs.Shard.{Shard, Item, Step, IsAllowed, Along, happens, after}
-use Rattle.wopi_model.proofs.Replacing.{Along-weaker}
-use Rattle.wopi_model.proofs.Histories.{after-append, Along-append}
+use Rattle.wopi_model.specs.Shard.{Shard, Step}
+use Rattle.wopi_world.specs.History.{Item, Ran, IsAllowed, Along, happens, after}
+use Rattle.wopi_world.proofs.Lengthening.{after-append, Along-append, Along-weaker}
 use Rattle.save_session.specs.declared.state.Phase.{Phase}
 use Rattle.save_session.specs.declared.output.Outcome.{Outcome}
 use Rattle.save_session.specs.declared.state.Waiting.{Waiting}
@@ -18,16 +18,22 @@ use Rattle.wopi_world.specs.Requests.{Client}
 use Rattle.wopi_world.specs.World.{Request, Reply, Told, Member}
 use Rattle.wopi_world.specs.Safe.{contents_in, IsSave, IsNoSave}
 use Rattle.wopi_world.proofs.Held.{same_holder, not_both}
-use Rattle.wopi_world.proofs.Moving.{own_file, IsUnder, IsGone, IsStaged, Moves, remains_out, taken, kept, saved, relocked, ended, ComesAt, staged-happens, IsGone-happens, moves}
+use Rattle.wopi_world.specs.Sessions.{IsUse}
+use Rattle.wopi_world.proofs.Moving.{own_file, IsUnder, IsGone, IsStaged, Moves, remains_out, taken, kept, saved, relocked, ended, ComesAt, staged-happens, gone-moves, HasMark, mark-happens, moves}
 use Rattle.wopi_world.proofs.Positions.{carries-moves, carried, saves_under, AtFirstSave, first_save_push, first_save_weaker}
 use Rattle.wopi_world.proofs.Lists.{get_left, get_new, get_back}
 use Rattle.wopi_world.proofs.Machine.{WasHeldIn, HasOpened, IsFresh, WasSaved, OpHolds, ReplyHolds, OutcomeHolds, PhaseHolds, WaitHolds, told_with, Knows, IsSameAsSent, SendHolds, TellHolds}
+
+-- the session's token was used before
+abbrev pub WasUsed : Client → List Item → Type 0
+WasUsed client history = (at : ℕ) × (item : Item) × (slice_get history at ≡ Some item) × IsUse client item
 
 -- the history, as the session sees it
 pub record Ground (client : Client) (start shard : Shard) (history : List Item) : Type 0 where
   pub is_after : after start history ≡ shard
   pub moved : Along (Moves client) start history
   pub staged : IsStaged client shard
+  pub used : HasMark client (own_file client shard) → WasUsed client history
 
 abbrev pub WasSent : ℕ → List Request → Sent → Type 0
 WasSent s requests op = (r : ℕ) × (slice_get requests r ≡ Some (record { sender = s; op = op }))
@@ -56,8 +62,8 @@ pub record Holds (client : Client) (s : ℕ) (start shard : Shard) (history : Li
 -- the history grows
 
 was_held-moves : (client : Client) (j : ℕ) (shard : Shard) (item : Item) → Moves client shard item → WasHeldIn client j shard → WasHeldIn client j (happens shard item)
-was_held-moves client j shard item mv (inr gone) = inr (IsGone-happens client j shard item gone)
-was_held-moves client j shard item (remains_out b a n) (inl u) = absurd (not_both client shard.now (own_file client shard) j u b)
+was_held-moves client j shard item mv (inr gone) = inr (gone-moves client j shard item mv gone)
+was_held-moves client j shard item (remains_out b a n k) (inl u) = absurd (not_both client shard.now (own_file client shard) j u b)
 was_held-moves client j shard item (taken b g a n) (inl u) = absurd (not_both client shard.now (own_file client shard) j u b)
 was_held-moves client j shard item (kept m b a c n e) (inl u) =
     inl (subst (λ (k : ℕ). IsUnder client k (happens shard item)) (same_holder client shard.now shard.now (own_file client shard) m j b u) a)
@@ -66,7 +72,7 @@ was_held-moves client j shard item (saved m d b a c n e) (inl u) =
 was_held-moves client j shard item (relocked m b a c n e) (inl u) =
     let same = same_holder client shard.now shard.now (own_file client shard) m j b u in
     let counted = u.counted in
-    inr (a.lower j counted (omega (arith, same)))
+    inr (inl (a.lower j counted (omega (arith, same))))
 was_held-moves client j shard item (ended m b a g h n x) (inl u) =
     inr (subst (λ (k : ℕ). IsGone client k (happens shard item)) (same_holder client shard.now shard.now (own_file client shard) m j b u) h)
 
@@ -87,7 +93,7 @@ later-push client start shard history item mv =
       fresh = λ contents h none.
           let before = Along-unpush (λ at one. IsNoSave client one) start history item none in
           carries-moves client contents shard item mv before.1 (h before.0);
-      saved = λ number version h. (h.0, h.1, h.2, get_left history (item ∷ []) h.0 (Step h.1) h.3, h.4, h.5);
+      saved = λ number version h. (h.0, h.1, h.2, get_left history (item ∷ []) h.0 (Ran (Step h.1)) h.3, h.4, h.5);
     }
 
 op-later : (client : Client) (start shard : Shard) (history : List Item) (next : Shard) (longer : List Item) → Later client start shard history next longer →
@@ -139,6 +145,10 @@ ground-push client start shard history item g allowed comes =
       is_after = after-append start history (item ∷ []) ∙ ap (λ (x : Shard). happens x item) g.is_after;
       moved = Along-append (Moves client) start history (item ∷ []) g.moved (subst (λ (x : Shard). Moves client x item) (sym g.is_after) mv, tt);
       staged = staged-happens client shard item g.staged allowed comes;
+      used = λ mark. elim (mark-happens client shard item allowed comes mark) [
+        | inl old ↦ let was = g.used old in (was.0, was.1, get_left history (item ∷ []) was.0 was.1 was.2, was.3)
+        | inr new ↦ (length history, item, get_new history item, new)
+      ];
     }
 
 pub holds-push : (client : Client) (s : ℕ) (start shard : Shard) (history : List Item) (requests : List Request) (replies : List Reply) (member : Member) (item : Item) →

@@ -1,12 +1,13 @@
 -- What a session knows: each of its turns sends and tells only what is so.
-use Rattle.std.proofs.Common.{◌≡◌, ◌≢◌, ℕ, ◌+◌, ◌<◌, ◌≤◌, ◌==◌, Bool, true, false, ◌||◌, ◌&&◌, cond, List, [], ◌∷◌, ◌++◌, length, Option, None, Some, is_none, nat_lt, unwrap_or, refl, sym, ap, subst, ◌∙◌, arith}
+use Rattle.std.proofs.Common.{◌≡◌, ◌≢◌, ◌⊎◌, ℕ, ◌+◌, ◌<◌, ◌≤◌, ◌==◌, Bool, true, false, ◌||◌, ◌&&◌, cond, List, [], ◌∷◌, ◌++◌, length, Option, None, Some, is_none, nat_lt, unwrap_or, refl, sym, ap, subst, ◌∙◌, arith}
 use Rattle.std.proofs.lemmas.Bool.{cond_both, eqb-true, or_parts, and_parts}
 use Rattle.std.specs.List.{slice_get}
 use Rattle.wopi_model.specs.declared.calls.Ruling.{Ruling}
-use Rattle.wopi_model.specs.Shard.{Shard, Item, Step, Entry, Along}
+use Rattle.wopi_model.specs.Shard.{Shard, Step, Entry}
 use Rattle.wopi_headers.specs.declared.answer.Answer.{Answer}
 use Rattle.wopi_acts.specs.Answers.{ruling_told}
 use Rattle.wopi_acts.proofs.Telling.{told_body}
+use Rattle.wopi_world.specs.History.{Item, Ran, Along}
 use Rattle.save_session.specs.LockIds.{lock_id}
 use Rattle.save_session.specs.declared.state.Phase.{Phase}
 use Rattle.save_session.specs.declared.output.Outcome.{Outcome}
@@ -27,14 +28,13 @@ use Rattle.save_session.specs.declared.input.Input.{Input}
 use Rattle.save_session.specs.declared.input.Input.TheVariants as input
 use Rattle.wopi_world.specs.World.{Told}
 use Rattle.wopi_world.specs.Safe.{IsSave, IsNoSave}
-use Rattle.wopi_world.proofs.Held.{WasHeld}
-use Rattle.wopi_world.proofs.Moving.{own_file}
+use Rattle.wopi_world.proofs.Moving.{IsUnder, IsGone}
 use Rattle.wopi_world.proofs.Positions.{Carries}
 use Rattle.wopi_world.proofs.Lists.{get_left, get_new}
 
 -- the session's id of that number was held at some time
 abbrev pub WasHeldIn : Client → ℕ → Shard → Type 0
-WasHeldIn client j shard = WasHeld client j shard.now (own_file client shard)
+WasHeldIn client j shard = IsUnder client j shard ⊎ IsGone client j shard
 
 abbrev pub HasOpened : List Told → Type 0
 HasOpened told = (place : ℕ) × (one : Told) × (version : Option ℕ) × (slice_get told place ≡ Some one) × (one.outcome ≡ Opened version)
@@ -45,7 +45,7 @@ IsFresh client start shard history contents = Along (λ at item. IsNoSave client
 
 abbrev pub WasSaved : Client → List Item → ℕ → Option ℕ → Type 0
 WasSaved client history number version =
-    (at : ℕ) × (entry : Entry) × (contents : List ℕ) × (slice_get history at ≡ Some (Step entry)) × IsSave client number contents (Step entry) × (entry.ruling.version ≡ version)
+    (at : ℕ) × (entry : Entry) × (contents : List ℕ) × (slice_get history at ≡ Some (Ran (Step entry))) × IsSave client number contents (Ran (Step entry)) × (entry.ruling.version ≡ version)
 
 -- what holds of each operation that was sent; number and used are the session's now
 abbrev pub OpHolds : Client → Shard → List Told → ℕ → Bool → Sent → Type 0

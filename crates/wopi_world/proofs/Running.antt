@@ -1,5 +1,5 @@
 -- The events of a legal history run to that history.
-use Rattle.std.proofs.Common.{◌≡◌, ℕ, ◌+◌, ◌==◌, Bool, true, false, not, ◌&&◌, cond, List, [], ◌∷◌, ◌++◌, length, refl, sym, ap, subst, ◌∙◌, inl, inr, arith}
+use Rattle.std.proofs.Common.{◌≡◌, ℕ, ◌+◌, ◌==◌, Bool, true, false, not, ◌&&◌, cond, List, [], ◌∷◌, ◌++◌, length, map, refl, sym, ap, subst, ◌∙◌, inl, inr, arith}
 use Rattle.std.proofs.lemmas.Bool.{cond_both, eqb-true}
 use Rattle.std.proofs.lemmas.List.{append_assoc, append-nil, length-append}
 use Rattle.wopi_model.specs.declared.locks.Verdict.{Verdict}
@@ -11,6 +11,7 @@ use Rattle.wopi_model.specs.LockTable.{verdict}
 use Rattle.wopi_model.specs.Act.{lock_act, presents_spent, is_stored}
 use Rattle.wopi_model.specs.Step.{Decision, Refuse, Conflict, Accept, is_unauthorized, is_missing, lacks_right, is_too_large, effect, decision, ruling_of, store_fault, IsOutcome}
 use Rattle.wopi_model.specs.Shard.{Shard, Item, Tick, Step, Legal, IsAllowed, Along, at_moment, happens, entries}
+use Rattle.wopi_world.specs.History.{Item as Whole, Ran, Restarted, ran_from, last_run}
 use Rattle.wopi_model.specs.Shard as shard
 use Rattle.wopi_model.proofs.Replacing.{acceptance-status}
 use Rattle.wopi_model.proofs.Histories.{entries-append}
@@ -49,39 +50,48 @@ with_fault at call ruling (inl same) h =
     (verdict file.lock (presents_spent file.spent call.act) (lock_act file call.act)) file call at.now (sym (ap (λ (r : Ruling). r.status) same) ∙ h))
 with_fault at call ruling (inr fault) h = (faulted at call fault.0 fault.1, fault.2)
 
--- the items that were added are these, and their entries are counted on
-pub record Adds (history items : List Item) (next : World) : Type 0 where
+-- The items that were added, all of this run, are these, and their entries are counted on.
+pub record Adds (history : List Whole) (items : List Item) (next : World) : Type 0 where
   pub added : List Item
-  pub history_is : next.history ≡ history ++ added
-  pub same : AreSameItems items added
-  pub counted : AreCounted (length (entries history)) (entries added)
+  pub history_is : next.history ≡ history ++ map Ran added
+  pub same : AreSameItems items (map Ran added)
+  pub counted : AreCounted (length (entries (last_run history))) (entries added)
 
-add_tick : (history items : List Item) (moment : ℕ) (next : World) → Adds (history ++ Tick moment ∷ []) items next → Adds history (Tick moment ∷ items) next
+last_run-push : (seen : List Item) (history : List Whole) (item : Item) → ran_from seen (history ++ Ran item ∷ []) ≡ ran_from seen history ++ item ∷ []
+last_run-push seen [] item = refl
+last_run-push seen (Ran one ∷ history) item = last_run-push (seen ++ one ∷ []) history item
+last_run-push seen (Restarted moment first ∷ history) item = last_run-push [] history item
+
+last-entries : (history : List Whole) (item : Item) → entries (last_run (history ++ Ran item ∷ [])) ≡ entries (last_run history) ++ entries (item ∷ [])
+last-entries history item = ap entries (last_run-push [] history item) ∙ entries-append (last_run history) (item ∷ [])
+
+add_tick : (history : List Whole) (items : List Item) (moment : ℕ) (next : World) → Adds (history ++ Ran (Tick moment) ∷ []) items next → Adds history (Tick moment ∷ items) next
 add_tick history items moment next a =
-    let count : length (entries (history ++ Tick moment ∷ [])) ≡ length (entries history) =
-    ap length (entries-append history (Tick moment ∷ []) ∙ append-nil (entries history)) in
+    let count : length (entries (last_run (history ++ Ran (Tick moment) ∷ []))) ≡ length (entries (last_run history)) =
+    ap length (last-entries history (Tick moment) ∙ append-nil (entries (last_run history))) in
     record {
       added = Tick moment ∷ a.added;
-      history_is = a.history_is ∙ append_assoc history (Tick moment ∷ []) a.added;
+      history_is = a.history_is ∙ append_assoc history (Ran (Tick moment) ∷ []) (map Ran a.added);
       same = (refl, a.same);
       counted = subst (λ (n : ℕ). AreCounted n (entries a.added)) count a.counted;
     }
 
-add_step : (history items : List Item) (entry other : shard.Entry) (next : World) → IsSameItem (Step entry) (Step other) → other.stamp ≡ length (entries history) + 1 → other.pass ≡ 0 →
-    Adds (history ++ Step other ∷ []) items next → Adds history (Step entry ∷ items) next
+add_step : (history : List Whole) (items : List Item) (entry other : shard.Entry) (next : World) → IsSameItem (Step entry) (Ran (Step other)) →
+    other.stamp ≡ length (entries (last_run history)) + 1 → other.pass ≡ 0 →
+    Adds (history ++ Ran (Step other) ∷ []) items next → Adds history (Step entry ∷ items) next
 add_step history items entry other next same stamp pass a =
-    let count : length (entries (history ++ Step other ∷ [])) ≡ length (entries history) + 1 =
-    ap length (entries-append history (Step other ∷ [])) ∙ length-append (entries history) (other ∷ []) in
+    let count : length (entries (last_run (history ++ Ran (Step other) ∷ []))) ≡ length (entries (last_run history)) + 1 =
+    ap length (last-entries history (Step other)) ∙ length-append (entries (last_run history)) (other ∷ []) in
     record {
       added = Step other ∷ a.added;
-      history_is = a.history_is ∙ append_assoc history (Step other ∷ []) a.added;
+      history_is = a.history_is ∙ append_assoc history (Ran (Step other) ∷ []) (map Ran a.added);
       same = (same, a.same);
       counted = (stamp, pass, subst (λ (n : ℕ). AreCounted n (entries a.added)) count a.counted);
     }
 
 -- the world's entry of a call has the ruling of that entry, and leaves the same shard
 same_shard : (world : World) (entry : shard.Entry) → ruling_in world entry.call entry.moment ≡ entry.ruling →
-    happens world.shard (item_of world entry.call entry.moment) ≡ happens world.shard (Step entry)
+    Rattle.wopi_world.specs.History.happens world.shard (item_of world entry.call entry.moment) ≡ happens world.shard (Step entry)
 same_shard world entry is =
     ap (λ (r : Ruling). happens world.shard (Step (record { stamp = 0; pass = 0; moment = entry.moment; call = entry.call; ruling = r }))) is
 
@@ -89,7 +99,7 @@ pub runs : (setting : Setting) (world : World) (items : List Item) → world.fau
     Adds world.history items (run_from setting world (events_of items))
 runs setting world [] calm h = record { added = []; history_is = sym (append-nil world.history); same = tt; counted = tt }
 runs setting world (Tick moment ∷ items) calm h =
-    let next = with_item world (Tick moment) in
+    let next = with_item world (Ran (Tick moment)) in
     add_tick world.history items moment (run_from setting next (events_of items)) (runs setting next items calm h.1)
 runs setting world (Step entry ∷ items) calm h =
     cond_both (entry.ruling.status == 500) (Fault ∷ (Entry entry.call entry.moment ∷ events_of items)) (Entry entry.call entry.moment ∷ events_of items)
@@ -112,16 +122,16 @@ runs setting world (Step entry ∷ items) calm h =
     add_step world.history items entry (entry_of world entry.call entry.moment) (run_from setting next (events_of items)) (refl, refl, sym is) refl refl
     (runs setting next items calm_still (subst (λ (x : Shard). Along IsAllowed x items) (sym (same_shard world entry is)) h.1)))
 
-pub entries_run_lem : (setting : Setting) (history : List Item) → Legal setting.opening setting.opened history → AreSameItems history (run setting (events_of history)).history
+pub entries_run_lem : (setting : Setting) (history : List Item) → Legal setting.opening setting.opened setting.first history → AreSameItems history (run setting (events_of history)).history
 entries_run_lem setting history legal =
     let a = runs setting (first_world setting) history refl legal.allowed in
     subst (AreSameItems history) (sym a.history_is) a.same
 
-same_entry : (one other : shard.Entry) → one.stamp ≡ other.stamp → one.pass ≡ other.pass → IsSameItem (Step one) (Step other) → one ≡ other
+same_entry : (one other : shard.Entry) → one.stamp ≡ other.stamp → one.pass ≡ other.pass → IsSameItem (Step one) (Ran (Step other)) → one ≡ other
 same_entry one other stamp pass same = λ i. record { stamp = stamp i; pass = pass i; moment = same.0 i; call = same.1 i; ruling = same.2 i }
 
 -- the same items are equal where both are counted
-same_counted : (count : ℕ) (items others : List Item) → AreSameItems items others → AreCounted count (entries items) → AreCounted count (entries others) → items ≡ others
+same_counted : (count : ℕ) (items others : List Item) → AreSameItems items (map Ran others) → AreCounted count (entries items) → AreCounted count (entries others) → items ≡ others
 same_counted count [] [] same c d = refl
 same_counted count [] (other ∷ others) same c d = absurd same
 same_counted count (item ∷ items) [] same c d = absurd same
@@ -133,8 +143,8 @@ same_counted count (Step entry ∷ items) (Step other ∷ others) same c d =
     ap (λ (e : shard.Entry). Step e ∷ items) (same_entry entry other (c.0 ∙ sym d.0) (c.1 ∙ sym d.1) same.0)
     ∙ ap (λ (l : List Item). Step other ∷ l) (same_counted (count + 1) items others same.1 c.2 d.2)
 
-pub counted_run_lem : (setting : Setting) (history : List Item) → Legal setting.opening setting.opened history → AreCounted 0 (entries history) →
-    history ≡ (run setting (events_of history)).history
+pub counted_run_lem : (setting : Setting) (history : List Item) → Legal setting.opening setting.opened setting.first history → AreCounted 0 (entries history) →
+    map Ran history ≡ (run setting (events_of history)).history
 counted_run_lem setting history legal counted =
     let a = runs setting (first_world setting) history refl legal.allowed in
-    same_counted 0 history a.added a.same counted a.counted ∙ sym a.history_is
+    ap (map Ran) (same_counted 0 history a.added a.same counted a.counted) ∙ sym a.history_is

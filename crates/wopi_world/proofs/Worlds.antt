@@ -1,5 +1,5 @@
 -- Every event keeps what holds of each session, and so every world is safe.
-use Rattle.std.proofs.Common.{◌≡◌, ◌≢◌, ◌==◌, ℕ, ◌+◌, ◌<◌, max, Bool, true, false, cond, List, [], ◌∷◌, ◌++◌, length, Option, None, Some, unwrap_or, refl, sym, ap, subst, ◌∙◌, inl, inr, arith}
+use Rattle.std.proofs.Common.{◌≡◌, ◌≢◌, ◌⊎◌, ◌==◌, ℕ, ◌+◌, ◌<◌, max, Bool, true, false, cond, List, [], ◌∷◌, ◌++◌, length, Option, None, Some, unwrap_or, refl, sym, ap, subst, ◌∙◌, inl, inr, arith}
 use Rattle.std.proofs.lemmas.Bool.{cond_both, cases_eq, eqb-true, eq-eqb, ne_eqb}
 use Rattle.std.proofs.lemmas.Option.{slice_get_within}
 use Rattle.std.specs.Str.{bytes_eq}
@@ -8,14 +8,20 @@ use Rattle.wopi_model.specs.declared.calls.Act.TheVariants as act
 use Rattle.wopi_model.specs.declared.calls.Act.{Act}
 use Rattle.wopi_model.specs.declared.calls.Call.{Call}
 use Rattle.wopi_model.specs.declared.calls.Ruling.{Ruling}
+use Rattle.wopi_model.specs.declared.token.Token.{Token}
 use Rattle.wopi_model.specs.File.{opened_with}
+use Rattle.wopi_model.specs.declared.locks.Spent.{Spent}
 use Rattle.wopi_model.specs.Step.{bare}
-use Rattle.wopi_model.specs.Safety.{Presents, KeepsContents, TellsWhy}
-use Rattle.wopi_model.specs.Shard.{Shard, Opening, Item, Tick, IsAllowed, Along, at_moment, happens, after, opening_file}
-use Rattle.wopi_model.proofs.Replacing.{Along-weaker, keeps_contents}
+use Rattle.wopi_model.specs.Safety.{Presents, IsSpentUntil}
+use Rattle.wopi_model.specs.Shard.{Shard, Opening, Tick, at_moment, opening_file}
+use Rattle.wopi_model.specs.Shard as run
+use Rattle.wopi_world.specs.History.{Item, Ran, Restarted, IsAllowed, Along, BeginsNext, happens, after, opening_names, names_after}
+use Rattle.wopi_model.proofs.Replacing.{keeps_contents}
 use Rattle.wopi_model.proofs.Conflicts.{tells_why}
-use Rattle.wopi_model.proofs.Histories.{after-append, Along-append}
 use Rattle.wopi_acts.specs.Answers.{ruling_told}
+use Rattle.wopi_world.proofs.Lengthening.{after-append, Along-append, Along-weaker}
+use Rattle.wopi_world.proofs.OneRun.{IsAfter, AreSpaced, spaced-push}
+use Rattle.wopi_world.proofs.Versions.{AreKnown, known-push, known-first, next_first_is}
 use Rattle.save_session.specs.LockIds.{lock_id}
 use Rattle.save_session.specs.declared.state.State.{State}
 use Rattle.save_session.specs.declared.state.Effect.{Effect}
@@ -25,16 +31,17 @@ use Rattle.wopi_world.specs.Requests.{Client, input_of, act_sent, call_of, sent_
 use Rattle.save_session.specs.declared.input.Input.TheVariants.{Reply as Replies, NoAnswer}
 use Rattle.save_session.specs.Session.{stepped}
 use Rattle.save_session.proofs.Naming.{begins_with_nonce, same_nonce}
-use Rattle.wopi_world.specs.World.{Setting, Request, Reply, Member, World, first_shard, first_world, Event, Asks, Deliver, Answer, Lose, Foreign, Ticks, Entry, Fault, Refused, ruling_in, next_stamp, entry_of, item_of, with_item, enters, delivered_by, delivered, replied, Ask, Unread, One, Copy, asks_one, is_taken, tries, foreign, takes, turns, for_client, is_asked, answers_sender, answers_place, answers, refuses, comes, run_from, run}
-use Rattle.wopi_world.specs.Valid.{IsOfNoSession, AskIsOfNoSession, IsValidEvent, IsValid}
-use Rattle.wopi_world.specs.Safe.{IsSave, SavesAreOrdered, IsSafe}
-use Rattle.wopi_world.proofs.Held.{held_id, own_number, under-settled, gone-settled}
+use Rattle.wopi_world.specs.World.{Setting, Request, Reply, Member, World, first_shard, first_world, Event, Asks, Deliver, Answer, Lose, Foreign, Ticks, Entry, Restarts, Fault, Refused, next_first, ruling_in, next_stamp, entry_of, item_of, with_item, enters, delivered_by, delivered, replied, Ask, Unread, One, Copy, asks_one, is_taken, tries, foreign, takes, turns, for_client, is_asked, answers_sender, answers_place, answers, refuses, comes, run_from, run}
+use Rattle.wopi_world.specs.Valid.{IsOfNoSession, AskIsOfNoSession, IsIssuedBefore, IsValidEvent, AreValid, IsValid}
+use Rattle.wopi_world.specs.Safe.{IsSave, SavesAreOrdered, KeepsAll, TellsAll, IsSafe}
+use Rattle.wopi_world.proofs.Held.{WasHeld, held_id, own_number, under-settled, gone-settled}
 use Rattle.wopi_world.proofs.Acting.{IsReady, by_other, by_session}
-use Rattle.wopi_world.proofs.Moving.{own_file}
+use Rattle.wopi_world.specs.Sessions.{IsDead, IsUse}
+use Rattle.wopi_world.proofs.Moving.{own_file, HasMark, same_reopened}
 use Rattle.wopi_world.proofs.Positions.{Along-split, rising_lem, replaced_lem, over_lem, upon_save_lem, first_save_at}
-use Rattle.wopi_world.proofs.Lists.{get_new}
+use Rattle.wopi_world.proofs.Lists.{get_new, all_at}
 use Rattle.wopi_world.proofs.Machine.{WasHeldIn, ReplyHolds, OutcomeHolds, OutputHolds, TurnHolds, asked_holds, answered_holds, unanswered_holds}
-use Rattle.wopi_world.proofs.Growing.{WasSent, OpenedWith, Holds, holds-push, holds-reply, holds-other, holds-send, holds-tell}
+use Rattle.wopi_world.proofs.Growing.{WasSent, WasUsed, OpenedWith, Holds, holds-push, holds-reply, holds-other, holds-send, holds-tell}
 use Rattle.wopi_world.proofs.Replying.{ruling_allowed, reply_to_lock, reply_to_relock, conflict_with_next, reply_to_get}
 
 -- what holds of the session in the world
@@ -47,16 +54,18 @@ others_enter : (setting : Setting) (client : Client) (s : ℕ) (world : World) (
     ((number : ℕ) → Presents call.act (lock_id client.nonce number) → ⊥) → IsKept setting client s (enters world call moment)
 others_enter setting client s world call moment h other =
     holds-push client s (first_shard setting) world.shard world.history world.requests world.replies (world.members s) (item_of world call moment) h
-    (ruling_allowed world.faulty (at_moment world.shard moment) call) (by_other other)
+    (ruling_allowed world.faulty (at_moment world.shard moment) call) (inl (by_other other))
     (λ j d save. absurd (other j (subst (λ (a : Act). Presents a (lock_id client.nonce j)) (sym save.1) refl)))
 
-was_held-at_moment : (client : Client) (j : ℕ) (shard : Shard) (moment : ℕ) → WasHeldIn client j shard → WasHeldIn client j (at_moment shard moment)
+was_held-at_moment : (client : Client) (j : ℕ) (shard : Shard) (moment : ℕ) → WasHeldIn client j shard →
+    WasHeld client j (max shard.now moment) (own_file client (at_moment shard moment)) ⊎ IsDead client shard
 was_held-at_moment client j shard moment (inl u) =
     elim (under-settled client j shard.now (max shard.now moment) (own_file client shard) (omega arith) u) [
-      | inl still ↦ inl still.0
-      | inr over ↦ let counted = u.counted in inr (over.1.all j counted (omega arith))
+      | inl still ↦ inl (inl still.0)
+      | inr over ↦ let counted = u.counted in inl (inr (over.1.all j counted (omega arith)))
     ]
-was_held-at_moment client j shard moment (inr gone) = inr (gone-settled client j shard.now (max shard.now moment) (own_file client shard) (omega arith) gone)
+was_held-at_moment client j shard moment (inr (inl gone)) = inl (inr (gone-settled client j shard.now (max shard.now moment) (own_file client shard) (omega arith) gone))
+was_held-at_moment client j shard moment (inr (inr dead)) = inr dead
 
 put_of_act : (client : Client) (op : Sent) (j : ℕ) (d : List ℕ) → act_sent client.nonce op ≡ act.Put (Some (lock_id client.nonce j)) d → op ≡ Put j d
 put_of_act client Info j d h = cc
@@ -72,20 +81,21 @@ put_of_act client (RefreshLock i) j d h = cc
 put_of_act client (Unlock i) j d h = cc
 
 ready : (setting : Setting) (client : Client) (s : ℕ) (world : World) (op : Sent) (moment : ℕ) → IsKept setting client s world → WasSent s world.requests op →
-    IsReady client (max world.shard.now moment) (own_file client (at_moment world.shard moment)) op
-ready setting client s world Info moment h sent = tt
-ready setting client s world TakeLock moment h sent = tt
-ready setting client s world Get moment h sent = tt
+    IsReady client (max world.shard.now moment) (own_file client (at_moment world.shard moment)) op ⊎ IsDead client world.shard
+ready setting client s world Info moment h sent = inl tt
+ready setting client s world TakeLock moment h sent = inl tt
+ready setting client s world Get moment h sent = inl tt
 ready setting client s world (Put j d) moment h sent = was_held-at_moment client j world.shard moment (h.knows.ops (Put j d) sent).0
-ready setting client s world (Relock j) moment h sent = tt
-ready setting client s world (RefreshLock j) moment h sent = tt
-ready setting client s world (Unlock j) moment h sent = tt
+ready setting client s world (Relock j) moment h sent = inl tt
+ready setting client s world (RefreshLock j) moment h sent = inl tt
+ready setting client s world (Unlock j) moment h sent = inl tt
 
 own_enter : (setting : Setting) (client : Client) (s : ℕ) (world : World) (op : Sent) (moment : ℕ) → IsKept setting client s world → WasSent s world.requests op →
     IsKept setting client s (enters world (call_of client op) moment)
 own_enter setting client s world op moment h sent =
     holds-push client s (first_shard setting) world.shard world.history world.requests world.replies (world.members s) (item_of world (call_of client op) moment) h
-    (ruling_allowed world.faulty (at_moment world.shard moment) (call_of client op)) (by_session op refl (ready setting client s world op moment h sent))
+    (ruling_allowed world.faulty (at_moment world.shard moment) (call_of client op))
+    (elim (ready setting client s world op moment h sent) [ inl able ↦ inl (by_session op refl able) | inr dead ↦ inr (dead, op, refl) ])
     (λ j d save. subst (WasSent s world.requests) (put_of_act client op j d save.1) sent)
 
 -- deliveries
@@ -364,8 +374,17 @@ refuses_holds setting client s world place status (Some one) a b h e =
     (λ r same. within world.requests place r one e same)
     (λ r op same get. bare_holds client (first_shard setting) world.shard world.history op status a b)
 
+-- a token that was used was issued before the restart
+issued_by : (client : Client) (moment : ℕ) (item : Item) → IsIssuedBefore moment item → IsUse client item → client.token.issued < moment
+issued_by client moment (Ran (run.Tick other)) before use_ = absurd use_
+issued_by client moment (Ran (run.Step entry)) before use_ = let less = before use_.1 in subst (λ (t : Token). t.issued < moment) use_.0 less
+issued_by client moment (Restarted other first) before use_ = absurd use_
+
+issued : (client : Client) (moment : ℕ) (history : List Item) → AllByRecursion (IsIssuedBefore moment) history → WasUsed client history → client.token.issued < moment
+issued client moment history before used = issued_by client moment used.1 (all_at (IsIssuedBefore moment) history used.0 used.1 before used.2) used.3
+
 comes_holds : (setting : Setting) (events : List Event) → IsValid setting events → (client : Client) (s : ℕ) → slice_get setting.clients s ≡ Some client →
-    (world : World) (event : Event) → IsValidEvent setting event → IsKept setting client s world → IsKept setting client s (comes setting world event)
+    (world : World) (event : Event) → IsValidEvent setting world event → IsKept setting client s world → IsKept setting client s (comes setting world event)
 comes_holds setting events valid client s own world (Asks t wish) v h =
     for_client_holds setting client s world (slice_get setting.clients t) (λ other. turns world t (stepped other.nonce (world.members t).session (input_of wish))) h
     (λ other f. asks_holds setting client other s t world (λ nonce n. stepped nonce (world.members n).session (input_of wish)) own f h
@@ -380,29 +399,43 @@ comes_holds setting events valid client s own world (Lose t) v h =
 comes_holds setting events valid client s own world (Foreign ask moment) v h =
     foreign_holds setting client s world ask moment (length world.history) own v h
 comes_holds setting events valid client s own world (Ticks moment) v h =
-    holds-push client s (first_shard setting) world.shard world.history world.requests world.replies (world.members s) (Tick moment) h tt tt (λ j d save. absurd save)
+    holds-push client s (first_shard setting) world.shard world.history world.requests world.replies (world.members s) (Ran (Tick moment)) h tt tt (λ j d save. absurd save)
 comes_holds setting events valid client s own world (Entry call moment) v h =
     others_enter setting client s world call moment h (λ number p. v s client (lock_id client.nonce number) own p (begins_with_nonce client.nonce number))
+comes_holds setting events valid client s own world (Restarts moment) v h =
+    holds-push client s (first_shard setting) world.shard world.history world.requests world.replies (world.members s) (Restarted moment (next_first setting world)) h v.0
+    (v.0, λ mark. issued client moment world.history v.1 (h.ground.used mark)) (λ j d save. absurd save)
 comes_holds setting events valid client s own world Fault v h = h
 comes_holds setting events valid client s own world (Refused place status) v h =
     refuses_holds setting client s world place status (slice_get world.requests place) v.0 v.3 h refl
 
 run_holds : (setting : Setting) (all : List Event) → IsValid setting all → (client : Client) (s : ℕ) → slice_get setting.clients s ≡ Some client →
-    (world : World) (events : List Event) → AllByRecursion (IsValidEvent setting) events → IsKept setting client s world → IsKept setting client s (run_from setting world events)
+    (world : World) (events : List Event) → AreValid setting world events → IsKept setting client s world → IsKept setting client s (run_from setting world events)
 run_holds setting all valid client s own world [] v h = h
 run_holds setting all valid client s own world (event ∷ events) v h =
     run_holds setting all valid client s own (comes setting world event) events v.1 (comes_holds setting all valid client s own world event v.0 h)
 
 -- the first world
 
-unlocked : (opening : Opening) (name : List ℕ) → (opening_file opening name).lock ≡ None
-unlocked [] name = refl
-unlocked (first ∷ rest) name =
-    elim (bytes_eq first.0 name) as (λ b. (cond b (opened_with first.1) (opening_file rest name)).lock ≡ None) [ true ↦ refl | false ↦ unlocked rest name ]
+unlocked : (number : ℕ) (opening : Opening) (name : List ℕ) → (opening_file number opening name).lock ≡ None
+unlocked number [] name = refl
+unlocked number (first ∷ rest) name =
+    elim (bytes_eq first.0 name) as (λ b. (cond b (opened_with number first.1) (opening_file number rest name)).lock ≡ None) [ true ↦ refl | false ↦ unlocked number rest name ]
+
+unspent : (number : ℕ) (opening : Opening) (name : List ℕ) → (opening_file number opening name).spent ≡ []
+unspent number [] name = refl
+unspent number (first ∷ rest) name =
+    elim (bytes_eq first.0 name) as (λ b. (cond b (opened_with number first.1) (opening_file number rest name)).spent ≡ []) [ true ↦ refl | false ↦ unspent number rest name ]
+
+unmarked : (client : Client) (number : ℕ) (opening : Opening) → HasMark client (opening_file number opening client.token.file) → ⊥
+unmarked client number opening (j, inl held) =
+    let bad : None ≡ Some (lock_id client.nonce j) = sym (ap held_id (unlocked number opening client.token.file)) ∙ held in cc
+unmarked client number opening (j, inr spent) =
+    subst (λ (l : List Spent). IsSpentUntil l (lock_id client.nonce j) client.token.expires) (unspent number opening client.token.file) spent
 
 first_holds : (setting : Setting) (client : Client) (s : ℕ) → IsKept setting client s (first_world setting)
 first_holds setting client s =
-    let none = unlocked setting.opening client.token.file in
+    let none = unlocked setting.first setting.opening client.token.file in
     record {
       ground = record {
         is_after = refl;
@@ -410,7 +443,10 @@ first_holds setting client s =
         staged = record {
           stage = inr (λ number e. let bad : None ≡ Some (lock_id client.nonce number) = sym (ap held_id none) ∙ e in cc);
           there = λ lock e. let bad : None ≡ Some lock = sym none ∙ e in cc;
+          dead = λ d. λ number e. let bad : None ≡ Some (lock_id client.nonce number) = sym (ap held_id none) ∙ e in cc;
+          opened = omega arith;
         };
+        used = λ mark. absurd (unmarked client setting.first setting.opening mark);
       };
       knows = record {
         ops = λ op sent. let bad : None ≡ Some (record { sender = s; op = op }) = sent.1 in cc;
@@ -431,22 +467,28 @@ first_holds setting client s =
 record Fair (setting : Setting) (world : World) : Type 0 where
   is_after : after (first_shard setting) world.history ≡ world.shard
   allowed : Along IsAllowed (first_shard setting) world.history
+  begins : Along BeginsNext (first_shard setting) world.history
+  spaced : AreSpaced [] world.history
+  known : AreKnown world.shard (names_after (opening_names setting.opening) world.history)
 
-fair-item : (setting : Setting) (world : World) (item : Item) → Fair setting world → IsAllowed world.shard item → Fair setting (with_item world item)
-fair-item setting world item f allowed =
+fair-item : (setting : Setting) (world : World) (item : Item) → Fair setting world → IsAllowed world.shard item → BeginsNext world.shard item → IsAfter world.history item → Fair setting (with_item world item)
+fair-item setting world item f allowed begins follows =
     record {
       is_after = after-append (first_shard setting) world.history (item ∷ []) ∙ ap (λ (x : Shard). happens x item) f.is_after;
       allowed = Along-append IsAllowed (first_shard setting) world.history (item ∷ []) f.allowed (subst (λ (x : Shard). IsAllowed x item) (sym f.is_after) allowed, tt);
+      begins = Along-append BeginsNext (first_shard setting) world.history (item ∷ []) f.begins (subst (λ (x : Shard). BeginsNext x item) (sym f.is_after) begins, tt);
+      spaced = spaced-push [] world.history item f.spaced follows;
+      known = known-push world.shard (opening_names setting.opening) world.history item f.known;
     }
 
 fair-enters : (setting : Setting) (world : World) (call : Call) (moment : ℕ) → Fair setting world → Fair setting (enters world call moment)
 fair-enters setting world call moment f =
-    let g = fair-item setting world (item_of world call moment) f (ruling_allowed world.faulty (at_moment world.shard moment) call) in
-    record { is_after = g.is_after; allowed = g.allowed }
+    let g = fair-item setting world (item_of world call moment) f (ruling_allowed world.faulty (at_moment world.shard moment) call) tt tt in
+    record { is_after = g.is_after; allowed = g.allowed; begins = g.begins; spaced = g.spaced; known = g.known }
 
 fair-takes : (setting : Setting) (world : World) (t : ℕ) (member : Member) (session : State) (output : Effect) → Fair setting world → Fair setting (takes world t member session output)
-fair-takes setting world t member session (Sends op) f = record { is_after = f.is_after; allowed = f.allowed }
-fair-takes setting world t member session (Tells outcome) f = record { is_after = f.is_after; allowed = f.allowed }
+fair-takes setting world t member session (Sends op) f = record { is_after = f.is_after; allowed = f.allowed; begins = f.begins; spaced = f.spaced; known = f.known }
+fair-takes setting world t member session (Tells outcome) f = record { is_after = f.is_after; allowed = f.allowed; begins = f.begins; spaced = f.spaced; known = f.known }
 fair-takes setting world t member session (Ignores input) f = f
 
 fair-client : (setting : Setting) (world : World) (found : Option Client) (body : Client → World) → Fair setting world → ((other : Client) → Fair setting (body other)) → Fair setting (for_client world found body)
@@ -457,24 +499,24 @@ fair-delivered_by : (setting : Setting) (world : World) (place moment : ℕ) (op
 fair-delivered_by setting world place moment op None f = f
 fair-delivered_by setting world place moment op (Some other) f =
     let g = fair-enters setting world (call_of other op) moment f in
-    record { is_after = g.is_after; allowed = g.allowed }
+    record { is_after = g.is_after; allowed = g.allowed; begins = g.begins; spaced = g.spaced; known = g.known }
 
 fair-delivered : (setting : Setting) (world : World) (place moment : ℕ) (found : Option Request) → Fair setting world → Fair setting (delivered setting world place moment found)
 fair-delivered setting world place moment None f = f
 fair-delivered setting world place moment (Some one) f = fair-delivered_by setting world place moment one.op (slice_get setting.clients one.sender) f
 
 fair-one : (setting : Setting) (world : World) (call : Call) (moment before : ℕ) → Fair setting world → Fair setting (asks_one world call moment before)
-fair-one setting world call moment before f = let g = fair-enters setting world call moment f in record { is_after = g.is_after; allowed = g.allowed }
+fair-one setting world call moment before f = let g = fair-enters setting world call moment f in record { is_after = g.is_after; allowed = g.allowed; begins = g.begins; spaced = g.spaced; known = g.known }
 
 fair-tries : (setting : Setting) (world : World) (calls : List Call) (moment before : ℕ) (last : Ruling) → Fair setting world → Fair setting (tries world calls moment before last)
-fair-tries setting world [] moment before last f = record { is_after = f.is_after; allowed = f.allowed }
+fair-tries setting world [] moment before last f = record { is_after = f.is_after; allowed = f.allowed; begins = f.begins; spaced = f.spaced; known = f.known }
 fair-tries setting world (call ∷ calls) moment before last f =
     let more = fair-tries setting (enters world call moment) calls moment before (ruling_in world call moment) (fair-enters setting world call moment f) in
     cond_both (is_taken (ruling_in world call moment).reason) (tries (enters world call moment) calls moment before (ruling_in world call moment)) (asks_one world call moment before)
     (Fair setting) (λ e. more) (λ e. fair-one setting world call moment before f)
 
 fair-foreign : (setting : Setting) (world : World) (ask : Ask) (moment before : ℕ) → Fair setting world → Fair setting (foreign world ask moment before)
-fair-foreign setting world Unread moment before f = record { is_after = f.is_after; allowed = f.allowed }
+fair-foreign setting world Unread moment before f = record { is_after = f.is_after; allowed = f.allowed; begins = f.begins; spaced = f.spaced; known = f.known }
 fair-foreign setting world (One call) moment before f = fair-one setting world call moment before f
 fair-foreign setting world (Copy look creates) moment before f =
     cond_both ((ruling_in world look moment).status == 200) (tries (enters world look moment) creates moment before (bare 400)) (asks_one world look moment before)
@@ -501,28 +543,30 @@ fair-answers setting world (Some reply) f = fair-place setting world reply.rulin
 
 fair-refuses : (setting : Setting) (world : World) (place status : ℕ) (found : Option Request) → Fair setting world → Fair setting (refuses world place status found)
 fair-refuses setting world place status None f = f
-fair-refuses setting world place status (Some one) f = record { is_after = f.is_after; allowed = f.allowed }
+fair-refuses setting world place status (Some one) f = record { is_after = f.is_after; allowed = f.allowed; begins = f.begins; spaced = f.spaced; known = f.known }
 
-fair-comes : (setting : Setting) (world : World) (event : Event) → Fair setting world → Fair setting (comes setting world event)
-fair-comes setting world (Asks t wish) f =
+fair-comes : (setting : Setting) (world : World) (event : Event) → IsValidEvent setting world event → Fair setting world → Fair setting (comes setting world event)
+fair-comes setting world (Asks t wish) v f =
     let turn = λ (c : Client). stepped c.nonce (world.members t).session (input_of wish) in
     fair-client setting world (slice_get setting.clients t) (λ other. turns world t (turn other)) f
     (λ other. fair-takes setting world t (world.members t) (turn other).session (turn other).effect f)
-fair-comes setting world (Deliver place moment) f = fair-delivered setting world place moment (slice_get world.requests place) f
-fair-comes setting world (Answer p) f = fair-answers setting world (slice_get world.replies p) f
-fair-comes setting world (Lose t) f =
+fair-comes setting world (Deliver place moment) v f = fair-delivered setting world place moment (slice_get world.requests place) f
+fair-comes setting world (Answer p) v f = fair-answers setting world (slice_get world.replies p) f
+fair-comes setting world (Lose t) v f =
     let turn = λ (c : Client). stepped c.nonce (world.members t).session NoAnswer in
     fair-client setting world (slice_get setting.clients t) (λ other. turns world t (turn other)) f
     (λ other. fair-takes setting world t (world.members t) (turn other).session (turn other).effect f)
-fair-comes setting world (Foreign ask moment) f = fair-foreign setting world ask moment (length world.history) f
-fair-comes setting world (Ticks moment) f = fair-item setting world (Tick moment) f tt
-fair-comes setting world (Entry call moment) f = fair-enters setting world call moment f
-fair-comes setting world Fault f = record { is_after = f.is_after; allowed = f.allowed }
-fair-comes setting world (Refused place status) f = fair-refuses setting world place status (slice_get world.requests place) f
+fair-comes setting world (Foreign ask moment) v f = fair-foreign setting world ask moment (length world.history) f
+fair-comes setting world (Ticks moment) v f = fair-item setting world (Ran (Tick moment)) f tt tt tt
+fair-comes setting world (Entry call moment) v f = fair-enters setting world call moment f
+fair-comes setting world (Restarts moment) v f =
+    fair-item setting world (Restarted moment (next_first setting world)) f v.0 (next_first_is world.shard (names_after (opening_names setting.opening) world.history) f.known) v.1
+fair-comes setting world Fault v f = record { is_after = f.is_after; allowed = f.allowed; begins = f.begins; spaced = f.spaced; known = f.known }
+fair-comes setting world (Refused place status) v f = fair-refuses setting world place status (slice_get world.requests place) f
 
-fair-run : (setting : Setting) (world : World) (events : List Event) → Fair setting world → Fair setting (run_from setting world events)
-fair-run setting world [] f = f
-fair-run setting world (event ∷ events) f = fair-run setting (comes setting world event) events (fair-comes setting world event f)
+fair-run : (setting : Setting) (world : World) (events : List Event) → AreValid setting world events → Fair setting world → Fair setting (run_from setting world events)
+fair-run setting world [] v f = f
+fair-run setting world (event ∷ events) v f = fair-run setting (comes setting world event) events v.1 (fair-comes setting world event v.0 f)
 
 -- the whole
 
@@ -544,13 +588,23 @@ ordered setting client s world h =
       upon_open = λ first last q j d e none b. first_save_at client (OpenedWith client (world.members s).told) start first last q j d (rw e h.first) none b;
     }
 
+keeps_all : (shard : Shard) (item : Item) → IsAllowed shard item → KeepsAll shard item
+keeps_all shard (Ran item) allowed = keeps_contents shard item allowed
+keeps_all shard (Restarted moment first) allowed = λ name. same_reopened first (shard.files name).contents
+
+tells_all : (shard : Shard) (item : Item) → IsAllowed shard item → TellsAll shard item
+tells_all shard (Ran item) allowed = tells_why shard item allowed
+tells_all shard (Restarted moment first) allowed = tt
+
 pub safe_lem : (setting : Setting) (events : List Event) → IsValid setting events → IsSafe setting (run setting events)
 safe_lem setting events valid =
-    let fair = fair-run setting (first_world setting) events (record { is_after = refl; allowed = tt }) in
+    let fair = fair-run setting (first_world setting) events valid.each
+    (record { is_after = refl; allowed = tt; begins = tt; spaced = tt; known = known-first setting.opening setting.opened setting.first }) in
     let world = run setting events in
     let start = first_shard setting in
     record {
-      kept = Along-weaker IsAllowed KeepsContents keeps_contents start world.history fair.allowed;
-      told_why = Along-weaker IsAllowed TellsWhy tells_why start world.history fair.allowed;
+      kept = Along-weaker IsAllowed KeepsAll keeps_all start world.history fair.allowed;
+      risen = fair.begins;
+      told_why = Along-weaker IsAllowed TellsAll tells_all start world.history fair.allowed;
       saves = λ s client own. ordered setting client s world (run_holds setting events valid client s own (first_world setting) events valid.each (first_holds setting client s));
     }

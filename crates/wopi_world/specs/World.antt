@@ -8,7 +8,7 @@ use Rattle.wopi_model.specs.declared.calls.Ruling.{Ruling}
 use Rattle.wopi_model.specs.Act.{is_stored}
 use Rattle.wopi_model.specs.Step.{Decision, Accept, decision, ruling_of, store_fault, bare}
 use Rattle.wopi_model.specs.Shard as shard
-use Rattle.wopi_model.specs.Shard.{Shard, Opening, Item, Tick, Step, opened_shard, at_moment, happens, entries}
+use Rattle.wopi_model.specs.Shard.{Shard, Opening, Tick, Step, opened_shard, at_moment, entries}
 use Rattle.wopi_acts.specs.Answers.{ruling_told}
 use Rattle.save_session.specs.declared.output.Outcome.{Outcome}
 use Rattle.save_session.specs.declared.state.State.{State}
@@ -17,11 +17,13 @@ use Rattle.save_session.specs.declared.state.Effect.TheVariants.{Sends, Tells, I
 use Rattle.save_session.specs.declared.state.Turn.{Turn}
 use Rattle.save_session.specs.declared.input.Input.TheVariants.{Reply as Replies, NoAnswer}
 use Rattle.save_session.specs.Session.{new_session, stepped}
+use Rattle.wopi_world.specs.History.{Item, Ran, Restarted, last_run, happens, opening_names, names_after, greatest}
 use Rattle.wopi_world.specs.Requests.{Client, Wish, Sent, input_of, sent_with, call_of}
 
 pub record Setting : Type 0 where
   pub opening : Opening
   pub opened : ℕ
+  pub first : ℕ  -- the version of the opening files
   pub clients : List Client
 
 -- what a session sent; a request is known by its place among all requests
@@ -57,7 +59,7 @@ pub record World : Type 0 where
   pub faulty : Bool  -- the next store fails
 
 abbrev pub first_shard : Setting → Shard
-first_shard setting = opened_shard setting.opening setting.opened
+first_shard setting = opened_shard setting.opening setting.opened setting.first
 
 abbrev pub first_world : Setting → World
 first_world setting =
@@ -86,6 +88,7 @@ pub data Event : Type 0 where
   Foreign : (ask : Ask) (moment : ℕ) → Event
   Ticks : (moment : ℕ) → Event
   Entry : (call : Call) (moment : ℕ) → Event
+  Restarts : (moment : ℕ) → Event
   Fault : Event
   Refused : (request : ℕ) (status : ℕ) → Event
 
@@ -105,9 +108,9 @@ ruling_at faulty at call =
 abbrev pub ruling_in : World → Call → ℕ → Ruling
 ruling_in world call moment = ruling_at world.faulty (at_moment world.shard moment) call
 
--- entries are stamped by their number
+-- entries are stamped by their number since the last restart
 abbrev pub next_stamp : World → ℕ
-next_stamp world = length (entries world.history) + 1
+next_stamp world = length (entries (last_run world.history)) + 1
 
 -- the entry that a call at a moment makes
 abbrev pub entry_of : World → Call → ℕ → shard.Entry
@@ -115,7 +118,7 @@ entry_of world call moment =
     record { stamp = next_stamp world; pass = 0; moment = moment; call = call; ruling = ruling_in world call moment }
 
 abbrev pub item_of : World → Call → ℕ → Item
-item_of world call moment = Step (entry_of world call moment)
+item_of world call moment = Ran (Step (entry_of world call moment))
 
 abbrev pub with_item : World → Item → World
 with_item world item = record world { shard = happens world.shard item; history = world.history ++ item ∷ [] }
@@ -210,6 +213,10 @@ abbrev pub refuses : World → ℕ → ℕ → Option Request → World
 refuses world place status None = world
 refuses world place status (Some request) = replied world (Some place) (length world.history) (bare status)
 
+-- the version that files begin with after a restart
+abbrev pub next_first : Setting → World → ℕ
+next_first setting world = greatest world.shard (names_after (opening_names setting.opening) world.history) + 1
+
 abbrev pub comes : Setting → World → Event → World
 comes setting world (Asks s wish) =
     for_client world (slice_get setting.clients s) (λ client. turns world s (stepped client.nonce (world.members s).session (input_of wish)))
@@ -217,8 +224,9 @@ comes setting world (Deliver request moment) = delivered setting world request m
 comes setting world (Answer reply) = answers setting world (slice_get world.replies reply)
 comes setting world (Lose s) = for_client world (slice_get setting.clients s) (λ client. turns world s (stepped client.nonce (world.members s).session NoAnswer))
 comes setting world (Foreign ask moment) = foreign world ask moment (length world.history)
-comes setting world (Ticks moment) = with_item world (Tick moment)
+comes setting world (Ticks moment) = with_item world (Ran (Tick moment))
 comes setting world (Entry call moment) = enters world call moment
+comes setting world (Restarts moment) = with_item world (Restarted moment (next_first setting world))
 comes setting world Fault = record world { faulty = true }
 comes setting world (Refused request status) = refuses world request status (slice_get world.requests request)
 

@@ -1,7 +1,8 @@
 //! What holds of every world, as contracts of functions that do nothing.
 ghost use Rattle.std.specs.List.{slice_get};
-ghost use Rattle.std.specs.Prelude.{◌≡◌, ℕ, List, Some};
+ghost use Rattle.std.specs.Prelude.{◌≡◌, ℕ, List, map, Some};
 ghost use Rattle.wopi_model.specs.Shard.{Item, Legal, entries};
+ghost use Rattle.wopi_world.specs.History.{Ran};
 ghost use Rattle.wopi_world.specs.Journals.{events_of, AreSameItems, AreCounted};
 ghost use Rattle.wopi_world.specs.Requests.{Client, Sent, call_of};
 ghost use Rattle.wopi_world.specs.World.{Setting, World, Event, IsSameHistory, comes, run};
@@ -27,13 +28,13 @@ pub fn deliver_is_entry()
 /// A legal history of one shard is, but for stamps and the numbers of passes, that of the world
 /// whose events are its ticks and entries. So each shard's part of a journal is one of a world.
 pub fn entries_run()
-    ensures { (setting : Setting) (history : List Item) → Legal setting.opening setting.opened history →
+    ensures { (setting : Setting) (history : List Item) → Legal setting.opening setting.opened setting.first history →
         AreSameItems history (run setting (events_of history)).history }
 {}
 
 /// A legal history whose stamps count its entries, and which has no other pass than 0, is that
 /// world's history to the last field.
 pub fn counted_entries_run()
-    ensures { (setting : Setting) (history : List Item) → Legal setting.opening setting.opened history → AreCounted 0 (entries history) →
-        history ≡ (run setting (events_of history)).history }
+    ensures { (setting : Setting) (history : List Item) → Legal setting.opening setting.opened setting.first history → AreCounted 0 (entries history) →
+        map Ran history ≡ (run setting (events_of history)).history }
 {}
