@@ -18,15 +18,11 @@ use Rattle.wopi_world.specs.Requests.{Client}
 use Rattle.wopi_world.specs.World.{Request, Reply, Told, Member}
 use Rattle.wopi_world.specs.Safe.{contents_in, IsSave, IsNoSave}
 use Rattle.wopi_world.proofs.Held.{same_holder, not_both}
-use Rattle.wopi_world.specs.Sessions.{IsUse}
 use Rattle.wopi_world.proofs.Moving.{own_file, IsUnder, IsGone, IsStaged, Moves, remains_out, taken, kept, saved, relocked, ended, ComesAt, staged-happens, gone-moves, HasMark, mark-happens, moves}
+use Rattle.wopi_world.proofs.OneRun.{WasUsed, used-push, used-new}
 use Rattle.wopi_world.proofs.Positions.{carries-moves, carried, saves_under, AtFirstSave, first_save_push, first_save_weaker}
 use Rattle.wopi_world.proofs.Lists.{get_left, get_new, get_back}
 use Rattle.wopi_world.proofs.Machine.{WasHeldIn, HasOpened, IsFresh, WasSaved, OpHolds, ReplyHolds, OutcomeHolds, PhaseHolds, WaitHolds, told_with, Knows, IsSameAsSent, SendHolds, TellHolds}
-
--- the session's token was used before
-abbrev pub WasUsed : Client → List Item → Type 0
-WasUsed client history = (at : ℕ) × (item : Item) × (slice_get history at ≡ Some item) × IsUse client item
 
 -- the history, as the session sees it
 pub record Ground (client : Client) (start shard : Shard) (history : List Item) : Type 0 where
@@ -61,7 +57,7 @@ pub record Holds (client : Client) (s : ℕ) (start shard : Shard) (history : Li
 
 -- the history grows
 
-was_held-moves : (client : Client) (j : ℕ) (shard : Shard) (item : Item) → Moves client shard item → WasHeldIn client j shard → WasHeldIn client j (happens shard item)
+pub was_held-moves : (client : Client) (j : ℕ) (shard : Shard) (item : Item) → Moves client shard item → WasHeldIn client j shard → WasHeldIn client j (happens shard item)
 was_held-moves client j shard item mv (inr gone) = inr (gone-moves client j shard item mv gone)
 was_held-moves client j shard item (remains_out b a n k) (inl u) = absurd (not_both client shard.now (own_file client shard) j u b)
 was_held-moves client j shard item (taken b g a n) (inl u) = absurd (not_both client shard.now (own_file client shard) j u b)
@@ -146,8 +142,8 @@ ground-push client start shard history item g allowed comes =
       moved = Along-append (Moves client) start history (item ∷ []) g.moved (subst (λ (x : Shard). Moves client x item) (sym g.is_after) mv, tt);
       staged = staged-happens client shard item g.staged allowed comes;
       used = λ mark. elim (mark-happens client shard item allowed comes mark) [
-        | inl old ↦ let was = g.used old in (was.0, was.1, get_left history (item ∷ []) was.0 was.1 was.2, was.3)
-        | inr new ↦ (length history, item, get_new history item, new)
+        | inl old ↦ used-push client history item (g.used old)
+        | inr new ↦ used-new client history item new
       ];
     }
 

@@ -1,7 +1,7 @@
 -- The events of a legal history run to that history.
-use Rattle.std.proofs.Common.{◌≡◌, ℕ, ◌+◌, ◌==◌, Bool, true, false, not, ◌&&◌, cond, List, [], ◌∷◌, ◌++◌, length, map, refl, sym, ap, subst, ◌∙◌, inl, inr, arith}
+use Rattle.std.proofs.Common.{◌≡◌, ℕ, ◌+◌, ◌==◌, Bool, true, false, not, ◌&&◌, cond, List, [], ◌∷◌, ◌++◌, map, refl, sym, ap, subst, ◌∙◌, inl, inr, arith}
 use Rattle.std.proofs.lemmas.Bool.{cond_both, eqb-true}
-use Rattle.std.proofs.lemmas.List.{append_assoc, append-nil, length-append}
+use Rattle.std.proofs.lemmas.List.{append_assoc, append-nil}
 use Rattle.wopi_model.specs.declared.locks.Verdict.{Verdict}
 use Rattle.wopi_model.specs.declared.locks.Verdict.TheVariants as says
 use Rattle.wopi_model.specs.declared.calls.Call.{Call}
@@ -11,11 +11,11 @@ use Rattle.wopi_model.specs.LockTable.{verdict}
 use Rattle.wopi_model.specs.Act.{lock_act, presents_spent, is_stored}
 use Rattle.wopi_model.specs.Step.{Decision, Refuse, Conflict, Accept, is_unauthorized, is_missing, lacks_right, is_too_large, effect, decision, ruling_of, store_fault, IsOutcome}
 use Rattle.wopi_model.specs.Shard.{Shard, Item, Tick, Step, Legal, IsAllowed, Along, at_moment, happens, entries}
-use Rattle.wopi_world.specs.History.{Item as Whole, Ran, Restarted, ran_from, last_run}
+use Rattle.wopi_world.specs.History.{Item as Whole, Ran}
 use Rattle.wopi_model.specs.Shard as shard
 use Rattle.wopi_model.proofs.Replacing.{acceptance-status}
-use Rattle.wopi_model.proofs.Histories.{entries-append}
 use Rattle.wopi_world.specs.World.{Setting, World, Event, Entry, Fault, is_accept, is_faulted, ruling_at, ruling_in, entry_of, item_of, with_item, enters, first_world, run_from, run}
+use Rattle.wopi_world.proofs.Stamps.{count_since, count-ticked, count-stepped}
 use Rattle.wopi_world.specs.Journals.{events_of, IsSameItem, AreSameItems, AreCounted}
 
 -- no row of the table tells 500
@@ -55,38 +55,26 @@ pub record Adds (history : List Whole) (items : List Item) (next : World) : Type
   pub added : List Item
   pub history_is : next.history ≡ history ++ map Ran added
   pub same : AreSameItems items (map Ran added)
-  pub counted : AreCounted (length (entries (last_run history))) (entries added)
-
-last_run-push : (seen : List Item) (history : List Whole) (item : Item) → ran_from seen (history ++ Ran item ∷ []) ≡ ran_from seen history ++ item ∷ []
-last_run-push seen [] item = refl
-last_run-push seen (Ran one ∷ history) item = last_run-push (seen ++ one ∷ []) history item
-last_run-push seen (Restarted moment first ∷ history) item = last_run-push [] history item
-
-last-entries : (history : List Whole) (item : Item) → entries (last_run (history ++ Ran item ∷ [])) ≡ entries (last_run history) ++ entries (item ∷ [])
-last-entries history item = ap entries (last_run-push [] history item) ∙ entries-append (last_run history) (item ∷ [])
+  pub counted : AreCounted (count_since history) (entries added)
 
 add_tick : (history : List Whole) (items : List Item) (moment : ℕ) (next : World) → Adds (history ++ Ran (Tick moment) ∷ []) items next → Adds history (Tick moment ∷ items) next
 add_tick history items moment next a =
-    let count : length (entries (last_run (history ++ Ran (Tick moment) ∷ []))) ≡ length (entries (last_run history)) =
-    ap length (last-entries history (Tick moment) ∙ append-nil (entries (last_run history))) in
     record {
       added = Tick moment ∷ a.added;
       history_is = a.history_is ∙ append_assoc history (Ran (Tick moment) ∷ []) (map Ran a.added);
       same = (refl, a.same);
-      counted = subst (λ (n : ℕ). AreCounted n (entries a.added)) count a.counted;
+      counted = subst (λ (n : ℕ). AreCounted n (entries a.added)) (count-ticked history moment) a.counted;
     }
 
 add_step : (history : List Whole) (items : List Item) (entry other : shard.Entry) (next : World) → IsSameItem (Step entry) (Ran (Step other)) →
-    other.stamp ≡ length (entries (last_run history)) + 1 → other.pass ≡ 0 →
+    other.stamp ≡ count_since history + 1 → other.pass ≡ 0 →
     Adds (history ++ Ran (Step other) ∷ []) items next → Adds history (Step entry ∷ items) next
 add_step history items entry other next same stamp pass a =
-    let count : length (entries (last_run (history ++ Ran (Step other) ∷ []))) ≡ length (entries (last_run history)) + 1 =
-    ap length (last-entries history (Step other)) ∙ length-append (entries (last_run history)) (other ∷ []) in
     record {
       added = Step other ∷ a.added;
       history_is = a.history_is ∙ append_assoc history (Ran (Step other) ∷ []) (map Ran a.added);
       same = (same, a.same);
-      counted = (stamp, pass, subst (λ (n : ℕ). AreCounted n (entries a.added)) count a.counted);
+      counted = (stamp, pass, subst (λ (n : ℕ). AreCounted n (entries a.added)) (count-stepped history other) a.counted);
     }
 
 -- the world's entry of a call has the ruling of that entry, and leaves the same shard

@@ -8,20 +8,19 @@ use Rattle.wopi_model.specs.declared.calls.Act.TheVariants as act
 use Rattle.wopi_model.specs.declared.calls.Act.{Act}
 use Rattle.wopi_model.specs.declared.calls.Call.{Call}
 use Rattle.wopi_model.specs.declared.calls.Ruling.{Ruling}
-use Rattle.wopi_model.specs.declared.token.Token.{Token}
 use Rattle.wopi_model.specs.File.{opened_with}
 use Rattle.wopi_model.specs.declared.locks.Spent.{Spent}
 use Rattle.wopi_model.specs.Step.{bare}
 use Rattle.wopi_model.specs.Safety.{Presents, IsSpentUntil}
 use Rattle.wopi_model.specs.Shard.{Shard, Opening, Tick, at_moment, opening_file}
-use Rattle.wopi_model.specs.Shard as run
-use Rattle.wopi_world.specs.History.{Item, Ran, Restarted, IsAllowed, Along, BeginsNext, happens, after, opening_names, names_after}
+use Rattle.wopi_world.specs.History.{Item, Ran, Restarted, IsAllowed, Along, happens, after}
 use Rattle.wopi_model.proofs.Replacing.{keeps_contents}
 use Rattle.wopi_model.proofs.Conflicts.{tells_why}
 use Rattle.wopi_acts.specs.Answers.{ruling_told}
-use Rattle.wopi_world.proofs.Lengthening.{after-append, Along-append, Along-weaker}
-use Rattle.wopi_world.proofs.OneRun.{IsAfter, AreSpaced, spaced-push}
-use Rattle.wopi_world.proofs.Versions.{AreKnown, known-push, known-first, next_first_is}
+use Rattle.wopi_world.proofs.Lengthening.{Along-weaker}
+use Rattle.wopi_world.proofs.OneRun.{issued}
+use Rattle.wopi_world.proofs.Ids.{keeps_ids}
+use Rattle.wopi_world.proofs.Fairness.{answered_in, fair}
 use Rattle.save_session.specs.LockIds.{lock_id}
 use Rattle.save_session.specs.declared.state.State.{State}
 use Rattle.save_session.specs.declared.state.Effect.{Effect}
@@ -31,17 +30,17 @@ use Rattle.wopi_world.specs.Requests.{Client, input_of, act_sent, call_of, sent_
 use Rattle.save_session.specs.declared.input.Input.TheVariants.{Reply as Replies, NoAnswer}
 use Rattle.save_session.specs.Session.{stepped}
 use Rattle.save_session.proofs.Naming.{begins_with_nonce, same_nonce}
-use Rattle.wopi_world.specs.World.{Setting, Request, Reply, Member, World, first_shard, first_world, Event, Asks, Deliver, Answer, Lose, Foreign, Ticks, Entry, Restarts, Fault, Refused, next_first, ruling_in, next_stamp, entry_of, item_of, with_item, enters, delivered_by, delivered, replied, Ask, Unread, One, Copy, asks_one, is_taken, tries, foreign, takes, turns, for_client, is_asked, answers_sender, answers_place, answers, refuses, comes, run_from, run}
-use Rattle.wopi_world.specs.Valid.{IsOfNoSession, AskIsOfNoSession, IsIssuedBefore, IsValidEvent, AreValid, IsValid}
+use Rattle.wopi_world.specs.World.{Setting, Request, Reply, Member, World, first_shard, first_world, Event, Asks, Deliver, Answer, Lose, Foreign, Ticks, Entry, Restarts, Fault, Refused, next_first, ruling_in, next_stamp, entry_of, item_of, enters, delivered_by, delivered, replied, Ask, Unread, One, Copy, asks_one, is_taken, tries, foreign, takes, turns, for_client, is_asked, answers_sender, answers_place, answers, refuses, comes, run_from, run}
+use Rattle.wopi_world.specs.Valid.{IsOfNoSession, AskIsOfNoSession, IsValidEvent, AreValid, IsValid}
 use Rattle.wopi_world.specs.Safe.{IsSave, SavesAreOrdered, KeepsAll, TellsAll, IsSafe}
 use Rattle.wopi_world.proofs.Held.{WasHeld, held_id, own_number, under-settled, gone-settled}
 use Rattle.wopi_world.proofs.Acting.{IsReady, by_other, by_session}
-use Rattle.wopi_world.specs.Sessions.{IsDead, IsUse}
+use Rattle.wopi_world.specs.Sessions.{IsDead, KeepsIds}
 use Rattle.wopi_world.proofs.Moving.{own_file, HasMark, same_reopened}
 use Rattle.wopi_world.proofs.Positions.{Along-split, rising_lem, replaced_lem, over_lem, upon_save_lem, first_save_at}
-use Rattle.wopi_world.proofs.Lists.{get_new, all_at}
+use Rattle.wopi_world.proofs.Lists.{get_new}
 use Rattle.wopi_world.proofs.Machine.{WasHeldIn, ReplyHolds, OutcomeHolds, OutputHolds, TurnHolds, asked_holds, answered_holds, unanswered_holds}
-use Rattle.wopi_world.proofs.Growing.{WasSent, WasUsed, OpenedWith, Holds, holds-push, holds-reply, holds-other, holds-send, holds-tell}
+use Rattle.wopi_world.proofs.Growing.{WasSent, OpenedWith, Holds, holds-push, holds-reply, holds-other, holds-send, holds-tell}
 use Rattle.wopi_world.proofs.Replying.{ruling_allowed, reply_to_lock, reply_to_relock, conflict_with_next, reply_to_get}
 
 -- what holds of the session in the world
@@ -253,10 +252,6 @@ asked_only : (asked_for : Option ℕ) (place : ℕ) → is_asked asked_for place
 asked_only None place h = cc
 asked_only (Some own) place h = ap (λ (n : ℕ). Some n) (eqb-true own place h)
 
-abbrev answered_in : World → List ℕ → ℕ → Ruling → ℕ → World
-answered_in world nonce place ruling n =
-    cond (is_asked (world.members n).asked place) (turns world n (stepped nonce (world.members n).session (Replies (ruling_told ruling)))) world
-
 own_answered : (setting : Setting) (client : Client) (s : ℕ) (world : World) (p : ℕ) (reply : Reply) (place : ℕ) → IsKept setting client s world →
     slice_get world.replies p ≡ Some reply → reply.request ≡ Some place → IsKept setting client s (answered_in world client.nonce place reply.ruling s)
 own_answered setting client s world p reply place h e request =
@@ -374,15 +369,6 @@ refuses_holds setting client s world place status (Some one) a b h e =
     (λ r same. within world.requests place r one e same)
     (λ r op same get. bare_holds client (first_shard setting) world.shard world.history op status a b)
 
--- a token that was used was issued before the restart
-issued_by : (client : Client) (moment : ℕ) (item : Item) → IsIssuedBefore moment item → IsUse client item → client.token.issued < moment
-issued_by client moment (Ran (run.Tick other)) before use_ = absurd use_
-issued_by client moment (Ran (run.Step entry)) before use_ = let less = before use_.1 in subst (λ (t : Token). t.issued < moment) use_.0 less
-issued_by client moment (Restarted other first) before use_ = absurd use_
-
-issued : (client : Client) (moment : ℕ) (history : List Item) → AllByRecursion (IsIssuedBefore moment) history → WasUsed client history → client.token.issued < moment
-issued client moment history before used = issued_by client moment used.1 (all_at (IsIssuedBefore moment) history used.0 used.1 before used.2) used.3
-
 comes_holds : (setting : Setting) (events : List Event) → IsValid setting events → (client : Client) (s : ℕ) → slice_get setting.clients s ≡ Some client →
     (world : World) (event : Event) → IsValidEvent setting world event → IsKept setting client s world → IsKept setting client s (comes setting world event)
 comes_holds setting events valid client s own world (Asks t wish) v h =
@@ -462,112 +448,6 @@ first_holds setting client s =
       first = tt;
     }
 
--- the history alone
-
-record Fair (setting : Setting) (world : World) : Type 0 where
-  is_after : after (first_shard setting) world.history ≡ world.shard
-  allowed : Along IsAllowed (first_shard setting) world.history
-  begins : Along BeginsNext (first_shard setting) world.history
-  spaced : AreSpaced [] world.history
-  known : AreKnown world.shard (names_after (opening_names setting.opening) world.history)
-
-fair-item : (setting : Setting) (world : World) (item : Item) → Fair setting world → IsAllowed world.shard item → BeginsNext world.shard item → IsAfter world.history item → Fair setting (with_item world item)
-fair-item setting world item f allowed begins follows =
-    record {
-      is_after = after-append (first_shard setting) world.history (item ∷ []) ∙ ap (λ (x : Shard). happens x item) f.is_after;
-      allowed = Along-append IsAllowed (first_shard setting) world.history (item ∷ []) f.allowed (subst (λ (x : Shard). IsAllowed x item) (sym f.is_after) allowed, tt);
-      begins = Along-append BeginsNext (first_shard setting) world.history (item ∷ []) f.begins (subst (λ (x : Shard). BeginsNext x item) (sym f.is_after) begins, tt);
-      spaced = spaced-push [] world.history item f.spaced follows;
-      known = known-push world.shard (opening_names setting.opening) world.history item f.known;
-    }
-
-fair-enters : (setting : Setting) (world : World) (call : Call) (moment : ℕ) → Fair setting world → Fair setting (enters world call moment)
-fair-enters setting world call moment f =
-    let g = fair-item setting world (item_of world call moment) f (ruling_allowed world.faulty (at_moment world.shard moment) call) tt tt in
-    record { is_after = g.is_after; allowed = g.allowed; begins = g.begins; spaced = g.spaced; known = g.known }
-
-fair-takes : (setting : Setting) (world : World) (t : ℕ) (member : Member) (session : State) (output : Effect) → Fair setting world → Fair setting (takes world t member session output)
-fair-takes setting world t member session (Sends op) f = record { is_after = f.is_after; allowed = f.allowed; begins = f.begins; spaced = f.spaced; known = f.known }
-fair-takes setting world t member session (Tells outcome) f = record { is_after = f.is_after; allowed = f.allowed; begins = f.begins; spaced = f.spaced; known = f.known }
-fair-takes setting world t member session (Ignores input) f = f
-
-fair-client : (setting : Setting) (world : World) (found : Option Client) (body : Client → World) → Fair setting world → ((other : Client) → Fair setting (body other)) → Fair setting (for_client world found body)
-fair-client setting world None body f g = f
-fair-client setting world (Some other) body f g = g other
-
-fair-delivered_by : (setting : Setting) (world : World) (place moment : ℕ) (op : Sent) (found : Option Client) → Fair setting world → Fair setting (delivered_by world place moment op found)
-fair-delivered_by setting world place moment op None f = f
-fair-delivered_by setting world place moment op (Some other) f =
-    let g = fair-enters setting world (call_of other op) moment f in
-    record { is_after = g.is_after; allowed = g.allowed; begins = g.begins; spaced = g.spaced; known = g.known }
-
-fair-delivered : (setting : Setting) (world : World) (place moment : ℕ) (found : Option Request) → Fair setting world → Fair setting (delivered setting world place moment found)
-fair-delivered setting world place moment None f = f
-fair-delivered setting world place moment (Some one) f = fair-delivered_by setting world place moment one.op (slice_get setting.clients one.sender) f
-
-fair-one : (setting : Setting) (world : World) (call : Call) (moment before : ℕ) → Fair setting world → Fair setting (asks_one world call moment before)
-fair-one setting world call moment before f = let g = fair-enters setting world call moment f in record { is_after = g.is_after; allowed = g.allowed; begins = g.begins; spaced = g.spaced; known = g.known }
-
-fair-tries : (setting : Setting) (world : World) (calls : List Call) (moment before : ℕ) (last : Ruling) → Fair setting world → Fair setting (tries world calls moment before last)
-fair-tries setting world [] moment before last f = record { is_after = f.is_after; allowed = f.allowed; begins = f.begins; spaced = f.spaced; known = f.known }
-fair-tries setting world (call ∷ calls) moment before last f =
-    let more = fair-tries setting (enters world call moment) calls moment before (ruling_in world call moment) (fair-enters setting world call moment f) in
-    cond_both (is_taken (ruling_in world call moment).reason) (tries (enters world call moment) calls moment before (ruling_in world call moment)) (asks_one world call moment before)
-    (Fair setting) (λ e. more) (λ e. fair-one setting world call moment before f)
-
-fair-foreign : (setting : Setting) (world : World) (ask : Ask) (moment before : ℕ) → Fair setting world → Fair setting (foreign world ask moment before)
-fair-foreign setting world Unread moment before f = record { is_after = f.is_after; allowed = f.allowed; begins = f.begins; spaced = f.spaced; known = f.known }
-fair-foreign setting world (One call) moment before f = fair-one setting world call moment before f
-fair-foreign setting world (Copy look creates) moment before f =
-    cond_both ((ruling_in world look moment).status == 200) (tries (enters world look moment) creates moment before (bare 400)) (asks_one world look moment before)
-    (Fair setting) (λ e. fair-tries setting (enters world look moment) creates moment before (bare 400) (fair-enters setting world look moment f))
-    (λ e. fair-one setting world look moment before f)
-
-fair-sender : (setting : Setting) (world : World) (place : ℕ) (ruling : Ruling) (found : Option Request) → Fair setting world → Fair setting (answers_sender setting world place ruling found)
-fair-sender setting world place ruling None f = f
-fair-sender setting world place ruling (Some one) f =
-    let member = world.members one.sender in
-    fair-client setting world (slice_get setting.clients one.sender) (λ other. answered_in world other.nonce place ruling one.sender) f
-    (λ other.
-    let turn = stepped other.nonce member.session (Replies (ruling_told ruling)) in
-    cond_both (is_asked member.asked place) (turns world one.sender turn) world (Fair setting)
-    (λ e. fair-takes setting world one.sender member turn.session turn.effect f) (λ e. f))
-
-fair-place : (setting : Setting) (world : World) (ruling : Ruling) (place : Option ℕ) → Fair setting world → Fair setting (answers_place setting world ruling place)
-fair-place setting world ruling None f = f
-fair-place setting world ruling (Some place) f = fair-sender setting world place ruling (slice_get world.requests place) f
-
-fair-answers : (setting : Setting) (world : World) (found : Option Reply) → Fair setting world → Fair setting (answers setting world found)
-fair-answers setting world None f = f
-fair-answers setting world (Some reply) f = fair-place setting world reply.ruling reply.request f
-
-fair-refuses : (setting : Setting) (world : World) (place status : ℕ) (found : Option Request) → Fair setting world → Fair setting (refuses world place status found)
-fair-refuses setting world place status None f = f
-fair-refuses setting world place status (Some one) f = record { is_after = f.is_after; allowed = f.allowed; begins = f.begins; spaced = f.spaced; known = f.known }
-
-fair-comes : (setting : Setting) (world : World) (event : Event) → IsValidEvent setting world event → Fair setting world → Fair setting (comes setting world event)
-fair-comes setting world (Asks t wish) v f =
-    let turn = λ (c : Client). stepped c.nonce (world.members t).session (input_of wish) in
-    fair-client setting world (slice_get setting.clients t) (λ other. turns world t (turn other)) f
-    (λ other. fair-takes setting world t (world.members t) (turn other).session (turn other).effect f)
-fair-comes setting world (Deliver place moment) v f = fair-delivered setting world place moment (slice_get world.requests place) f
-fair-comes setting world (Answer p) v f = fair-answers setting world (slice_get world.replies p) f
-fair-comes setting world (Lose t) v f =
-    let turn = λ (c : Client). stepped c.nonce (world.members t).session NoAnswer in
-    fair-client setting world (slice_get setting.clients t) (λ other. turns world t (turn other)) f
-    (λ other. fair-takes setting world t (world.members t) (turn other).session (turn other).effect f)
-fair-comes setting world (Foreign ask moment) v f = fair-foreign setting world ask moment (length world.history) f
-fair-comes setting world (Ticks moment) v f = fair-item setting world (Ran (Tick moment)) f tt tt tt
-fair-comes setting world (Entry call moment) v f = fair-enters setting world call moment f
-fair-comes setting world (Restarts moment) v f =
-    fair-item setting world (Restarted moment (next_first setting world)) f v.0 (next_first_is world.shard (names_after (opening_names setting.opening) world.history) f.known) v.1
-fair-comes setting world Fault v f = record { is_after = f.is_after; allowed = f.allowed; begins = f.begins; spaced = f.spaced; known = f.known }
-fair-comes setting world (Refused place status) v f = fair-refuses setting world place status (slice_get world.requests place) f
-
-fair-run : (setting : Setting) (world : World) (events : List Event) → AreValid setting world events → Fair setting world → Fair setting (run_from setting world events)
-fair-run setting world [] v f = f
-fair-run setting world (event ∷ events) v f = fair-run setting (comes setting world event) events v.1 (fair-comes setting world event v.0 f)
-
 -- the whole
 
 ordered : (setting : Setting) (client : Client) (s : ℕ) (world : World) → IsKept setting client s world →
@@ -596,15 +476,22 @@ tells_all : (shard : Shard) (item : Item) → IsAllowed shard item → TellsAll 
 tells_all shard (Ran item) allowed = tells_why shard item allowed
 tells_all shard (Restarted moment first) allowed = tt
 
+kept_in : (setting : Setting) (events : List Event) → IsValid setting events → (client : Client) (s : ℕ) → slice_get setting.clients s ≡ Some client → IsKept setting client s (run setting events)
+kept_in setting events valid client s own = run_holds setting events valid client s own (first_world setting) events valid.each (first_holds setting client s)
+
 pub safe_lem : (setting : Setting) (events : List Event) → IsValid setting events → IsSafe setting (run setting events)
 safe_lem setting events valid =
-    let fair = fair-run setting (first_world setting) events valid.each
-    (record { is_after = refl; allowed = tt; begins = tt; spaced = tt; known = known-first setting.opening setting.opened setting.first }) in
+    let f = fair setting events valid in
     let world = run setting events in
     let start = first_shard setting in
     record {
-      kept = Along-weaker IsAllowed KeepsAll keeps_all start world.history fair.allowed;
-      risen = fair.begins;
-      told_why = Along-weaker IsAllowed TellsAll tells_all start world.history fair.allowed;
-      saves = λ s client own. ordered setting client s world (run_holds setting events valid client s own (first_world setting) events valid.each (first_holds setting client s));
+      kept = Along-weaker IsAllowed KeepsAll keeps_all start world.history f.allowed;
+      risen = f.begins;
+      told_why = Along-weaker IsAllowed TellsAll tells_all start world.history f.allowed;
+      saves = λ s client own. ordered setting client s world (kept_in setting events valid client s own);
     }
+
+pub keeps_ids_lem : (setting : Setting) (events : List Event) (s : ℕ) (client : Client) → IsValid setting events → slice_get setting.clients s ≡ Some client →
+    KeepsIds client (first_shard setting) (run setting events).history
+keeps_ids_lem setting events s client valid own =
+    let world = run setting events in keeps_ids client (first_shard setting) world.shard world.history (kept_in setting events valid client s own).ground

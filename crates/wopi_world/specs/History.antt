@@ -40,6 +40,7 @@ IsAllowed shard (Restarted moment first) = shard.now < moment
 
 -- the number is one more than the greatest of `first - 1` and all versions
 pub record IsNextFirst (shard : Shard) (next : ℕ) : Type 0 where
+  pub least : shard.first - 1 < next
   pub above : (name : List ℕ) → (shard.files name).version < next
   pub reached : (next ≡ shard.first - 1 + 1) ⊎ ((name : List ℕ) × (next ≡ (shard.files name).version + 1))
 

@@ -1,0 +1,8 @@
+use Rattle.wopi_world.proofs.Fairness.{fair, legal_lem}
+use Rattle.wopi_world.proofs.laws.worlds_are_legal.Goals as goal
+
+pub returns-clause-legal : goal.returns-clause-legal
+returns-clause-legal c = legal_lem
+
+pub returns-clause-leaves : goal.returns-clause-leaves
+returns-clause-leaves c setting events valid = (fair setting events valid).is_after
