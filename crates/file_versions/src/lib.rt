@@ -107,6 +107,7 @@ impl Versions {
         ensures full { IfErr result (λ fault. IsKeptFull fault → most_kept < kept_in self.old.list + length contents) }
         ensures memory { IfErr result (λ fault. IsMemory fault → self.old.spare ≡ 0) }
         ensures spare { self.old.spare ≤ self.new.spare + 1 }
+        ensures unspent { OnErr result (self.old.spare ≤ self.new.spare) }
     {
         let len = contents.as_slice().len() as u64;
         if len > MOST_KEPT - self.kept {
