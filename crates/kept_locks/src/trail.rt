@@ -1,5 +1,5 @@
 //! The ids that were spent on one file.
-ghost use Rattle.std.specs.Prelude.{◌≡◌, ◌⊎◌, ◌+◌, ◌≤◌, ◌<◌, ◌∷◌, None, true};
+ghost use Rattle.std.specs.Prelude.{◌≡◌, ◌⊎◌, ◌+◌, ◌≤◌, ◌<◌, ◌∷◌, max, None, true};
 ghost use Rattle.expiry_queue.specs.Chains.{IsLive};
 ghost use Rattle.std.specs.HashMap.{spare};
 ghost use Rattle.wopi_model.specs.Act.{is_spent};
@@ -26,6 +26,7 @@ fn step_to(chains: &mut SpentChains, trail: Trail, now: u64) -> Trail
     requires live { IsLive chains.old trail.chain }
     ensures goes { Goes chains.old chains.new trail result (still_spent (shown_of chains.old trail) now) }
     ensures tells { TellsOn chains.old chains.new trail result }
+    ensures as_of { result.as_of ≡ max trail.as_of now }
     ensures spare { chains.new.spare ≡ chains.old.spare }
 {
     if trail.purged && now < trail.as_of {
@@ -49,6 +50,7 @@ fn ready_for(chains: &mut SpentChains, trail: Trail, until: u64) -> Trail
     requires live { IsLive chains.old trail.chain }
     ensures goes { Goes chains.old chains.new trail result (shown_of chains.old trail) }
     ensures tells { TellsOn chains.old chains.new trail result }
+    ensures as_of { result.as_of ≡ trail.as_of }
     ensures fits { (result.purged ≡ true) ⊎ (result.as_of < until) }
     ensures spare { chains.new.spare ≡ chains.old.spare }
 {
@@ -77,6 +79,7 @@ pub fn spend_on(
     requires tells { Tells (refused_by index.old file) chains.old trail }
     ensures goes { Goes chains.old chains.new trail result (one ∷ shown_of chains.old trail) }
     ensures tells { Tells (refused_by index.new file) chains.new result }
+    ensures as_of { result.as_of ≡ trail.as_of }
     ensures others { OthersStay index.old index.new file }
     ensures spare { chains.new.spare + 1 ≡ chains.old.spare }
     ensures room { spare index.old ≤ spare index.new + 1 }
@@ -106,6 +109,7 @@ pub fn spend_now(
     requires tells { Tells (refused_by index.old file) chains.old trail }
     ensures goes { Goes chains.old chains.new trail result (with_spent spend (still_spent (shown_of chains.old trail) now)) }
     ensures tells { Tells (refused_by index.new file) chains.new result }
+    ensures as_of { result.as_of ≡ max trail.as_of now }
     ensures others { OthersStay index.old index.new file }
     ensures spare { chains.old.spare ≤ chains.new.spare + 1 }
     ensures room { spare index.old ≤ spare index.new + 1 }

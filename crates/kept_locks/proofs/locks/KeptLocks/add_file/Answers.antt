@@ -1,5 +1,17 @@
+use Rattle.std.proofs.Common.{◌≡◌, ap, ◌∙◌}
+use Rattle.kept_locks.specs.Locks.{Locks}
 use Rattle.kept_locks.proofs.Indexing.{tied_added}
+use Rattle.kept_locks.proofs.Latest.{latest_added, still_chained}
 use Rattle.kept_locks.proofs.locks.KeptLocks.add_file.Goals as goal
 
 pub invariant_of-self : goal.invariant_of-self
 invariant_of-self c = tied_added c.self.inside.places.items c.add_place.new.places.items c.self.inside.queue c.self.inside.chains c.self.inside.index c.in-Ok.ensures.ok c.self.invariant
+
+pub returns-in-Ok-clause-latest : goal.returns-in-Ok-clause-latest
+returns-in-Ok-clause-latest c = latest_added c.self.inside.places.items c.add_place.new.places.items c.in-Ok.ensures.ok ∙ ap (λ (l : Locks). l.latest) c.self.view_is
+
+pub returns-in-Ok-clause-chains : goal.returns-in-Ok-clause-chains
+returns-in-Ok-clause-chains c = still_chained c.self.inside.chains c.add_place.new.places.items
+
+pub returns-in-Err-clause-chains : goal.returns-in-Err-clause-chains
+returns-in-Err-clause-chains c = still_chained c.self.inside.chains c.add_place.new.places.items
