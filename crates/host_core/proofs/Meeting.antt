@@ -13,7 +13,7 @@ use Rattle.wopi_model.specs.declared.locks.Spent.{Spent}
 use Rattle.wopi_text.proofs.Disjunctions.{or_none}
 use Rattle.file_versions.specs.declared.Version.{Version}
 use Rattle.file_versions.specs.Places.{IsFirst, first_of}
-use Rattle.kept_locks.specs.Locks.{Standing, Locks, unlocked, ended_at, all_ended}
+use Rattle.kept_locks.specs.Locks.{Standing, Locks, AreChained, unlocked, ended_at, all_ended}
 use Rattle.kept_locks.specs.Ties.{BeganBy}
 use Rattle.host_core.specs.declared.accept.Carried.{Carried}
 use Rattle.host_core.specs.declared.carry.Uncarried.{Uncarried}
@@ -26,9 +26,9 @@ use Rattle.host_core.specs.Files.{file_of, files_of, torn_in, is_named}
 use Rattle.host_core.specs.Numbers.{named, IsNumbered, AreLocked}
 use Rattle.name_index.specs.Index.{number_of}
 use Rattle.std.proofs.lemmas.List.{length-map}
-use Rattle.host_core.proofs.Turning.{began_ended}
+use Rattle.host_core.proofs.Turning.{began_ended, as_of_later}
 use Rattle.host_core.specs.Steps.{Moves, Stops, StepsAll, StopsAll, IsNoRoomFor, IsRoomFor}
-use Rattle.host_core.specs.Turns.{Turns}
+use Rattle.host_core.specs.Turns.{Turns, AreAsOf}
 use Rattle.host_core.specs.Whole.{Whole, whole, seen, standing_at, joined}
 use Rattle.host_core.proofs.Joining.{files_ended, joined_as, joined_put, joined_push, names_joined, long_joined, get_joined, stands_ended, stocked_any}
 use Rattle.host_core.proofs.Leaving.{none_place}
@@ -84,7 +84,7 @@ locked_turn files files' old new place time now locked lt long turns = record {
   beyond = λ number le.
       let le' : length files ≤ number = omega (arith, le, long) in
       turns.others number (λ e. absurd (omega (arith, e, lt, le'))) ∙ ap (ended_at now) (locked.beyond number le');
-  began = turns.began;
+  as_of = turns.as_of;
 }
 
 pub locked_push : (files : List KeptFile) (k : KeptFile) (old new : Locks) (now : ℕ) → ((number : ℕ) → length files ≤ number → standing_at old.files number ≡ unlocked) → length files < length old.files
@@ -96,7 +96,7 @@ locked_push files k old new now beyond room turns =
       beyond = λ number le.
           let le' : length files ≤ number = omega (arith, le, more) in
           turns.others number (λ e. absurd (omega (arith, e, le, more))) ∙ ap (ended_at now) (beyond number le');
-      began = turns.began;
+      as_of = turns.as_of;
     }
   where
     long_push : (files : List KeptFile) (k : KeptFile) → length (files ++ k ∷ []) ≡ length files + 1
@@ -170,15 +170,19 @@ locked_skip files old new number now beyond room at bare turns = record {
     | inl same ↦ ap (standing_at new.files) same.1 ∙ bare
     | inr other ↦ turns.others n other.1 ∙ ap (ended_at now) (beyond n le)
   ];
-  began = turns.began;
+  as_of = turns.as_of;
 }
 
 -- the locks when time goes on
-pub locked_ended : (files : List KeptFile) (old new : Locks) (time later : ℕ) → AreLocked files old time → time ≤ later → new.files ≡ all_ended later old.files → AreLocked files new later
-locked_ended files old new time later locked le is = record {
+pub locked_ended : (files : List KeptFile) (old new : Locks) (time later : ℕ) → AreLocked files old time → time ≤ later → new.files ≡ all_ended later old.files → new.latest ≤ old.latest → AreChained new → AreLocked files new later
+locked_ended files old new time later locked le is fell chains = record {
   long = let more = locked.long in let same : length new.files ≡ length old.files = ap (λ (l : List Standing). length l) is ∙ length-map old.files (ended_at later) in omega (arith, more, same);
   beyond = λ n lt. ap (λ (l : List Standing). standing_at l n) is ∙ stands_ended later old.files n ∙ ap (ended_at later) (locked.beyond n lt);
-  began = subst (BeganBy later) (sym is) (began_ended old.files later later (λ n s lock at held. let by = locked.began n s lock at held in omega (arith, by, le)));
+  as_of = record {
+    began = subst (BeganBy later) (sym is) (began_ended old.files later later (as_of_later old time later locked.as_of le).began);
+    stepped = let by = locked.as_of.stepped in omega (arith, by, le, fell);
+    chains = chains;
+  };
 }
 
 -- a name's number is the place of its file
@@ -197,12 +201,12 @@ fresh_name files ss index name other numbered none same =
 pub joined_more : (files files' : List KeptFile) (old new : Locks) → files' ≡ files → ((n : ℕ) → standing_at new.files n ≡ standing_at old.files n) → joined files' new.files ≡ joined files old.files
 joined_more files files' old new e stands = ap (λ (f : List KeptFile). joined f new.files) e ∙ joined_as files new.files old.files (λ n lt. stands n)
 
-pub locked_more : (files files' : List KeptFile) (old new : Locks) (time : ℕ) → files' ≡ files → ((n : ℕ) → standing_at new.files n ≡ standing_at old.files n) → ((t : ℕ) → BeganBy t old.files → BeganBy t new.files)
+pub locked_more : (files files' : List KeptFile) (old new : Locks) (time : ℕ) → files' ≡ files → ((n : ℕ) → standing_at new.files n ≡ standing_at old.files n) → ((t : ℕ) → AreAsOf t old → AreAsOf t new)
     → length old.files ≤ length new.files → AreLocked files old time → AreLocked files' new time
-locked_more files files' old new time e stands began longer locked = subst (λ (f : List KeptFile). AreLocked f new time) (sym e) (record {
+locked_more files files' old new time e stands as_of longer locked = subst (λ (f : List KeptFile). AreLocked f new time) (sym e) (record {
   long = let more = locked.long in omega (arith, more, longer);
   beyond = λ n le. stands n ∙ locked.beyond n le;
-  began = began time locked.began;
+  as_of = as_of time locked.as_of;
 })
 
 -- nothing was done
@@ -258,7 +262,7 @@ pub locked_same : (files files' : List KeptFile) (old new : Locks) (time : ℕ) 
 locked_same files files' old new time long same locked = subst (λ (l : Locks). AreLocked files' l time) (sym same) (record {
   long = let le = locked.long in omega (arith, le, long);
   beyond = λ n le. locked.beyond n (omega (arith, le, long));
-  began = locked.began;
+  as_of = locked.as_of;
 })
 
 -- the room for a call is the same once the locks have ended

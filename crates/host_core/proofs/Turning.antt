@@ -12,9 +12,9 @@ use Rattle.wopi_model.specs.LockTable.{lock_after, spent_by, verdict, judged, is
 use Rattle.wopi_model.specs.declared.locks.Judged.{Judged}
 use Rattle.wopi_model.specs.Moment.{lock_life}
 use Rattle.wopi_model.specs.Settle.{standing, is_over}
-use Rattle.kept_locks.specs.Locks.{Standing, unlocked, ended_at, all_ended, stepped, with_lock}
+use Rattle.kept_locks.specs.Locks.{Standing, Locks, unlocked, ended_at, all_ended, stepped, with_lock}
 use Rattle.kept_locks.specs.Ties.{BeganBy, GoesOn, Spends}
-use Rattle.host_core.specs.Turns.{LockFollows, SpendsOf, Ends, AllStand}
+use Rattle.host_core.specs.Turns.{LockFollows, SpendsOf, Ends, AllStand, AreAsOf}
 use Rattle.host_core.specs.Whole.{standing_at}
 use Rattle.host_core.proofs.Joining.{stands_at, stands_ended}
 
@@ -205,3 +205,11 @@ stand_set ss number lock spend now lt stands all other = elim (eqb_tells other n
 pub stand_same : (old new : List Standing) (time : ℕ) → ((n : ℕ) → standing_at new n ≡ standing_at old n) → AllStand time old → AllStand time new
 stand_same old new time same all number =
     ap (λ (s : Standing). standing s.lock time) (same number) ∙ all number ∙ sym (ap (λ (s : Standing). s.lock) (same number))
+
+-- the same locks at a later moment
+pub as_of_later : (locks : Locks) (time later : ℕ) → AreAsOf time locks → time ≤ later → AreAsOf later locks
+as_of_later locks time later as_of le = record {
+  began = λ n s lock at held. let by = as_of.began n s lock at held in omega (arith, by, le);
+  stepped = let by = as_of.stepped in omega (arith, by, le);
+  chains = as_of.chains;
+}

@@ -3,16 +3,23 @@ use Rattle.std.specs.Prelude.{◌≡◌, ◌≢◌, ◌⊎◌, ⊤, ℕ, ◌+◌
 use Rattle.wopi_model.specs.declared.locks.Lock.{Lock}
 use Rattle.wopi_model.specs.declared.locks.Spent.{Spent}
 use Rattle.wopi_model.specs.Settle.{standing}
-use Rattle.kept_locks.specs.Locks.{Standing, Locks, ended_at}
+use Rattle.kept_locks.specs.Locks.{Standing, Locks, AreChained, ended_at}
 use Rattle.kept_locks.specs.Ties.{BeganBy}
 use Rattle.host_core.specs.Whole.{standing_at}
 use Rattle.host_core.specs.declared.held.Effect.{Effect}
+
+-- The locks as of a moment: no lock began and no file was stepped later. So each file's chain, without the ids that are over
+-- at that moment, is its spent list without those.
+pub record AreAsOf (now : ℕ) (locks : Locks) : Type 0 where
+  pub began : BeganBy now locks.files
+  pub stepped : locks.latest ≤ now
+  pub chains : AreChained locks
 
 -- a file may be stepped
 pub record MayStep (locks : Locks) (number now : ℕ) : Type 0 where
   pub here : number < length locks.files
   pub spare : 1 ≤ locks.spare
-  pub began : BeganBy now locks.files
+  pub as_of : AreAsOf now locks
 
 -- a lock that began now, or goes on from when the old one began
 abbrev pub LockFollows : Option Lock → Option Lock → ℕ → Type 0
@@ -39,6 +46,6 @@ AllStand now files = (number : ℕ) → standing (standing_at files number).lock
 pub record Turns (old new : Locks) (number now : ℕ) : Type 0 where
   pub others : (other : ℕ) → other ≢ number → standing_at new.files other ≡ ended_at now (standing_at old.files other)
   pub long : length new.files ≡ length old.files
-  pub began : BeganBy now new.files
+  pub as_of : AreAsOf now new
   pub stand : AllStand now new.files
   pub spare : old.spare ≤ new.spare + 1

@@ -1,6 +1,7 @@
 //! What a shard takes in advance, so that its steps needn't take it.
 ghost use Rattle.std.specs.Prelude.{◌≡◌, ◌≤◌, [], IfOk, OnOk, ℕ, List, length, vec_capacity};
 ghost use Rattle.kept_locks.specs.Locks.{unlocked};
+ghost use Rattle.host_core.specs.Turns.{AreAsOf};
 ghost use Rattle.host_core.specs.Whole.{standing_at};
 
 use crate::entry::Entry;
@@ -20,7 +21,9 @@ pub struct Room {
 /// Adds places for files that were never locked.
 fn add_files(locks: &mut KeptLocks, files: usize) -> Result<(), Memory>
     requires none { (number : ℕ) → standing_at locks.old.files number ≡ unlocked }
+    requires as_of { AreAsOf 0 locks.old }
     ensures none { (number : ℕ) → standing_at locks.new.files number ≡ unlocked }
+    ensures as_of { AreAsOf 0 locks.new }
     ensures long { OnOk result (files ≤ length locks.new.files) }
     ensures spare { locks.new.spare ≡ locks.old.spare }
 {
@@ -42,6 +45,7 @@ pub fn take_room(
     ensures shelf { OnOk result (capacity ≤ versions.new.spare) }
     ensures list { versions.new.list ≡ versions.old.list }
     ensures none { IfOk result (λ room. (number : ℕ) → standing_at room.locks.files number ≡ unlocked) }
+    ensures as_of { IfOk result (λ room. AreAsOf 0 room.locks) }
     ensures long { IfOk result (λ room. files ≤ length room.locks.files) }
     ensures spare { IfOk result (λ room. capacity ≤ room.locks.spare) }
     ensures entries { IfOk result (λ room. room.entries.items ≡ []) }

@@ -13,6 +13,7 @@ ghost use Rattle.host_core.specs.Entries.{history_of, back_of};
 ghost use Rattle.host_core.specs.Files.{files_of, torn_in};
 ghost use Rattle.host_core.specs.Ledger.{IsFullFault, handed_back};
 ghost use Rattle.host_core.specs.Memory.{takes_no_memory};
+ghost use Rattle.host_core.specs.Turns.{AreAsOf};
 ghost use Rattle.host_core.specs.Opening.{IsOfShard, IsOpening, Fits, IsTooLarge, IfTooLarge};
 
 use crate::entry::Entry;
@@ -64,9 +65,10 @@ impl<F: Folder> Model for Shard<F> {
 
     ghost view = { book_of };
 
+    ghost use Rattle.host_core.specs.Chains.{KeepsChains};
     ghost use Rattle.host_core.specs.Ledger.{files_in, IsTied};
 
-    ghost invariant = { λ s. Stands (book_of s) s.ledger.last s.ledger.first_files (files_in s.ledger) s.ledger.versions.list (F.files s.start.value) (F.files s.folder) (F.faults s.start.value) (F.faults s.folder) × IsTied s.ledger };
+    ghost invariant = { λ s. Stands (book_of s) s.ledger.last s.ledger.first_files (files_in s.ledger) s.ledger.versions.list (F.files s.start.value) (F.files s.folder) (F.faults s.start.value) (F.faults s.folder) × IsTied s.ledger × KeepsChains s.ledger (book_of s) };
 }
 
 impl<F: Folder> Shard<F> {
@@ -262,6 +264,7 @@ impl<F: Folder> Shard<F> {
         requires capacity { capacity ≤ 32768 }
         requires stock { IsStock stock }
         requires none { (number : ℕ) → standing_at room.locks.files number ≡ unlocked }
+        requires as_of { AreAsOf 0 room.locks }
         requires long { length stock.files.items ≤ length room.locks.files }
         requires spare { capacity ≤ room.locks.spare }
         requires shelf { capacity ≤ stock.versions.spare }

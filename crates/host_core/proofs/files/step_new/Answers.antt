@@ -60,7 +60,7 @@ step_file-requires-clause-ready g c =
     let room = c.in-Ok.ensures.room in
     let spare = c.requires.spare in
     let same = c.make_place.ensures.spare in
-    record { here = omega (arith, room, at); spare = omega (arith, spare, same); began = c.make_place.ensures.began c.args.now c.requires.locked.began }
+    record { here = omega (arith, room, at); spare = omega (arith, spare, same); as_of = c.make_place.ensures.as_of c.args.now c.requires.locked.as_of }
 
 pub returns-in-Err-clause-err : goal.returns-in-Err-clause-err
 returns-in-Err-clause-err g c =
@@ -69,7 +69,7 @@ returns-in-Err-clause-err g c =
 
 pub returns-in-Err-clause-stays : goal.returns-in-Err-clause-stays
 returns-in-Err-clause-stays g c = λ time locked.
-    locked_more c.args.files.now.items c.make_place.new.files.items c.args.locks.now c.make_place.new.locks time c.make_place.ensures.files c.make_place.ensures.stands c.make_place.ensures.began c.make_place.ensures.longer locked
+    locked_more c.args.files.now.items c.make_place.new.files.items c.args.locks.now c.make_place.new.locks time c.make_place.ensures.files c.make_place.ensures.stands c.make_place.ensures.as_of c.make_place.ensures.longer locked
 
 pub returns-in-Err-clause-numbered : goal.returns-in-Err-clause-numbered
 returns-in-Err-clause-numbered g c =
@@ -221,7 +221,7 @@ returns-in-Err-step_file-clause-err g c =
 pub returns-in-Err-step_file-clause-stays : goal.returns-in-Err-step_file-clause-stays
 returns-in-Err-step_file-clause-stays g c = λ time locked.
     subst (λ l. AreLocked c.make_place.new.files.items l time) (sym c.in-Err-step_file.ensures.same)
-    (locked_more c.args.files.now.items c.make_place.new.files.items c.args.locks.now c.make_place.new.locks time c.make_place.ensures.files c.make_place.ensures.stands c.make_place.ensures.began c.make_place.ensures.longer locked)
+    (locked_more c.args.files.now.items c.make_place.new.files.items c.args.locks.now c.make_place.new.locks time c.make_place.ensures.files c.make_place.ensures.stands c.make_place.ensures.as_of c.make_place.ensures.longer locked)
 
 pub returns-in-Err-step_file-clause-numbered : goal.returns-in-Err-step_file-clause-numbered
 returns-in-Err-step_file-clause-numbered g c =

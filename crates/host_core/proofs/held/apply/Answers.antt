@@ -17,7 +17,7 @@ set-requires-clause-number c =
 pub set-requires-clause-since : goal.set-requires-clause-since
 set-requires-clause-since c =
     subst (λ (l : List Standing). GoesOn l c.args.number c.args.effect.lock) (sym c.settle.ensures.files)
-    (goes_on c.args.locks.now.files c.args.number c.args.now c.args.effect.lock c.requires.ready.here c.requires.ready.began c.requires.ends.lock)
+    (goes_on c.args.locks.now.files c.args.number c.args.now c.args.effect.lock c.requires.ready.here c.requires.ready.as_of.began c.requires.ends.lock)
 
 pub set-requires-clause-spend : goal.set-requires-clause-spend
 set-requires-clause-spend c =
@@ -37,14 +37,21 @@ returns c =
     c.set.ensures.files ∙ ap (λ (l : List Standing). with_lock l number effect.lock effect.spend c.args.now) c.settle.ensures.files in
     let settled = c.settle.ensures.spare in
     let set = c.set.ensures.spare in
+    let by = c.requires.ready.as_of.stepped in
+    let fell = c.settle.ensures.latest in
+    let rose = c.set.ensures.latest in
     record {
       standing = ap (λ (l : List Standing). standing_at l number) is ∙ stands_set mid number effect.lock effect.spend c.args.now lt'
           ∙ ap (stepped effect.lock effect.spend c.args.now) (stands_ended c.args.now old number);
       turns = record {
         others = λ other differ. ap (λ (l : List Standing). standing_at l other) is ∙ stands_beside mid number effect.lock effect.spend c.args.now other differ ∙ stands_ended c.args.now old other;
         long = ap (λ (l : List Standing). length l) is ∙ long_set mid number effect.lock effect.spend c.args.now ∙ same;
-        began = subst (BeganBy c.args.now) (sym is) (began_set mid number effect.lock effect.spend c.args.now (began_ended old c.args.now c.args.now c.requires.ready.began)
-            (new_by old number c.args.now effect.lock lt c.requires.ready.began c.requires.ends.lock));
+        as_of = record {
+          began = subst (BeganBy c.args.now) (sym is) (began_set mid number effect.lock effect.spend c.args.now (began_ended old c.args.now c.args.now c.requires.ready.as_of.began)
+              (new_by old number c.args.now effect.lock lt c.requires.ready.as_of.began c.requires.ends.lock));
+          stepped = omega (arith, by, fell, rose);
+          chains = c.set.ensures.chains;
+        };
         stand = subst (AllStand c.args.now) (sym is) (stand_set mid number effect.lock effect.spend c.args.now lt'
             (follower_stands (standing_at old number).lock effect.lock c.args.now c.requires.ends.lock) (stand_ended old c.args.now));
         spare = omega (arith, settled, set);

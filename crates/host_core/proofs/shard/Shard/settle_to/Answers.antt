@@ -1,7 +1,6 @@
 use Rattle.std.proofs.Common.{◌≡◌, ◌≤◌, ℕ, List, length, refl, subst, sym, ap, ◌∙◌, arith}
 use Rattle.std.proofs.lemmas.List.{length-map}
 use Rattle.kept_locks.specs.Locks.{Standing, all_ended, ended_at, unlocked}
-use Rattle.kept_locks.specs.Ties.{BeganBy}
 use Rattle.host_core.specs.Turns.{AllStand}
 use Rattle.host_core.specs.Whole.{Whole, standing_at, joined}
 use Rattle.host_core.specs.Archive.{IsArchive}
@@ -10,6 +9,8 @@ use Rattle.host_core.specs.Ledger.{files_in, IsTied}
 use Rattle.host_core.specs.Value.{Reflects, Agrees, Stands}
 use Rattle.host_core.specs.ShardView.{book_of}
 use Rattle.file_versions.specs.Versions.{kept_in}
+use Rattle.host_core.specs.declared.ledger.Ledger.{Ledger}
+use Rattle.host_core.proofs.Chaining.{with_chains}
 use Rattle.host_core.proofs.Standing.{lawful, stands-tick}
 use Rattle.host_core.proofs.Meeting.{locked_ended}
 use Rattle.host_core.proofs.Turning.{stand_ended}
@@ -24,18 +25,19 @@ invariant_of-self g c =
     let tied = c.self.invariant.1 in
     let more = c.settle.ensures.spare in
     let spare = tied.spare in
-    let shelf = tied.shelf in (
-      stands-tick (book_of inside) ledger (files inside.start.value) (files inside.folder) (faults inside.start.value) (faults inside.folder) c.args.moment
-          _ _ _ c.requires c.max-self-inside.ensures c.settle.ensures.files c.of.ensures c.self.invariant.0,
-      record {
-        numbered = tied.numbered;
-        locked = locked_ended ledger.files.items ledger.locks _ ledger.time _ tied.locked (let is = c.max-self-inside.ensures in omega (arith, is)) c.settle.ensures.files;
-        stand = subst (AllStand c.max-self-inside.result) (sym c.settle.ensures.files) (stand_ended ledger.locks.files c.max-self-inside.result);
-        spare = omega (arith, more, spare);
-        shelf = shelf;
-        slots = tied.slots;
-      },
-    )
+    let shelf = tied.shelf in
+    let after : Ledger = record ledger { time = c.max-self-inside.result; locks = c.settle.new.self } in
+    with_chains after (record (book_of inside) { time = c.max-self-inside.result; ticked = c.of.result.value }) (files inside.start.value) (files inside.folder) (faults inside.start.value) (faults inside.folder) refl (
+    stands-tick (book_of inside) ledger (files inside.start.value) (files inside.folder) (faults inside.start.value) (faults inside.folder) c.args.moment
+    _ _ _ c.requires c.max-self-inside.ensures c.settle.ensures.files c.of.ensures c.self.invariant.0
+    ) (record {
+      numbered = tied.numbered;
+      locked = locked_ended ledger.files.items ledger.locks _ ledger.time _ tied.locked (let is = c.max-self-inside.ensures in omega (arith, is)) c.settle.ensures.files c.settle.ensures.latest c.settle.ensures.chains;
+      stand = subst (AllStand c.max-self-inside.result) (sym c.settle.ensures.files) (stand_ended ledger.locks.files c.max-self-inside.result);
+      spare = omega (arith, more, spare);
+      shelf = shelf;
+      slots = tied.slots;
+    })
 
 pub returns-clause-lawful : goal.returns-clause-lawful
 returns-clause-lawful g c =
