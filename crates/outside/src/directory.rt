@@ -7,14 +7,18 @@ use crate::reading::read_up_to;
 use crate::{Failed, Folder, FolderRead, Names, OutFault};
 use std::alloc::Global;
 use std::collections::BTreeSet;
-use std::fs::{self, File, Metadata, OpenFile};
+use std::fs::{self, File, Metadata, OpenFile, OpenOptions};
 use std::io::{self, ErrorKind, Write};
+use std::os::unix::fs::{OpenOptionsExt, PermissionsExt};
 use std::rt::Files;
 use wopi_text::{Bytes, Memory};
 
 // The most bytes of a file's name: beside it `.{name}.tmp` has to be a name too, and the systems'
 // limit is 255.
 const LONGEST_NAME: usize = 250;
+
+// The permission bits of a file that replaces none.
+const NEW_MODE: u32 = 0o666;
 
 /// The plain files of one folder of the file system. It tells nothing of content.
 ///
@@ -245,7 +249,6 @@ fn store<R: Files>(rt: &R, path: &str, temporary: &str, contents: &[u8]) -> io::
     if old.is_none() && fs::symlink_metadata(rt, path).is_ok() {
         return Err(io::Error::from(ErrorKind::AlreadyExists));
     }
-    let _leftover = fs::remove_file(rt, temporary);
     let mut renamed = write_synced(rt, temporary, old, contents);
     if renamed.is_ok() {
         renamed = fs::rename(rt, temporary, path);
@@ -256,17 +259,37 @@ fn store<R: Files>(rt: &R, path: &str, temporary: &str, contents: &[u8]) -> io::
     renamed
 }
 
-// A new file with these contents, and with the permissions of the old one. A link isn't followed.
+// A new file, with a mode from which the system takes its mask. One that was left over under its name
+// is taken away first. A link isn't followed.
+fn create<R: Files>(rt: &R, path: &str, mode: u32) -> io::Result<R::File> {
+    let mut how = OpenOptions::new();
+    let _how = how.write(true).create_new(true).mode(mode);
+    match how.open(rt, path) {
+        Err(error) if error.kind() == ErrorKind::AlreadyExists => {}
+        created => return created,
+    }
+    fs::remove_file(rt, path)?;
+    how.open(rt, path)
+}
+
+// A new file with these contents, and with the permissions of the old one: at no moment has it more.
 fn write_synced<R: Files>(
     rt: &R,
     path: &str,
     old: Option<Metadata>,
     contents: &[u8],
 ) -> io::Result<()> {
-    let mut file = File::create_new(rt, path)?;
-    if let Some(old) = old {
-        file.set_permissions(old.permissions())?;
-    }
+    let mut file = match old {
+        None => create(rt, path, NEW_MODE)?,
+        Some(old) => {
+            let permissions = old.permissions();
+            let file = create(rt, path, permissions.mode())?;
+            if file.metadata()?.permissions() != permissions {
+                file.set_permissions(permissions)?;
+            }
+            file
+        }
+    };
     file.write_all(contents)?;
     file.sync_all()
 }

@@ -83,13 +83,17 @@ fn a_replaced_file_keeps_its_permissions(rt: HostRuntime) -> Result<(), Fail> {
     const FOLDER: &str = "outside_test_mode";
     const FILE: &str = "outside_test_mode/a.txt";
     empty_folder(&rt, FOLDER)?;
-    fs::write(&rt, FILE, b"old".as_slice())?;
-    fs::set_permissions(&rt, FILE, fs::Permissions::from_mode(0o600))?;
-    DirFolder::new(rt.alloc(), &rt, FOLDER)?.replace("a.txt", b"new")?;
-    assert_eq!(rt;
-        fs::metadata(&rt, FILE)?.permissions().mode() & 0o777,
-        0o600
-    );
+    let mut folder = DirFolder::new(rt.alloc(), &rt, FOLDER)?;
+    for mode in [0o600, 0o400, 0o666, 0o777] {
+        fs::write(&rt, FILE, b"old".as_slice())?;
+        fs::set_permissions(&rt, FILE, fs::Permissions::from_mode(mode))?;
+        folder.replace("a.txt", b"new")?;
+        assert_eq!(rt;
+            fs::metadata(&rt, FILE)?.permissions().mode() & 0o7777,
+            mode
+        );
+        fs::remove_file(&rt, FILE)?;
+    }
     fs::remove_dir_all(&rt, FOLDER)?;
     Ok(())
 }
