@@ -1,21 +1,28 @@
 //! The lock of one file: when it ends, and which acts it lets through.
 //!
-//! [`settle`] says what the passing of time leaves of a lock, and [`judge`] what the lock table says
-//! of an act on a file whose lock is settled: the verdict, the lock afterwards, and the id that the
-//! act spends. Both are exact, in both directions: their answers are those of the definitions
-//! `standing`, `expired` and `judged` of wopi_model. Neither takes memory, and neither refuses.
+//! [`settle`] says what the passing of time leaves of a lock. Of an act on a file whose lock is
+//! settled [`verdict`] says what the lock table does, [`lock_after`] and [`spent_by`] what it leaves
+//! where it went through, and [`judge`] all three. All are exact, in both directions: their answers
+//! are those of the definitions of wopi_model. None takes memory, and none refuses. A lock id is long
+//! and lies where it is kept: what only looks at one borrows it, and what begins a lock or spends an
+//! id copies it once.
 //!
 //! The table follows MS-WOPI's pages on Lock, GetLock, RefreshLock, Unlock, UnlockAndRelock, PutFile,
 //! PutRelativeFile and DeleteFile. That an id which has ended is refused for a while is a rule of
 //! this project: for so long a delayed request can't take effect under a lock that has ended.
 #![tactic(auto)]
 
-ghost use Rattle.std.specs.Prelude.{◌≡◌, false, None, Some, IfSome, max};
+ghost use Rattle.std.specs.Prelude.{◌≡◌, false, None, Some, IfSome, max, option_map};
 ghost use Rattle.wopi_model.specs.Moment.{IsMoment};
 ghost use Rattle.wopi_model.specs.Settle.{standing, expired, is_over};
 ghost use Rattle.wopi_model.specs.LockTable.{judged};
 ghost use Rattle.wopi_model.specs.LockTable as table;
+ghost use Rattle.wopi_model.specs.declared.locks.Verdict.TheVariants as says;
+ghost use Rattle.lock_machine.specs.Asks.{act_of};
 
+mod ask;
+
+pub use ask::{LockAsk, ask_of};
 pub use wopi_model::{Judged, Lock, LockAct, Spent, Verdict};
 use wopi_text::Reason;
 
@@ -51,6 +58,136 @@ pub fn settle(lock: Option<Lock>, now: u64) -> (Option<Lock>, Option<Spent>)
     }
 }
 
+/// What the lock table says of an act. `spent` says that an id which the act presents is spent.
+pub fn verdict(lock: Option<&Lock>, spent: bool, ask: LockAsk<'_>) -> Verdict
+    ensures { result ≡ table.verdict (option_map (λ held. held.now) lock.entry) spent (act_of ask.entry) }
+{
+    if spent {
+        return refuse(Reason::Spent);
+    }
+    match lock {
+        None => verdict_unlocked(ask),
+        Some(held) => verdict_locked(held, ask),
+    }
+}
+
+fn verdict_unlocked(ask: LockAsk<'_>) -> Verdict
+    ensures { result ≡ table.verdict None false (act_of ask.entry) }
+{
+    match ask {
+        LockAsk::Refresh { .. }
+        | LockAsk::Unlock { .. }
+        | LockAsk::Relock { .. }
+        | LockAsk::Put { empty: false, .. } => refuse(Reason::NotLocked),
+        LockAsk::Create {
+            exists: true,
+            overwrite: false,
+        } => refuse(Reason::Taken),
+        LockAsk::Lock { .. }
+        | LockAsk::GetLock
+        | LockAsk::Put { empty: true, .. }
+        | LockAsk::Delete
+        | LockAsk::Create { .. }
+        | LockAsk::Look => Verdict::Accept,
+    }
+}
+
+fn verdict_locked(held: &Lock, ask: LockAsk<'_>) -> Verdict
+    ensures { result ≡ table.verdict (Some held.now) false (act_of ask.entry) }
+{
+    match ask {
+        LockAsk::Lock { id }
+        | LockAsk::Refresh { id }
+        | LockAsk::Unlock { id }
+        | LockAsk::Relock { old: id, .. }
+        | LockAsk::Put { id: Some(id), .. }
+            if *id == held.id => { Verdict::Accept }
+        LockAsk::Create {
+            exists: true,
+            overwrite: false,
+        } => refuse(Reason::Taken),
+        LockAsk::GetLock | LockAsk::Look | LockAsk::Create { exists: false, .. } => Verdict::Accept,
+        LockAsk::Lock { .. }
+        | LockAsk::Refresh { .. }
+        | LockAsk::Unlock { .. }
+        | LockAsk::Relock { .. }
+        | LockAsk::Put { .. }
+        | LockAsk::Delete
+        | LockAsk::Create { .. } => refuse(Reason::Locked),
+    }
+}
+
+fn refuse(reason: Reason) -> Verdict
+    ensures { result ≡ says.Refuse reason }
+{
+    Verdict::Refuse { reason }
+}
+
+/// The lock after an act that went through. `expires` is when the token of the act expires, in
+/// milliseconds, and `now` the moment of the act.
+pub fn lock_after(lock: Option<&Lock>, ask: LockAsk<'_>, expires: u64, now: u64) -> Option<Lock>
+    ensures { result ≡ table.lock_after (option_map (λ held. held.now) lock.entry) (act_of ask.entry) expires now }
+{
+    match lock {
+        None => lock_begun(ask, expires, now),
+        Some(held) => lock_kept(held, ask, expires, now),
+    }
+}
+
+fn lock_begun(ask: LockAsk<'_>, expires: u64, now: u64) -> Option<Lock>
+    ensures { result ≡ table.lock_after None (act_of ask.entry) expires now }
+{
+    match ask {
+        LockAsk::Lock { id } => Some(Lock {
+            id: id.copy(),
+            since: now,
+            until: expires,
+        }),
+        _ => None,
+    }
+}
+
+fn lock_kept(held: &Lock, ask: LockAsk<'_>, expires: u64, now: u64) -> Option<Lock>
+    ensures { result ≡ table.lock_after (Some held.now) (act_of ask.entry) expires now }
+{
+    match ask {
+        LockAsk::Lock { .. } | LockAsk::Refresh { .. } => Some(refreshed(held, expires, now)),
+        LockAsk::Relock { old, id } if *old == *id => Some(refreshed(held, expires, now)),
+        LockAsk::Relock { id, .. } => Some(Lock {
+            id: id.copy(),
+            since: now,
+            until: expires,
+        }),
+        LockAsk::Unlock { .. } => None,
+        LockAsk::Put { .. } => Some(saved(held, expires)),
+        LockAsk::GetLock | LockAsk::Delete | LockAsk::Create { .. } | LockAsk::Look => {
+            Some(held.copy())
+        }
+    }
+}
+
+/// The id that an act which went through spends. `expires` is when the token of the act expires, in
+/// milliseconds.
+pub fn spent_by(lock: Option<&Lock>, ask: LockAsk<'_>, expires: u64) -> Option<Spent>
+    ensures { result ≡ table.spent_by (option_map (λ held. held.now) lock.entry) (act_of ask.entry) expires }
+{
+    match lock {
+        None => None,
+        Some(held) => spent_of(held, ask, expires),
+    }
+}
+
+fn spent_of(held: &Lock, ask: LockAsk<'_>, expires: u64) -> Option<Spent>
+    ensures { result ≡ table.spent_by (Some held.now) (act_of ask.entry) expires }
+{
+    match ask {
+        LockAsk::Unlock { .. } => Some(ended(held, held.until)),
+        LockAsk::Relock { old, id } if *old == *id => None,
+        LockAsk::Relock { .. } => Some(ended(held, held.until.max(expires))),
+        _ => None,
+    }
+}
+
 /// Judges an act by the lock table, where the lock is settled at `now`. `spent` says that an id which
 /// the act presents is spent, and `expires` is when the token of the act expires, in milliseconds.
 /// A refusal leaves the lock and spends nothing.
@@ -58,82 +195,28 @@ pub fn judge(lock: &Option<Lock>, spent: bool, act: &LockAct, expires: u64, now:
     requires { standing lock.now now ≡ lock.now }
     ensures { result ≡ judged lock.now spent act.now expires now }
 {
-    if spent {
-        return refused(lock, Reason::Spent);
+    let held = lock.as_ref();
+    let ask = ask_of(act);
+    match verdict(held, spent, ask) {
+        Verdict::Accept => Judged {
+            verdict: Verdict::Accept,
+            lock: lock_after(held, ask, expires, now),
+            spend: spent_by(held, ask, expires),
+        },
+        Verdict::Refuse { reason } => Judged {
+            verdict: refuse(reason),
+            lock: copied(held),
+            spend: None,
+        },
     }
+}
+
+fn copied(lock: Option<&Lock>) -> Option<Lock>
+    ensures { result ≡ option_map (λ held. held.now) lock.entry }
+{
     match lock {
-        None => judge_unlocked(act, expires, now),
-        Some(held) => judge_locked(held, act, expires, now),
-    }
-}
-
-fn judge_unlocked(act: &LockAct, expires: u64, now: u64) -> Judged
-    ensures { result ≡ judged None false act.now expires now }
-{
-    match act {
-        LockAct::Lock { id } => accepted(
-            Some(Lock {
-                id: id.copy(),
-                since: now,
-                until: expires,
-            }),
-            None,
-        ),
-        LockAct::Refresh { .. }
-        | LockAct::Unlock { .. }
-        | LockAct::Relock { .. }
-        | LockAct::Put { empty: false, .. } => refused(&None, Reason::NotLocked),
-        LockAct::Create {
-            exists: true,
-            overwrite: false,
-        } => refused(&None, Reason::Taken),
-        LockAct::GetLock
-        | LockAct::Put { empty: true, .. }
-        | LockAct::Delete
-        | LockAct::Create { .. }
-        | LockAct::Look => accepted(None, None),
-    }
-}
-
-fn judge_locked(held: &Lock, act: &LockAct, expires: u64, now: u64) -> Judged
-    ensures { result ≡ judged (Some held.now) false act.now expires now }
-{
-    match act {
-        LockAct::Lock { id } | LockAct::Refresh { id } if *id == held.id => {
-            accepted(Some(refreshed(held, expires, now)), None)
-        }
-        LockAct::Unlock { id } if *id == held.id => accepted(None, Some(ended(held, held.until))),
-        LockAct::Relock { old, id } if *old == held.id => {
-            if *old == *id {
-                accepted(Some(refreshed(held, expires, now)), None)
-            } else {
-                accepted(
-                    Some(Lock {
-                        id: id.copy(),
-                        since: now,
-                        until: expires,
-                    }),
-                    Some(ended(held, held.until.max(expires))),
-                )
-            }
-        }
-        LockAct::Put { id: Some(id), .. } if *id == held.id => {
-            accepted(Some(saved(held, expires)), None)
-        }
-        LockAct::Create {
-            exists: true,
-            overwrite: false,
-        } => refused(&Some(held.copy()), Reason::Taken),
-        LockAct::GetLock | LockAct::Look | LockAct::Create { exists: false, .. } => {
-            accepted(Some(held.copy()), None)
-        }
-        LockAct::Lock { .. }
-        | LockAct::Refresh { .. }
-        | LockAct::Unlock { .. }
-        | LockAct::Relock { .. }
-        | LockAct::Put { .. }
-        | LockAct::Delete
-        | LockAct::Create { .. } => refused(&Some(held.copy()), Reason::Locked),
+        None => None,
+        Some(held) => Some(held.copy()),
     }
 }
 
@@ -167,30 +250,6 @@ fn saved(held: &Lock, expires: u64) -> Lock
         id: held.id.copy(),
         since: held.since,
         until: held.until.max(expires),
-    }
-}
-
-fn accepted(lock: Option<Lock>, spend: Option<Spent>) -> Judged
-    ensures { result ≡ record { verdict = Verdict.Accept; lock = lock; spend = spend } }
-{
-    Judged {
-        verdict: Verdict::Accept,
-        lock,
-        spend,
-    }
-}
-
-/// A refusal, which leaves the lock.
-fn refused(lock: &Option<Lock>, reason: Reason) -> Judged
-    ensures { result ≡ record { verdict = Verdict.Refuse reason; lock = lock.now; spend = None } }
-{
-    Judged {
-        verdict: Verdict::Refuse { reason },
-        lock: match lock {
-            None => None,
-            Some(held) => Some(held.copy()),
-        },
-        spend: None,
     }
 }
 
