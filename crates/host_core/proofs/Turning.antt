@@ -8,8 +8,7 @@ use Rattle.wopi_model.specs.declared.locks.Lock.{Lock}
 use Rattle.wopi_model.specs.declared.locks.Spent.{Spent}
 use Rattle.wopi_model.specs.declared.locks.LockAct.{LockAct}
 use Rattle.wopi_model.specs.declared.locks.LockAct.TheVariants as asks
-use Rattle.wopi_model.specs.LockTable.{lock_after, spent_by, verdict, judged, is_accepted}
-use Rattle.wopi_model.specs.declared.locks.Judged.{Judged}
+use Rattle.wopi_model.specs.LockTable.{lock_after, spent_by}
 use Rattle.wopi_model.specs.Moment.{lock_life}
 use Rattle.wopi_model.specs.Settle.{standing, is_over}
 use Rattle.kept_locks.specs.Locks.{Standing, Locks, unlocked, ended_at, all_ended, stepped, with_lock}
@@ -140,20 +139,12 @@ new_by ss number now (Some lock) lt began follows one e = go (standing (standing
   go (Some held) is (inl h) = let by = began number (standing_at ss number) held (stands_at ss number lt) (stood (standing_at ss number).lock now held is) in omega (arith, same, h, by)
   go (Some held) is (inr h) = omega (arith, same, h)
 
-judged_ends : (old : Option Lock) (asked : LockAct) (expires now : ℕ) → Ends old (record { lock = (judged (standing old now) false asked expires now).lock; spend = (judged (standing old now) false asked expires now).spend }) now
-judged_ends old asked expires now = go (is_accepted (verdict (standing old now) false asked)) where
-  held : Option Lock
-  held = standing old now
-
-  go : (b : Bool) → Ends old (record { lock = if b then lock_after held asked expires now else held; spend = if b then spent_by held asked expires else None }) now
-  go true = record { lock = follows_after held asked expires now; spend = spends_by held asked expires }
-  go false = record { lock = follows_same held now; spend = tt }
-
--- what is judged of the lock that stands
-pub ends_by : (old held : Option Lock) (said : Judged) (asked : LockAct) (expires now : ℕ) → held ≡ standing old now → said ≡ judged held false asked expires now → Ends old (record { lock = said.lock; spend = said.spend }) now
-ends_by old held said asked expires now e is =
-    let same : said ≡ judged (standing old now) false asked expires now = is ∙ ap (λ (h : Option Lock). judged h false asked expires now) e in
-    subst (λ (j : Judged). Ends old (record { lock = j.lock; spend = j.spend }) now) (sym same) (judged_ends old asked expires now)
+-- what an act leaves of the lock that stands
+pub ends_by : (old lock : Option Lock) (spend : Option Spent) (asked : LockAct) (expires now : ℕ) → lock ≡ lock_after (standing old now) asked expires now → spend ≡ spent_by (standing old now) asked expires → Ends old (record { lock = lock; spend = spend }) now
+ends_by old lock spend asked expires now after spends = record {
+  lock = subst (λ (l : Option Lock). LockFollows (standing old now) l now) (sym after) (follows_after (standing old now) asked expires now);
+  spend = subst (λ (s : Option Spent). SpendsOf (standing old now) s) (sym spends) (spends_by (standing old now) asked expires);
+}
 
 -- what stands at a moment stands there
 pub stands_twice : (lock : Option Lock) (now : ℕ) → standing (standing lock now) now ≡ standing lock now

@@ -2,22 +2,15 @@
 ghost use Rattle.std.specs.Prelude.{◌≡◌, ◌<◌, None, length, option_map};
 ghost use Rattle.kept_locks.specs.Locks.{stepped, ended_at};
 ghost use Rattle.wopi_model.specs.Act as acts;
-ghost use Rattle.wopi_model.specs.Settle.{standing, expired, still_spent};
+ghost use Rattle.wopi_model.specs.Settle.{standing, still_spent};
 ghost use Rattle.host_core.specs.Files.{BeganAtMoment};
 ghost use Rattle.host_core.specs.Turns.{MayStep, Ends, Turns};
 ghost use Rattle.host_core.specs.Whole.{standing_at};
 
 use kept_locks::KeptLocks;
-use lock_machine::settle;
+use lock_machine::is_over;
 use wopi_model::{Lock, Spent};
 use wopi_text::LockId;
-
-/// What time leaves of a lock: the lock, or the id that it spends.
-#[derive(Drop)]
-pub struct Settled {
-    pub lock: Option<Lock>,
-    pub ended: Option<Spent>,
-}
 
 /// What a step makes of a lock, and the id that it spends.
 #[derive(Drop)]
@@ -42,25 +35,28 @@ pub fn is_refused(locks: &KeptLocks, number: u32, id: &LockId, now: u64) -> bool
     locks.refuses(number, id, now)
 }
 
-fn copy_lock(locks: &KeptLocks, number: u32) -> Option<Lock>
-    requires { number < length locks.now.files }
-    ensures { result ≡ (standing_at locks.now.files number).lock }
+/// The lock of a file, where it still stands. The locks stay as they are.
+pub fn standing_lock(locks: &KeptLocks, number: u32, now: u64) -> Option<&Lock>
+    requires here { number < length locks.now.files }
+    requires moment { BeganAtMoment (standing_at locks.now.files number).lock }
+    ensures { option_map (λ held. held.now) result ≡ standing (standing_at locks.now.files number).lock now }
 {
     match lock_of(locks, number) {
         None => None,
-        Some(held) => Some(held.copy()),
+        Some(held) => { if is_over(held, now) { None } else { Some(held) } }
     }
 }
 
-/// What time leaves of a file's lock. The locks stay as they are.
-pub fn settled_lock(locks: &KeptLocks, number: u32, now: u64) -> Settled
+/// A copy of the lock, where it still stands.
+fn copy_standing(locks: &KeptLocks, number: u32, now: u64) -> Option<Lock>
     requires here { number < length locks.now.files }
     requires moment { BeganAtMoment (standing_at locks.now.files number).lock }
-    ensures lock { result.lock ≡ standing (standing_at locks.now.files number).lock now }
-    ensures ended { result.ended ≡ expired (standing_at locks.now.files number).lock now }
+    ensures { result ≡ standing (standing_at locks.now.files number).lock now }
 {
-    let (lock, ended) = settle(copy_lock(locks, number), now);
-    Settled { lock, ended }
+    match standing_lock(locks, number, now) {
+        None => None,
+        Some(held) => Some(held.copy()),
+    }
 }
 
 /// What a step leaves that only settles a file.
@@ -71,9 +67,8 @@ fn unchanged(locks: &KeptLocks, number: u32, now: u64) -> Effect
     ensures spend { result.spend ≡ None }
     ensures ends { Ends (standing_at locks.now.files number).lock result now }
 {
-    let settled = settled_lock(locks, number, now);
     Effect {
-        lock: settled.lock,
+        lock: copy_standing(locks, number, now),
         spend: None,
     }
 }

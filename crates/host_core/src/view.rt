@@ -1,16 +1,15 @@
 //! A file as a caller sees it.
-ghost use Rattle.std.specs.Prelude.{◌≡◌, ◌<◌, [], length, option_map, unwrap_or};
-ghost use Rattle.wopi_model.specs.Settle.{settled, standing};
+ghost use Rattle.std.specs.Prelude.{◌≡◌, ◌<◌, [], length, unwrap_or};
+ghost use Rattle.wopi_model.specs.Settle.{settled};
 ghost use Rattle.host_core.specs.Files.{file_of, BeganAtMoment, HasContents};
 ghost use Rattle.host_core.specs.View.{IsViewOf};
 ghost use Rattle.host_core.specs.Whole.{seen, standing_at};
 
 use crate::carry::contents_of;
 use crate::file::KeptFile;
-use crate::held::lock_of;
+use crate::held::standing_lock;
 use file_versions::Versions;
 use kept_locks::KeptLocks;
-use lock_machine::is_over;
 use wopi_model::Lock;
 
 /// A file at the shard's time. `contents` is empty where the file doesn't exist, and `torn` says that
@@ -22,18 +21,6 @@ pub struct FileView<'a> {
     pub lock: Option<&'a Lock>,
     pub contents: &'a [u8],
     pub torn: bool,
-}
-
-/// The lock, where it still stands.
-fn standing_lock(locks: &KeptLocks, number: u32, now: u64) -> Option<&Lock>
-    requires here { number < length locks.now.files }
-    requires moment { BeganAtMoment (standing_at locks.now.files number).lock }
-    ensures { option_map (λ held. held.now) result ≡ standing (standing_at locks.now.files number).lock now }
-{
-    match lock_of(locks, number) {
-        None => None,
-        Some(held) => { if is_over(held, now) { None } else { Some(held) } }
-    }
 }
 
 /// The bytes of a file, none where it doesn't exist.

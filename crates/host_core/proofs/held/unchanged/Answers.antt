@@ -9,6 +9,6 @@ pub returns-clause-ends : goal.returns-clause-ends
 returns-clause-ends c = record {
   lock =
       let old = standing (standing_at c.args.locks.now.files c.args.number).lock c.args.now in
-      subst (λ lock. LockFollows old lock c.args.now) (sym c.settled_lock-settled.ensures.lock) (follows_same old c.args.now);
+      subst (λ lock. LockFollows old lock c.args.now) (sym c.copy_standing.ensures) (follows_same old c.args.now);
   spend = tt;
 }
