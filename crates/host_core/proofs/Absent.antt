@@ -1,10 +1,10 @@
 -- A call on a name that wasn't met, which doesn't create it.
-use Rattle.std.proofs.Common.{◌≡◌, ◌≢◌, ℕ, Bool, true, false, not, ◌||◌, if◌then◌else◌, List, [], length, Option, None, refl, sym, ap, subst, ◌∙◌, ◌==◌}
+use Rattle.std.proofs.Common.{◌≡◌, ◌≢◌, ℕ, ◌-◌, Bool, true, false, not, ◌||◌, if◌then◌else◌, List, [], length, Option, None, refl, sym, ap, ◌∙◌, ◌==◌}
 use Rattle.outside.specs.Folder.{Files}
 use Rattle.wopi_model.specs.declared.calls.Call.{Call}
 use Rattle.wopi_model.specs.declared.calls.Ruling.{Ruling}
 use Rattle.wopi_model.specs.Act.{is_create}
-use Rattle.wopi_model.specs.File.{File, never_met}
+use Rattle.wopi_model.specs.File.{never_met}
 use Rattle.wopi_model.specs.Settle.{settled}
 use Rattle.wopi_model.specs.Step.{Decision, Refuse, Accept, decision, ruling_of, is_unauthorized, is_missing}
 use Rattle.file_versions.specs.declared.Version.{Version}
@@ -13,9 +13,8 @@ use Rattle.host_core.specs.declared.accept.Carried.{Carried}
 use Rattle.host_core.specs.Archive.{IsStocked}
 use Rattle.host_core.specs.Entries.{brought_by}
 use Rattle.host_core.specs.Files.{is_named}
-use Rattle.host_core.specs.Steps.{StepsAll, Moves}
+use Rattle.host_core.specs.Steps.{StepsAll}
 use Rattle.host_core.specs.Whole.{Whole}
-use Rattle.host_core.proofs.Decisions.{refused_status, refused_call}
 use Rattle.host_core.proofs.Moving.{turned_moves}
 use Rattle.host_core.proofs.Stepping.{skip_steps}
 
@@ -24,27 +23,27 @@ second true b x y z e = refl
 second false b x y z e = ap (λ (t : Bool). if t then y else z) e
 
 -- it is refused, as the token's holder may see nothing there
-pub absent_decision : (call : Call) (opened now : ℕ) → is_create call.act ≡ false
-    → decision (settled never_met now) call opened now ≡ (if is_unauthorized call opened now then Refuse 401 else Refuse 404)
-absent_decision call opened now create =
-    second (is_unauthorized call opened now) (is_missing (settled never_met now) call.act) (Refuse 401) (Refuse 404) _ (ap (λ (b : Bool). not (b || false)) create)
+pub absent_decision : (oldest : ℕ) (call : Call) (opened now : ℕ) → is_create call.act ≡ false
+    → decision (settled (never_met oldest) now) call opened now ≡ (if is_unauthorized call opened now then Refuse 401 else Refuse 404)
+absent_decision oldest call opened now create =
+    second (is_unauthorized call opened now) (is_missing (settled (never_met oldest) now) call.act) (Refuse 401) (Refuse 404) _ (ap (λ (b : Bool). not (b || false)) create)
 
 refused : (b : Bool) → (if b then Refuse 401 else Refuse 404) ≢ Accept
 refused true e = cc
 refused false e = cc
 
-refused_at : (b : Bool) (ruling : Ruling) (call : Call) (now : ℕ) → ruling ≡ ruling_of (if b then Refuse 401 else Refuse 404) (settled never_met now) call now → (ruling.status == 200 || ruling.status == 500) ≡ false
-refused_at true ruling call now e = ap (λ (r : Ruling). r.status == 200 || r.status == 500) e
-refused_at false ruling call now e = ap (λ (r : Ruling). r.status == 200 || r.status == 500) e
+refused_at : (oldest : ℕ) (b : Bool) (ruling : Ruling) (call : Call) (now : ℕ) → ruling ≡ ruling_of (if b then Refuse 401 else Refuse 404) (settled (never_met oldest) now) call now → (ruling.status == 200 || ruling.status == 500) ≡ false
+refused_at oldest true ruling call now e = ap (λ (r : Ruling). r.status == 200 || r.status == 500) e
+refused_at oldest false ruling call now e = ap (λ (r : Ruling). r.status == 200 || r.status == 500) e
 
-pub absent_steps : (files : Option Files) (versions : List Version) (count : ℕ) (before : List Whole) (call : Call) (opened now : ℕ) (carried : Carried)
+pub absent_steps : (oldest : ℕ) (files : Option Files) (versions : List Version) (count : ℕ) (before : List Whole) (call : Call) (opened now : ℕ) (carried : Carried)
     → IsStocked before versions → first_of (is_named call.name) before ≡ None → is_create call.act ≡ false
-    → carried.ruling ≡ ruling_of (decision (settled never_met now) call opened now) (settled never_met now) call now → carried.back ≡ brought_by call.act
-    → StepsAll files files versions versions count count before before call opened now carried
-absent_steps files versions count before call opened now carried stocked fresh create told back =
-    let k : Whole = record { name = call.name; contents = None; version = 0; lock = None; spent = []; torn = false } in
-    let d = decision (settled never_met now) call opened now in
-    let is = absent_decision call opened now create in
-    skip_steps files files versions versions count count before (length before) k k call opened now carried stocked fresh refl refl refl
-    (refused_at (is_unauthorized call opened now) carried.ruling call now (told ∙ ap (λ (x : Decision). ruling_of x (settled never_met now) call now) is))
+    → carried.ruling ≡ ruling_of (decision (settled (never_met oldest) now) call opened now) (settled (never_met oldest) now) call now → carried.back ≡ brought_by call.act
+    → StepsAll oldest files files versions versions count count before before call opened now carried
+absent_steps oldest files versions count before call opened now carried stocked fresh create told back =
+    let k : Whole = record { name = call.name; contents = None; version = oldest - 1; lock = None; spent = []; torn = false } in
+    let d = decision (settled (never_met oldest) now) call opened now in
+    let is = absent_decision oldest call opened now create in
+    skip_steps oldest files files versions versions count count before (length before) k k call opened now carried stocked fresh refl refl refl
+    (refused_at oldest (is_unauthorized call opened now) carried.ruling call now (told ∙ ap (λ (x : Decision). ruling_of x (settled (never_met oldest) now) call now) is))
     (turned_moves files versions count (length before) k k call opened now carried d refl (λ e. refused (is_unauthorized call opened now) (sym is ∙ e)) told refl refl refl back)

@@ -1,12 +1,11 @@
 -- The files joined with what stands under their numbers.
-use Rattle.std.proofs.Common.{◌≡◌, ◌≢◌, ◌<◌, ◌≤◌, ◌+◌, ℕ, zero, suc, Bool, true, false, if◌then◌else◌, List, [], ◌∷◌, ◌++◌, length, map, set, get_or, Option, None, Some, option_map, unwrap_or, refl, sym, ap, subst, ◌∙◌, arith, slice_get}
+use Rattle.std.proofs.Common.{◌≡◌, ◌≢◌, ◌<◌, ◌+◌, ◌-◌, ℕ, zero, suc, Bool, true, false, if◌then◌else◌, List, [], ◌∷◌, ◌++◌, length, set, get_or, Option, None, Some, option_map, unwrap_or, refl, sym, ap, subst, ◌∙◌, arith, slice_get}
 use Rattle.std.specs.Str.{bytes_eq}
 use Rattle.wopi_model.specs.File.{File, never_met}
 use Rattle.wopi_model.specs.Shard.{Opening}
 use Rattle.file_versions.specs.declared.Version.{Version}
 use Rattle.file_versions.specs.Places.{first_of}
-use Rattle.file_versions.specs.Versions.{found}
-use Rattle.kept_locks.specs.Locks.{Standing, unlocked, ended_at, all_ended}
+use Rattle.kept_locks.specs.Locks.{Standing, ended_at, all_ended}
 use Rattle.kept_locks.specs.Whole.{ended_file}
 use Rattle.host_core.specs.declared.file.KeptFile.{KeptFile}
 use Rattle.host_core.specs.Archive.{AreHeld, IsStocked, AreOpeningFiles, AreKept, AreWithin, IsArchive, names_of}
@@ -98,15 +97,15 @@ later_ended now [] = refl
 later_ended now (s ∷ ss) = refl
 
 -- the files once the locks have ended that are over
-pub files_ended : (files : List KeptFile) (ss : List Standing) (now : ℕ) (name : List ℕ) → files_of (joined files (all_ended now ss)) name ≡ ended_file now (files_of (joined files ss) name)
-files_ended [] ss now name = refl
-files_ended (k ∷ files) ss now name =
-    ap (λ (l : List Whole). files_of l name) (joined_cons k files (all_ended now ss))
-    ∙ go (ap (λ (l : List Standing). files_of (joined files l) name) (later_ended now ss) ∙ files_ended files (later ss) now name) (bytes_eq k.name name)
-    ∙ sym (ap (λ (l : List Whole). ended_file now (files_of l name)) (joined_cons k files ss)) where
-      go : files_of (joined files (later (all_ended now ss))) name ≡ ended_file now (files_of (joined files (later ss)) name)
-          → (b : Bool) → unwrap_or (option_map file_of (if b then Some (whole k (standing_at (all_ended now ss) 0)) else first_of (is_named name) (joined files (later (all_ended now ss))))) never_met
-          ≡ ended_file now (unwrap_or (option_map file_of (if b then Some (whole k (standing_at ss 0)) else first_of (is_named name) (joined files (later ss)))) never_met)
+pub files_ended : (oldest : ℕ) (files : List KeptFile) (ss : List Standing) (now : ℕ) (name : List ℕ) → files_of oldest (joined files (all_ended now ss)) name ≡ ended_file now (files_of oldest (joined files ss) name)
+files_ended oldest [] ss now name = refl
+files_ended oldest (k ∷ files) ss now name =
+    ap (λ (l : List Whole). files_of oldest l name) (joined_cons k files (all_ended now ss))
+    ∙ go (ap (λ (l : List Standing). files_of oldest (joined files l) name) (later_ended now ss) ∙ files_ended oldest files (later ss) now name) (bytes_eq k.name name)
+    ∙ sym (ap (λ (l : List Whole). ended_file now (files_of oldest l name)) (joined_cons k files ss)) where
+      go : files_of oldest (joined files (later (all_ended now ss))) name ≡ ended_file now (files_of oldest (joined files (later ss)) name)
+          → (b : Bool) → unwrap_or (option_map file_of (if b then Some (whole k (standing_at (all_ended now ss) 0)) else first_of (is_named name) (joined files (later (all_ended now ss))))) (never_met oldest)
+          ≡ ended_file now (unwrap_or (option_map file_of (if b then Some (whole k (standing_at ss 0)) else first_of (is_named name) (joined files (later ss)))) (never_met oldest))
       go rest true = ap (λ (s : Standing). file_of (whole k s)) (stands_ended now ss 0)
       go rest false = rest
 
@@ -128,21 +127,21 @@ read_any read none same (k ∷ files) ss ss' name =
 pub torn_any : (files : List KeptFile) (ss ss' : List Standing) (name : List ℕ) → torn_in (joined files ss) name ≡ torn_in (joined files ss') name
 torn_any files ss ss' name = read_any (λ (w : Whole). w.torn) false (λ k s s'. refl) files ss ss' name
 
-field : {A : Type 0} (read : File → A) (o : Option Whole) → read (unwrap_or (option_map file_of o) never_met) ≡ unwrap_or (option_map (λ (w : Whole). read (file_of w)) o) (read never_met)
-field read None = refl
-field read (Some w) = refl
+field : {A : Type 0} (oldest : ℕ) (read : File → A) (o : Option Whole) → read (unwrap_or (option_map file_of o) (never_met oldest)) ≡ unwrap_or (option_map (λ (w : Whole). read (file_of w)) o) (read (never_met oldest))
+field oldest read None = refl
+field oldest read (Some w) = refl
 
-pub version_any : (files : List KeptFile) (ss ss' : List Standing) (name : List ℕ) → (files_of (joined files ss) name).version ≡ (files_of (joined files ss') name).version
-version_any files ss ss' name =
-    field (λ (f : File). f.version) (first_of (is_named name) (joined files ss))
-    ∙ read_any (λ (w : Whole). w.version) 0 (λ k s s'. refl) files ss ss' name
-    ∙ sym (field (λ (f : File). f.version) (first_of (is_named name) (joined files ss')))
+pub version_any : (oldest : ℕ) (files : List KeptFile) (ss ss' : List Standing) (name : List ℕ) → (files_of oldest (joined files ss) name).version ≡ (files_of oldest (joined files ss') name).version
+version_any oldest files ss ss' name =
+    field oldest (λ (f : File). f.version) (first_of (is_named name) (joined files ss))
+    ∙ read_any (λ (w : Whole). w.version) (oldest - 1) (λ k s s'. refl) files ss ss' name
+    ∙ sym (field oldest (λ (f : File). f.version) (first_of (is_named name) (joined files ss')))
 
-pub contents_any : (files : List KeptFile) (ss ss' : List Standing) (name : List ℕ) → (files_of (joined files ss) name).contents ≡ (files_of (joined files ss') name).contents
-contents_any files ss ss' name =
-    field (λ (f : File). f.contents) (first_of (is_named name) (joined files ss))
+pub contents_any : (oldest : ℕ) (files : List KeptFile) (ss ss' : List Standing) (name : List ℕ) → (files_of oldest (joined files ss) name).contents ≡ (files_of oldest (joined files ss') name).contents
+contents_any oldest files ss ss' name =
+    field oldest (λ (f : File). f.contents) (first_of (is_named name) (joined files ss))
     ∙ read_any (λ (w : Whole). w.contents) None (λ k s s'. refl) files ss ss' name
-    ∙ sym (field (λ (f : File). f.contents) (first_of (is_named name) (joined files ss')))
+    ∙ sym (field oldest (λ (f : File). f.contents) (first_of (is_named name) (joined files ss')))
 
 pub held_as : (number : ℕ) (k : KeptFile) (s s' : Standing) (versions : List Version) → IsKeptUnder number (whole k s) versions → IsKeptUnder number (whole k s') versions
 held_as number k s s' versions held = record { current = held.current; later = held.later }
@@ -166,13 +165,13 @@ stocked_any files ss ss' versions stocked = record {
   beyond = λ number version le. stocked.beyond number version (let one = long_joined files ss in let two = long_joined files ss' in omega (arith, le, one, two));
 }
 
-pub archive_any : (opening : Opening) (made : List Made) (files : List KeptFile) (ss ss' : List Standing) (versions : List Version)
-    → IsArchive opening made (joined files ss) versions → IsArchive opening made (joined files ss') versions
-archive_any opening made files ss ss' versions archive =
+pub archive_any : (oldest : ℕ) (opening : Opening) (made : List Made) (files : List KeptFile) (ss ss' : List Standing) (versions : List Version)
+    → IsArchive oldest opening made (joined files ss) versions → IsArchive oldest opening made (joined files ss') versions
+archive_any oldest opening made files ss ss' versions archive =
     let same : names_of (joined files ss) ≡ names_of (joined files ss') = names_joined files ss ∙ sym (names_joined files ss') in
     record {
       stocked = stocked_any files ss ss' versions archive.stocked;
-      opened = subst (λ (n : List (List ℕ)). AreOpeningFiles 0 opening n versions) same archive.opened;
+      opened = subst (λ (n : List (List ℕ)). AreOpeningFiles oldest 0 opening n versions) same archive.opened;
       kept = subst (λ (n : List (List ℕ)). AreKept made n versions) same archive.kept;
-      within = within_any (1 + length made) files ss ss' archive.within;
+      within = within_any (oldest + length made) files ss ss' archive.within;
     }

@@ -1,6 +1,7 @@
 -- One call on the files and their locks.
-use Rattle.std.proofs.Common.{◌≡◌, ◌≢◌, inl, inr, ◌<◌, ◌≤◌, ◌+◌, ◌==◌, ◌||◌, ℕ, zero, suc, Bool, true, false, List, [], ◌∷◌, ◌++◌, length, set, get_or, Option, None, Some, option_map, unwrap_or, refl, sym, ap, subst, ◌∙◌, arith}
+use Rattle.std.proofs.Common.{◌≡◌, inl, inr, ◌<◌, ◌≤◌, ◌+◌, ◌==◌, ◌||◌, ℕ, zero, suc, Bool, true, false, if◌then◌else◌, List, [], ◌∷◌, ◌++◌, length, set, get_or, Option, None, Some, option_map, unwrap_or, refl, sym, ap, subst, ◌∙◌, arith}
 use Rattle.std.proofs.lemmas.Bool.Decides.{eqb_tells}
+use Rattle.std.specs.Str.{bytes_eq}
 use Rattle.outside.specs.Folder.{Files}
 use Rattle.wopi_model.specs.declared.calls.Call.{Call}
 use Rattle.wopi_model.specs.File.{File, never_met}
@@ -8,8 +9,6 @@ use Rattle.wopi_model.specs.Settle.{settled}
 use Rattle.wopi_model.specs.Step.{IsOutcome, after_step, decision, Accept}
 use Rattle.wopi_model.specs.Host.{new_bytes, brings_contents, most_kept}
 use Rattle.kept_locks.proofs.Ending.{ended_shows}
-use Rattle.wopi_model.specs.declared.locks.Lock.{Lock}
-use Rattle.wopi_model.specs.declared.locks.Spent.{Spent}
 use Rattle.wopi_text.proofs.Disjunctions.{or_none}
 use Rattle.file_versions.specs.declared.Version.{Version}
 use Rattle.file_versions.specs.Places.{IsFirst, first_of}
@@ -30,8 +29,8 @@ use Rattle.host_core.proofs.Turning.{began_ended, as_of_later}
 use Rattle.host_core.specs.Steps.{Moves, Stops, StepsAll, StopsAll, IsNoRoomFor, IsRoomFor}
 use Rattle.host_core.specs.Turns.{Turns, AreAsOf}
 use Rattle.host_core.specs.Whole.{Whole, whole, seen, standing_at, joined}
-use Rattle.host_core.proofs.Joining.{files_ended, joined_as, joined_put, joined_push, names_joined, long_joined, get_joined, stands_ended, stocked_any}
-use Rattle.host_core.proofs.Leaving.{none_place}
+use Rattle.host_core.proofs.Joining.{later, stands_later, joined_cons, files_ended, joined_as, joined_put, joined_push, names_joined, long_joined, get_joined, stands_ended, stocked_any}
+use Rattle.host_core.proofs.Leaving.{none_place, some_is}
 use Rattle.host_core.proofs.Moving.{moves_ended}
 use Rattle.host_core.proofs.Numbering.{first_named, first_below}
 use Rattle.host_core.proofs.Stepping.{met_steps, met_stops, push_steps, skip_steps, turned_away}
@@ -52,30 +51,45 @@ none_any files ss ss' name none =
 pub place_below : (files : List KeptFile) (ss : List Standing) (name : List ℕ) (place : ℕ) → IsFirst (is_named name) (joined files ss) place → place < length files
 place_below files ss name place first = let lt = first_below (is_named name) (joined files ss) place first in let long = long_joined files ss in omega (arith, lt, long)
 
+-- the lock of a name's file is the one under the number of its place
+pub lock_at : (oldest : ℕ) (files : List KeptFile) (ss : List Standing) (name : List ℕ) (place : ℕ) → place_in (named files) name ≡ Some place
+    → (files_of oldest (joined files ss) name).lock ≡ (standing_at ss place).lock
+lock_at oldest [] ss name place e = cc
+lock_at oldest (k ∷ files) ss name place e =
+    ap (λ (l : List Whole). (files_of oldest l name).lock) (joined_cons k files ss)
+    ∙ go (bytes_eq k.name name) (place_in (named files) name) place (λ p h. lock_at oldest files (later ss) name p h) e where
+      go : (b : Bool) (o : Option ℕ) (place : ℕ) → ((p : ℕ) → o ≡ Some p → (files_of oldest (joined files (later ss)) name).lock ≡ (standing_at (later ss) p).lock)
+          → (if b then Some 0 else option_map suc o) ≡ Some place
+          → (unwrap_or (option_map file_of (if b then Some (whole k (standing_at ss 0)) else first_of (is_named name) (joined files (later ss)))) (never_met oldest)).lock ≡ (standing_at ss place).lock
+      go true o place rest e = ap (λ (n : ℕ). (standing_at ss n).lock) (some_is 0 place e)
+      go false None place rest e = cc
+      go false (Some p) place rest e =
+          rest p refl ∙ ap (λ (s : Standing). s.lock) (sym (stands_later ss p)) ∙ ap (λ (n : ℕ). (standing_at ss n).lock) (some_is (suc p) place e)
+
 -- a call on a file that was met
-pub met_all : (folder folder' : Option Files) (v v' : List Version) (began count : ℕ) (files : List KeptFile) (place : ℕ) (k k' : KeptFile) (old new : Locks) (call : Call) (opened now : ℕ) (carried : Carried)
+pub met_all : (oldest : ℕ) (folder folder' : Option Files) (v v' : List Version) (began count : ℕ) (files : List KeptFile) (place : ℕ) (k k' : KeptFile) (old new : Locks) (call : Call) (opened now : ℕ) (carried : Carried)
     → IsStocked (joined files old.files) v → IsFirst (is_named call.name) (joined files old.files) place → k ≡ get_or files place k → Turns old new place now
     → Moves folder folder' v v' began count place (seen k old place) (seen k' new place) call opened now carried
-    → StepsAll folder folder' v v' began count (joined files (all_ended now old.files)) (joined (set files place k') new.files) call opened now carried
-met_all folder folder' v v' began count files place k k' old new call opened now carried stocked first e turns moves =
+    → StepsAll oldest folder folder' v v' began count (joined files (all_ended now old.files)) (joined (set files place k') new.files) call opened now carried
+met_all oldest folder folder' v v' began count files place k k' old new call opened now carried stocked first e turns moves =
     let ended = all_ended now old.files in
     let before = joined files ended in
     let moves' = subst (λ (s : Standing). Moves folder folder' v v' began count place (whole k s) (seen k' new place) call opened now carried) (sym (stands_ended now old.files place))
     (moves_ended folder folder' v v' began count place k (standing_at old.files place) (seen k' new place) call opened now carried moves) in
-    subst (λ (after : List Whole). StepsAll folder folder' v v' began count before after call opened now carried)
+    subst (λ (after : List Whole). StepsAll oldest folder folder' v v' began count before after call opened now carried)
     (sym (joined_put files place k' new.files ended (λ n differ. turns.others n differ ∙ sym (stands_ended now old.files n))))
-    (met_steps folder folder' v v' began count before place (whole k (standing_at ended place)) (seen k' new place) call opened now carried
+    (met_steps oldest folder folder' v v' began count before place (whole k (standing_at ended place)) (seen k' new place) call opened now carried
     (stocked_any files old.files ended v stocked) (first_any files old.files ended call.name place first) (get_joined files place k ended e) moves')
 
-pub met_stopped : (folder folder' : Option Files) (v v' : List Version) (files : List KeptFile) (place : ℕ) (k k' : KeptFile) (old new : Locks) (call : Call) (opened now : ℕ) (uncarried : Uncarried)
+pub met_stopped : (oldest : ℕ) (folder folder' : Option Files) (v v' : List Version) (files : List KeptFile) (place : ℕ) (k k' : KeptFile) (old new : Locks) (call : Call) (opened now : ℕ) (uncarried : Uncarried)
     → IsStocked (joined files old.files) v → IsFirst (is_named call.name) (joined files old.files) place → k ≡ get_or files place k → new ≡ old
     → Stops folder folder' v v' (seen k old place) (seen k' new place) call opened now uncarried
-    → StopsAll folder folder' v v' (joined files old.files) (joined (set files place k') new.files) call opened now uncarried
-met_stopped folder folder' v v' files place k k' old new call opened now uncarried stocked first e same stops =
+    → StopsAll oldest folder folder' v v' (joined files old.files) (joined (set files place k') new.files) call opened now uncarried
+met_stopped oldest folder folder' v v' files place k k' old new call opened now uncarried stocked first e same stops =
     let before = joined files old.files in
-    subst (λ (after : List Whole). StopsAll folder folder' v v' before after call opened now uncarried)
+    subst (λ (after : List Whole). StopsAll oldest folder folder' v v' before after call opened now uncarried)
     (sym (joined_put files place k' new.files old.files (λ n differ. ap (λ (l : Locks). standing_at l.files n) same)))
-    (met_stops folder folder' v v' before place (seen k old place) (seen k' new place) call opened now uncarried stocked first (get_joined files place k old.files e) stops)
+    (met_stops oldest folder folder' v v' before place (seen k old place) (seen k' new place) call opened now uncarried stocked first (get_joined files place k old.files e) stops)
 
 -- the locks after a step
 pub locked_turn : (files files' : List KeptFile) (old new : Locks) (place time now : ℕ) → AreLocked files old time → place < length files → length files' ≡ length files → Turns old new place now → AreLocked files' new now
@@ -104,13 +118,13 @@ locked_push files k old new now beyond room turns =
     long_push (f ∷ files) k = let more = long_push files k in omega (arith, more)
 
 -- a call on a name that wasn't met before, which is met now
-pub push_all : (folder folder' : Option Files) (v v' : List Version) (began count : ℕ) (files : List KeptFile) (number : ℕ) (k k' : KeptFile) (first old new : Locks) (call : Call) (opened now : ℕ) (carried : Carried)
+pub push_all : (oldest : ℕ) (folder folder' : Option Files) (v v' : List Version) (began count : ℕ) (files : List KeptFile) (number : ℕ) (k k' : KeptFile) (first old new : Locks) (call : Call) (opened now : ℕ) (carried : Carried)
     → IsStocked (joined files first.files) v → first_of (is_named call.name) (joined files first.files) ≡ None → ((n : ℕ) → standing_at old.files n ≡ standing_at first.files n)
     → ((n : ℕ) → length files ≤ n → standing_at first.files n ≡ unlocked)
-    → file_of (whole k unlocked) ≡ never_met → k.torn ≡ false → k.name ≡ call.name → number ≡ length files → Turns old new number now
+    → file_of (whole k unlocked) ≡ never_met oldest → k.torn ≡ false → k.name ≡ call.name → number ≡ length files → Turns old new number now
     → Moves folder folder' v v' began count number (seen k old number) (seen k' new number) call opened now carried
-    → StepsAll folder folder' v v' began count (joined files (all_ended now first.files)) (joined (files ++ k' ∷ []) new.files) call opened now carried
-push_all folder folder' v v' began count files number k k' first old new call opened now carried stocked none stands beyond is whole_k named_k at turns moves =
+    → StepsAll oldest folder folder' v v' began count (joined files (all_ended now first.files)) (joined (files ++ k' ∷ []) new.files) call opened now carried
+push_all oldest folder folder' v v' began count files number k k' first old new call opened now carried stocked none stands beyond is whole_k named_k at turns moves =
     let ended = all_ended now first.files in
     let before = joined files ended in
     let long : number ≡ length before = at ∙ sym (long_joined files ended) in
@@ -119,47 +133,47 @@ push_all folder folder' v v' began count files number k k' first old new call op
     let after : joined (files ++ k' ∷ []) new.files ≡ before ++ seen k' new number ∷ [] =
     joined_push files k' new.files ended (λ n lt. turns.others n (λ e. absurd (omega (arith, e, lt, at))) ∙ ap (ended_at now) (stands n) ∙ sym (stands_ended now first.files n))
     ∙ ap (λ (n : ℕ). before ++ whole k' (standing_at new.files n) ∷ []) (sym at) in
-    subst (λ (l : List Whole). StepsAll folder folder' v v' began count before l call opened now carried) (sym after)
-    (push_steps folder folder' v v' began count before number (whole k unlocked) (seen k' new number) call opened now carried
+    subst (λ (l : List Whole). StepsAll oldest folder folder' v v' began count before l call opened now carried) (sym after)
+    (push_steps oldest folder folder' v v' began count before number (whole k unlocked) (seen k' new number) call opened now carried
     (stocked_any files first.files ended v stocked) (none_any files first.files ended call.name none) is whole_k named_k long moves')
 
-bare_of : (s : Standing) (k : KeptFile) → file_of (whole k s) ≡ never_met → s ≡ unlocked
-bare_of s k e =
+bare_of : (oldest : ℕ) (s : Standing) (k : KeptFile) → file_of (whole k s) ≡ never_met oldest → s ≡ unlocked
+bare_of oldest s k e =
     let lock : s.lock ≡ None = ap (λ (f : File). f.lock) e in
     let spent : s.spent ≡ [] = ap (λ (f : File). f.spent) e in
     λ i. record { lock = lock i; spent = spent i }
 
 -- a call that was turned away leaves nothing under the number
-pub skip_bare : (folder folder' : Option Files) (v v' : List Version) (began count number : ℕ) (k k' : KeptFile) (old new : Locks) (call : Call) (opened now : ℕ) (carried : Carried)
-    → standing_at old.files number ≡ unlocked → file_of (whole k unlocked) ≡ never_met → (carried.ruling.status == 200 || carried.ruling.status == 500) ≡ false
+pub skip_bare : (oldest : ℕ) (folder folder' : Option Files) (v v' : List Version) (began count number : ℕ) (k k' : KeptFile) (old new : Locks) (call : Call) (opened now : ℕ) (carried : Carried)
+    → standing_at old.files number ≡ unlocked → file_of (whole k unlocked) ≡ never_met oldest → (carried.ruling.status == 200 || carried.ruling.status == 500) ≡ false
     → Moves folder folder' v v' began count number (seen k old number) (seen k' new number) call opened now carried
     → standing_at new.files number ≡ unlocked
-skip_bare folder folder' v v' began count number k k' old new call opened now carried bare is turned moves =
+skip_bare oldest folder folder' v v' began count number k k' old new call opened now carried bare is turned moves =
     let status = or_none (carried.ruling.status == 200) (carried.ruling.status == 500) turned in
-    let was : file_of (seen k old number) ≡ never_met = ap (λ (s : Standing). file_of (whole k s)) bare ∙ is in
-    let outcome : IsOutcome (settled never_met now) call opened now carried.ruling = subst (λ (f : File). IsOutcome (settled f now) call opened now carried.ruling) was moves.steps.outcome in
-    bare_of (standing_at new.files number) k'
-    (moves.steps.file ∙ ap (λ (f : File). after_at f) was ∙ turned_away call opened now carried.ruling (settled never_met now) outcome status.0 status.1)
+    let was : file_of (seen k old number) ≡ never_met oldest = ap (λ (s : Standing). file_of (whole k s)) bare ∙ is in
+    let outcome : IsOutcome (settled (never_met oldest) now) call opened now carried.ruling = subst (λ (f : File). IsOutcome (settled f now) call opened now carried.ruling) was moves.steps.outcome in
+    bare_of oldest (standing_at new.files number) k'
+    (moves.steps.file ∙ ap (λ (f : File). after_at f) was ∙ turned_away call opened now carried.ruling (settled (never_met oldest) now) outcome status.0 status.1)
   where
     after_at : File → File
     after_at f = after_step (settled f now) call opened now carried.ruling
 
-pub skip_all : (folder folder' : Option Files) (v v' : List Version) (began count : ℕ) (files : List KeptFile) (number : ℕ) (k k' : KeptFile) (first old new : Locks) (call : Call) (opened now : ℕ) (carried : Carried)
+pub skip_all : (oldest : ℕ) (folder folder' : Option Files) (v v' : List Version) (began count : ℕ) (files : List KeptFile) (number : ℕ) (k k' : KeptFile) (first old new : Locks) (call : Call) (opened now : ℕ) (carried : Carried)
     → IsStocked (joined files first.files) v → first_of (is_named call.name) (joined files first.files) ≡ None → ((n : ℕ) → standing_at old.files n ≡ standing_at first.files n)
     → ((n : ℕ) → length files ≤ n → standing_at first.files n ≡ unlocked)
-    → file_of (whole k unlocked) ≡ never_met → k.torn ≡ false → number ≡ length files → Turns old new number now
+    → file_of (whole k unlocked) ≡ never_met oldest → k.torn ≡ false → number ≡ length files → Turns old new number now
     → (carried.ruling.status == 200 || carried.ruling.status == 500) ≡ false
     → Moves folder folder' v v' began count number (seen k old number) (seen k' new number) call opened now carried
-    → StepsAll folder folder' v v' began count (joined files (all_ended now first.files)) (joined files new.files) call opened now carried
-skip_all folder folder' v v' began count files number k k' first old new call opened now carried stocked none stands beyond is whole_k at turns turned moves =
+    → StepsAll oldest folder folder' v v' began count (joined files (all_ended now first.files)) (joined files new.files) call opened now carried
+skip_all oldest folder folder' v v' began count files number k k' first old new call opened now carried stocked none stands beyond is whole_k at turns turned moves =
     let ended = all_ended now first.files in
     let before = joined files ended in
     let long : number ≡ length before = at ∙ sym (long_joined files ended) in
     let bare : standing_at old.files number ≡ unlocked = stands number ∙ beyond number (omega (arith, at)) in
     let moves' = subst (λ (s : Standing). Moves folder folder' v v' began count number (whole k s) (seen k' new number) call opened now carried) bare moves in
-    subst (λ (l : List Whole). StepsAll folder folder' v v' began count before l call opened now carried)
+    subst (λ (l : List Whole). StepsAll oldest folder folder' v v' began count before l call opened now carried)
     (sym (joined_as files new.files ended (λ n lt. turns.others n (λ e. absurd (omega (arith, e, lt, at))) ∙ ap (ended_at now) (stands n) ∙ sym (stands_ended now first.files n))))
-    (skip_steps folder folder' v v' began count before number (whole k unlocked) (seen k' new number) call opened now carried
+    (skip_steps oldest folder folder' v v' began count before number (whole k unlocked) (seen k' new number) call opened now carried
     (stocked_any files first.files ended v stocked) (none_any files first.files ended call.name none) is whole_k long turned moves')
 
 pub locked_skip : (files : List KeptFile) (old new : Locks) (number now : ℕ) → ((n : ℕ) → length files ≤ n → standing_at old.files n ≡ unlocked) → length files < length old.files → number ≡ length files
@@ -210,17 +224,17 @@ locked_more files files' old new time e stands as_of longer locked = subst (λ (
 })
 
 -- nothing was done
-pub still_all : (folder : Option Files) (v : List Version) (before after : List Whole) (call : Call) (opened now : ℕ) (uncarried : Uncarried) → after ≡ before → IsStocked before v → uncarried.call ≡ call
-    → (uncarried.why ≡ refusal.KeptFull → ⊥) → StopsAll folder folder v v before after call opened now uncarried
-still_all folder v before after call opened now uncarried e stocked handed never = record {
-  shows = record { files = λ name. ap (λ (l : List Whole). files_of l name) e; torn = λ name. ap (λ (l : List Whole). torn_in l name) e };
+pub still_all : (oldest : ℕ) (folder : Option Files) (v : List Version) (before after : List Whole) (call : Call) (opened now : ℕ) (uncarried : Uncarried) → after ≡ before → IsStocked before v → uncarried.call ≡ call
+    → (uncarried.why ≡ refusal.KeptFull → ⊥) → StopsAll oldest folder folder v v before after call opened now uncarried
+still_all oldest folder v before after call opened now uncarried e stocked handed never = record {
+  shows = record { files = λ name. ap (λ (l : List Whole). files_of oldest l name) e; torn = λ name. ap (λ (l : List Whole). torn_in l name) e };
   stay = refl;
   folder = keeps_self folder;
   handed = handed;
   full = λ h. absurd (never h);
   stays = record {
     stocked = subst (λ (l : List Whole). IsStocked l v) (sym e) stocked;
-    opened = λ opening h. subst (λ (l : List Whole). AreOpeningFiles 0 opening (names_of l) v) (sym e) h;
+    opened = λ version opening h. subst (λ (l : List Whole). AreOpeningFiles version 0 opening (names_of l) v) (sym e) h;
     kept = λ call ruling h. subst (λ (l : List Whole). IsKept call ruling (names_of l) v) (sym e) h;
   };
   within = λ most h. subst (AreWithin most) (sym e) h;
@@ -228,20 +242,20 @@ still_all folder v before after call opened now uncarried e stocked handed never
 }
 
 -- a call on a name that wasn't met was stopped
-pub stopped_new : (folder folder' : Option Files) (v v' : List Version) (before after : List Whole) (k k' : Whole) (call : Call) (opened now : ℕ) (uncarried : Uncarried) → after ≡ before → IsStocked before v
-    → first_of (is_named call.name) before ≡ None → file_of k ≡ never_met → Stops folder folder' v v' k k' call opened now uncarried
-    → StopsAll folder folder' v v' before after call opened now uncarried
-stopped_new folder folder' v v' before after k k' call opened now uncarried e stocked none is stops =
-    let was : files_of before call.name ≡ file_of k = ap (λ (o : Option Whole). unwrap_or (option_map file_of o) never_met) none ∙ sym is in
+pub stopped_new : (oldest : ℕ) (folder folder' : Option Files) (v v' : List Version) (before after : List Whole) (k k' : Whole) (call : Call) (opened now : ℕ) (uncarried : Uncarried) → after ≡ before → IsStocked before v
+    → first_of (is_named call.name) before ≡ None → file_of k ≡ never_met oldest → Stops folder folder' v v' k k' call opened now uncarried
+    → StopsAll oldest folder folder' v v' before after call opened now uncarried
+stopped_new oldest folder folder' v v' before after k k' call opened now uncarried e stocked none is stops =
+    let was : files_of oldest before call.name ≡ file_of k = ap (λ (o : Option Whole). unwrap_or (option_map file_of o) (never_met oldest)) none ∙ sym is in
     record {
-      shows = record { files = λ name. ap (λ (l : List Whole). files_of l name) e; torn = λ name. ap (λ (l : List Whole). torn_in l name) e };
+      shows = record { files = λ name. ap (λ (l : List Whole). files_of oldest l name) e; torn = λ name. ap (λ (l : List Whole). torn_in l name) e };
       stay = stops.stay;
       folder = stops.folder;
       handed = stops.handed;
       full = λ h. subst (λ (f : File). IsNoRoomFor f (kept_in v) call opened now) (sym was) (stops.full h);
       stays = record {
         stocked = subst (λ (l : List Whole). IsStocked l v') (sym e) (subst (IsStocked before) (sym stops.stay) stocked);
-        opened = λ opening h. subst (λ (l : List Whole). AreOpeningFiles 0 opening (names_of l) v') (sym e) (subst (AreOpeningFiles 0 opening (names_of before)) (sym stops.stay) h);
+        opened = λ version opening h. subst (λ (l : List Whole). AreOpeningFiles version 0 opening (names_of l) v') (sym e) (subst (AreOpeningFiles version 0 opening (names_of before)) (sym stops.stay) h);
         kept = λ call ruling h. subst (λ (l : List Whole). IsKept call ruling (names_of l) v') (sym e) (subst (IsKept call ruling (names_of before)) (sym stops.stay) h);
       };
       within = λ most h. subst (AreWithin most) (sym e) h;
@@ -249,9 +263,9 @@ stopped_new folder folder' v v' before after k k' call opened now uncarried e st
     }
 
 -- the file of a name that wasn't met
-pub bare_seen : (k : KeptFile) (old new : Locks) (files : List KeptFile) (number time : ℕ) → AreLocked files old time → ((n : ℕ) → standing_at new.files n ≡ standing_at old.files n) → number ≡ length files
-    → file_of (whole k unlocked) ≡ never_met → file_of (seen k new number) ≡ never_met
-bare_seen k old new files number time locked stands at is = ap (λ (s : Standing). file_of (whole k s)) (stands number ∙ locked.beyond number (omega (arith, at))) ∙ is
+pub bare_seen : (oldest : ℕ) (k : KeptFile) (old new : Locks) (files : List KeptFile) (number time : ℕ) → AreLocked files old time → ((n : ℕ) → standing_at new.files n ≡ standing_at old.files n) → number ≡ length files
+    → file_of (whole k unlocked) ≡ never_met oldest → file_of (seen k new number) ≡ never_met oldest
+bare_seen oldest k old new files number time locked stands at is = ap (λ (s : Standing). file_of (whole k s)) (stands number ∙ locked.beyond number (omega (arith, at))) ∙ is
 
 pub within_at : (most : ℕ) (ws : List Whole) (place : ℕ) (w : Whole) → AreWithin most ws → w ≡ get_or ws place w → place < length ws → w.version ≤ most
 within_at most [] place w within e lt = absurd (omega (arith, lt))
@@ -266,8 +280,8 @@ locked_same files files' old new time long same locked = subst (λ (l : Locks). 
 })
 
 -- the room for a call is the same once the locks have ended
-pub room_raw : (files : List KeptFile) (ss : List Standing) (name : List ℕ) (kept : ℕ) (call : Call) (opened now : ℕ)
-    → IsRoomFor (files_of (joined files (all_ended now ss)) name) kept call opened now → IsRoomFor (files_of (joined files ss) name) kept call opened now
-room_raw files ss name kept call opened now room =
+pub room_raw : (oldest : ℕ) (files : List KeptFile) (ss : List Standing) (name : List ℕ) (kept : ℕ) (call : Call) (opened now : ℕ)
+    → IsRoomFor (files_of oldest (joined files (all_ended now ss)) name) kept call opened now → IsRoomFor (files_of oldest (joined files ss) name) kept call opened now
+room_raw oldest files ss name kept call opened now room =
     subst (λ (f : File). decision f call opened now ≡ Accept → brings_contents call.act ≡ true → kept + new_bytes call.act ≤ most_kept)
-    (ap (λ (f : File). settled f now) (files_ended files ss now name) ∙ ended_shows (files_of (joined files ss) name) now now (omega arith)) room
+    (ap (λ (f : File). settled f now) (files_ended oldest files ss now name) ∙ ended_shows (files_of oldest (joined files ss) name) now now (omega arith)) room

@@ -54,14 +54,14 @@ pub rose-stays : (began times count count' : ℕ) → RoseBy began times count �
 rose-stays began times count count' rose le = omega (arith, rose, le)
 
 -- where nothing moves the folder agrees as before
-pub agrees-stays : (only : Option ℕ) (start now now' : Option Files) (files files' : List Whole) → Agrees only start now (files_of files) (torn_in files)
-    → ShowsSame files files' → folder.Keeps now now' → Agrees only start now' (files_of files') (torn_in files')
-agrees-stays only None None None files files' agrees same keeps = tt
-agrees-stays only None None (Some now') files files' agrees same keeps = absurd keeps
-agrees-stays only None (Some now) now' files files' agrees same keeps = absurd agrees
-agrees-stays only (Some start) None now' files files' agrees same keeps = absurd agrees
-agrees-stays only (Some start) (Some now) None files files' agrees same keeps = absurd keeps
-agrees-stays only (Some start) (Some now) (Some now') files files' agrees same keeps = (
+pub agrees-stays : (oldest : ℕ) (only : Option ℕ) (start now now' : Option Files) (files files' : List Whole) → Agrees only start now (files_of oldest files) (torn_in files)
+    → ShowsSame oldest files files' → folder.Keeps now now' → Agrees only start now' (files_of oldest files') (torn_in files')
+agrees-stays oldest only None None None files files' agrees same keeps = tt
+agrees-stays oldest only None None (Some now') files files' agrees same keeps = absurd keeps
+agrees-stays oldest only None (Some now) now' files files' agrees same keeps = absurd agrees
+agrees-stays oldest only (Some start) None now' files files' agrees same keeps = absurd agrees
+agrees-stays oldest only (Some start) (Some now) None files files' agrees same keeps = absurd keeps
+agrees-stays oldest only (Some start) (Some now) (Some now') files files' agrees same keeps = (
   λ name own whole. keeps name ∙ agrees.0 name own (sym (same.torn name) ∙ whole) ∙ sym (ap (λ (f : File). f.contents) (same.files name)),
   λ name foreign. keeps name ∙ agrees.1 name foreign,
 )
@@ -70,47 +70,47 @@ both : (b : Bool) → b ≡ true → b ≡ false → ⊥
 both b h e = cc
 
 -- after a step the folder agrees with the files after it
-pub agrees-step : (only : Option ℕ) (start now now' : Option Files) (files files' : List Whole) (call : Call) (opened time : ℕ) (ruling : Ruling) → Agrees only start now (files_of files) (torn_in files)
-    → MayKeep only call.name → TakesStep files files' call opened time ruling → StoresAs now now' call ruling → Agrees only start now' (files_of files') (torn_in files')
-agrees-step only None None None files files' call opened time ruling agrees own takes stores = tt
-agrees-step only None None (Some now') files files' call opened time ruling agrees own takes stores = absurd stores.others
-agrees-step only None (Some now) now' files files' call opened time ruling agrees own takes stores = absurd agrees
-agrees-step only (Some start) None now' files files' call opened time ruling agrees own takes stores = absurd agrees
-agrees-step only (Some start) (Some now) None files files' call opened time ruling agrees own takes stores = absurd stores.others
-agrees-step only (Some start) (Some now) (Some now') files files' call opened time ruling agrees own takes stores = (
+pub agrees-step : (oldest : ℕ) (only : Option ℕ) (start now now' : Option Files) (files files' : List Whole) (call : Call) (opened time : ℕ) (ruling : Ruling) → Agrees only start now (files_of oldest files) (torn_in files)
+    → MayKeep only call.name → TakesStep oldest files files' call opened time ruling → StoresAs now now' call ruling → Agrees only start now' (files_of oldest files') (torn_in files')
+agrees-step oldest only None None None files files' call opened time ruling agrees own takes stores = tt
+agrees-step oldest only None None (Some now') files files' call opened time ruling agrees own takes stores = absurd stores.others
+agrees-step oldest only None (Some now) now' files files' call opened time ruling agrees own takes stores = absurd agrees
+agrees-step oldest only (Some start) None now' files files' call opened time ruling agrees own takes stores = absurd agrees
+agrees-step oldest only (Some start) (Some now) None files files' call opened time ruling agrees own takes stores = absurd stores.others
+agrees-step oldest only (Some start) (Some now) (Some now') files files' call opened time ruling agrees own takes stores = (
   λ name named whole. tells name named (bytes_eq call.name name) refl (sym (takes.torn name) ∙ whole) ∙ sym (ap (λ (f : File). f.contents) (takes.files name)),
   λ name foreign. stores.others name (λ e. foreign (subst (MayKeep only) (sym e) own)) ∙ agrees.1 name foreign,
 )
   where
     -- the file of the call
     here : (b : Bool) → is_store_call call.act ruling ≡ b → torn_after (torn_in files call.name) call.act ruling ≡ false
-        → now' call.name ≡ (after_step (settled (files_of files call.name) time) call opened time ruling).contents
+        → now' call.name ≡ (after_step (settled (files_of oldest files call.name) time) call opened time ruling).contents
     here true e whole =
         let done : ruling.status == 500 ≡ false = sym (ap (λ (b : Bool). if b then ruling.status == 500 else torn_in files call.name) e) ∙ whole in
-        stores.holds e done ∙ sym (contents-step (settled (files_of files call.name) time) call opened time ruling takes.outcome done
-        ∙ ap (λ (b : Bool). if b then brought call.act else (files_of files call.name).contents) e)
+        stores.holds e done ∙ sym (contents-step (settled (files_of oldest files call.name) time) call opened time ruling takes.outcome done
+        ∙ ap (λ (b : Bool). if b then brought call.act else (files_of oldest files call.name).contents) e)
     here false e whole =
         let done : ruling.status == 500 ≡ false = (or_none (ruling.status == 500) (ruling.status == 200 && is_stored call.act) e).0 in
         let before : torn_in files call.name ≡ false = sym (ap (λ (b : Bool). if b then ruling.status == 500 else torn_in files call.name) e) ∙ whole in
         stores.stays e call.name ∙ agrees.0 call.name own before
-        ∙ sym (contents-step (settled (files_of files call.name) time) call opened time ruling takes.outcome done
-        ∙ ap (λ (b : Bool). if b then brought call.act else (files_of files call.name).contents) e)
+        ∙ sym (contents-step (settled (files_of oldest files call.name) time) call opened time ruling takes.outcome done
+        ∙ ap (λ (b : Bool). if b then brought call.act else (files_of oldest files call.name).contents) e)
 
     tells : (name : List ℕ) → MayKeep only name → (b : Bool) → bytes_eq call.name name ≡ b
         → (if bytes_eq call.name name then torn_after (torn_in files call.name) call.act ruling else torn_in files name) ≡ false
-        → now' name ≡ (if bytes_eq call.name name then after_step (settled (files_of files call.name) time) call opened time ruling else files_of files name).contents
+        → now' name ≡ (if bytes_eq call.name name then after_step (settled (files_of oldest files call.name) time) call opened time ruling else files_of oldest files name).contents
     tells name named true e whole =
         let same : call.name ≡ name = (bytes_eq-Decides call.name name).0 e in
         let whole' : torn_after (torn_in files call.name) call.act ruling ≡ false =
         sym (ap (λ (b : Bool). if b then torn_after (torn_in files call.name) call.act ruling else torn_in files name) e) ∙ whole in
         ap now' (sym same) ∙ here (is_store_call call.act ruling) refl whole'
-        ∙ sym (ap (λ (b : Bool). (if b then after_step (settled (files_of files call.name) time) call opened time ruling else files_of files name).contents) e)
+        ∙ sym (ap (λ (b : Bool). (if b then after_step (settled (files_of oldest files call.name) time) call opened time ruling else files_of oldest files name).contents) e)
     tells name named false e whole =
         let whole' : torn_in files name ≡ false =
         sym (ap (λ (b : Bool). if b then torn_after (torn_in files call.name) call.act ruling else torn_in files name) e) ∙ whole in
         let differ : name ≢ call.name = λ h. absurd (both (bytes_eq call.name name) ((bytes_eq-Decides call.name name).1 (sym h)) e) in
         stores.others name differ ∙ agrees.0 name named whole'
-        ∙ sym (ap (λ (b : Bool). (if b then after_step (settled (files_of files call.name) time) call opened time ruling else files_of files name).contents) e)
+        ∙ sym (ap (λ (b : Bool). (if b then after_step (settled (files_of oldest files call.name) time) call opened time ruling else files_of oldest files name).contents) e)
 
 abbrev made_at : ℕ → ℕ → Call → ℕ → ℕ → ℕ → Ruling → Made
 made_at time last call pass floor moment ruling = record { time = max time moment; step = record { stamp = max last floor + 1; pass = pass; moment = moment; call = call; ruling = ruling } }
@@ -132,25 +132,25 @@ kept_push [] one names versions kept last = (last, tt)
 kept_push (first ∷ made) one names versions kept last = (kept.0, kept_push made one names versions kept.1 last)
 
 -- what is kept of the contents, with a step more
-archive-step : (opening : Opening) (made : List Made) (one : Made) (before after : List Whole) (old new : List Version) → IsArchive opening made before old
-    → StaysKept before after old new → IsKept one.step.call one.step.ruling (names_of after) new → ((most : ℕ) → AreWithin most before → AreWithin (most + 1) after)
-    → IsArchive opening (made ++ one ∷ []) after new
-archive-step opening made one before after old new archive stays kept within =
-    let more : 1 + length made + 1 ≡ 1 + length (made ++ one ∷ []) = let long = made_long made one in omega (arith, long) in
+archive-step : (oldest : ℕ) (opening : Opening) (made : List Made) (one : Made) (before after : List Whole) (old new : List Version) → IsArchive oldest opening made before old
+    → StaysKept before after old new → IsKept one.step.call one.step.ruling (names_of after) new → ((most : ℕ) → oldest ≤ most → AreWithin most before → AreWithin (most + 1) after)
+    → IsArchive oldest opening (made ++ one ∷ []) after new
+archive-step oldest opening made one before after old new archive stays kept within =
+    let more : oldest + length made + 1 ≡ oldest + length (made ++ one ∷ []) = let long = made_long made one in omega (arith, long) in
     record {
       stocked = stays.stocked;
-      opened = stays.opened opening archive.opened;
+      opened = stays.opened oldest opening archive.opened;
       kept = kept_push made one (names_of after) new (kept_all made (names_of before) (names_of after) old new stays.kept archive.kept) kept;
-      within = subst (λ (n : ℕ). AreWithin n after) more (within (1 + length made) archive.within);
+      within = subst (λ (n : ℕ). AreWithin n after) more (within (oldest + length made) (omega arith) archive.within);
     }
 
-archive-stays : (opening : Opening) (made : List Made) (before after : List Whole) (old new : List Version) → IsArchive opening made before old
-    → StaysKept before after old new → ((most : ℕ) → AreWithin most before → AreWithin most after) → IsArchive opening made after new
-archive-stays opening made before after old new archive stays within = record {
+archive-stays : (oldest : ℕ) (opening : Opening) (made : List Made) (before after : List Whole) (old new : List Version) → IsArchive oldest opening made before old
+    → StaysKept before after old new → ((most : ℕ) → AreWithin most before → AreWithin most after) → IsArchive oldest opening made after new
+archive-stays oldest opening made before after old new archive stays within = record {
   stocked = stays.stocked;
-  opened = stays.opened opening archive.opened;
+  opened = stays.opened oldest opening archive.opened;
   kept = kept_all made (names_of before) (names_of after) old new stays.kept archive.kept;
-  within = within (1 + length made) archive.within;
+  within = within (oldest + length made) archive.within;
 }
 
 agrees-state : (only : Option ℕ) (start now : Option Files) (files state : List ℕ → File) (torn torn' : List ℕ → Bool) → ((name : List ℕ) → (state name).contents ≡ (files name).contents) → ((name : List ℕ) → torn name ≡ torn' name)
@@ -163,50 +163,52 @@ agrees-state only (Some start) (Some now) files state torn torn' same tears agre
 -- the shard after a step
 pub stands-step : {F : Type 0} (book : Book F) (before after : Ledger) (start now now' : Option Files) (began count count' : ℕ) (call : Call) (pass floor moment : ℕ) (ruling : Ruling) (folder' : F)
     → Stands book before.last before.first_files (files_in before) before.versions.list start now began count
-    → book.opened ≡ before.opened → book.time ≡ before.time → IsMoment moment → MayKeep book.only call.name → length book.made ≢ book.capacity
+    → book.opened ≡ before.opened → book.first ≡ before.first → book.time ≡ before.time → IsMoment moment → MayKeep book.only call.name → length book.made ≢ book.capacity
     → Takes before after call pass floor moment ruling → StoresAs now now' call ruling → count ≤ count' → (ruling.status ≡ 500 → Rose count count')
     → Stands (record book { made = book.made ++ made_by before call pass floor moment ruling ∷ []; time = max book.time moment; folder = folder' })
     after.last after.first_files (files_in after) after.versions.list start now' began count'
-stands-step book before after start now now' began count count' call pass floor moment ruling folder' stands opened time m own room takes stores le fault =
+stands-step book before after start now now' began count count' call pass floor moment ruling folder' stands opened first time m own room takes stores le fault =
     let later = max book.time moment in
     let same_time : max before.time moment ≡ later = ap (λ (t : ℕ). max t moment) (sym time) in
     let mid = joined before.files.items (all_ended later before.locks.files) in
     let mid_is : ended_in before (max before.time moment) ≡ mid = ap (ended_in before) same_time in
     let again : max later moment ≡ later = omega arith in
-    let steps : TakesStep mid (files_in after) call book.opened later ruling =
-    subst (λ (o : ℕ). TakesStep mid (files_in after) call o later ruling) (sym opened)
-    (subst (λ (t : ℕ). TakesStep mid (files_in after) call before.opened t ruling) same_time
-    (subst (λ (l : List Whole). TakesStep l (files_in after) call before.opened (max before.time moment) ruling) mid_is takes.steps)) in
-    let steps' = subst (λ (t : ℕ). TakesStep mid (files_in after) call book.opened t ruling) (sym again) steps in
+    let steps : TakesStep book.first mid (files_in after) call book.opened later ruling =
+    subst (λ (o : ℕ). TakesStep book.first mid (files_in after) call o later ruling) (sym opened)
+    (subst (λ (t : ℕ). TakesStep book.first mid (files_in after) call before.opened t ruling) same_time
+    (subst (λ (l : List Whole). TakesStep book.first l (files_in after) call before.opened (max before.time moment) ruling) mid_is
+    (subst (λ (n : ℕ). TakesStep n (ended_in before (max before.time moment)) (files_in after) call before.opened (max before.time moment) ruling) (sym first) takes.steps))) in
+    let steps' = subst (λ (t : ℕ). TakesStep book.first mid (files_in after) call book.opened t ruling) (sym again) steps in
     let bytes = kept_in before.versions.list in
     let one : Made = record { time = later; step = record { stamp = max before.last floor + 1; pass = pass; moment = moment; call = call; ruling = ruling } } in
     let same : one ≡ made_by before call pass floor moment ruling = ap (λ (t : ℕ). made_at t before.last call pass floor moment ruling) time in
     let made' = book.made ++ made_by before call pass floor moment ruling ∷ [] in
-    let mid_keeps : Reflects book.opening book.opened book.capacity book.made later before.last bytes mid =
-    keeps-ended book.opening book.opened book.capacity book.made later before.last bytes before.files.items before.locks.files
-    (keeps-tick book.opening book.opened book.capacity book.made book.time before.last bytes (files_in before) stands.keeps moment m) in
-    let mid_agrees : Agrees book.only start now (files_of mid) (torn_in mid) =
-    agrees-state book.only start now (files_of (files_in before)) (files_of mid) (torn_in (files_in before)) (torn_in mid)
-    (λ name. contents_any before.files.items (all_ended later before.locks.files) before.locks.files name)
+    let mid_keeps : Reflects book.opening book.opened book.first book.capacity book.made later before.last bytes mid =
+    keeps-ended book.opening book.opened book.first book.capacity book.made later before.last bytes before.files.items before.locks.files
+    (keeps-tick book.opening book.opened book.first book.capacity book.made book.time before.last bytes (files_in before) stands.keeps moment m) in
+    let mid_agrees : Agrees book.only start now (files_of book.first mid) (torn_in mid) =
+    agrees-state book.only start now (files_of book.first (files_in before)) (files_of book.first mid) (torn_in (files_in before)) (torn_in mid)
+    (λ name. contents_any book.first before.files.items (all_ended later before.locks.files) before.locks.files name)
     (λ name. torn_any before.files.items before.locks.files (all_ended later before.locks.files) name) stands.folder in
-    let mid_archive : IsArchive book.opening book.made mid before.versions.list =
-    archive_any book.opening book.made before.files.items before.locks.files (all_ended later before.locks.files) before.versions.list stands.archive in
-    let stepped : Reflects book.opening book.opened book.capacity (book.made ++ one ∷ []) later (max before.last floor + 1) (bytes + (if ruling.status == 200 then new_bytes call.act else 0)) (files_in after) =
-    subst (λ (t : ℕ). Reflects book.opening book.opened book.capacity (book.made ++ record { time = t; step = one.step } ∷ []) t (max before.last floor + 1) (bytes + (if ruling.status == 200 then new_bytes call.act else 0)) (files_in after)) again
-    (keeps-step book.opening book.opened book.capacity book.made later before.last bytes mid (files_in after) mid_keeps call pass floor moment ruling m steps') in
+    let mid_archive : IsArchive book.first book.opening book.made mid before.versions.list =
+    archive_any book.first book.opening book.made before.files.items before.locks.files (all_ended later before.locks.files) before.versions.list stands.archive in
+    let stepped : Reflects book.opening book.opened book.first book.capacity (book.made ++ one ∷ []) later (max before.last floor + 1) (bytes + (if ruling.status == 200 then new_bytes call.act else 0)) (files_in after) =
+    subst (λ (t : ℕ). Reflects book.opening book.opened book.first book.capacity (book.made ++ record { time = t; step = one.step } ∷ []) t (max before.last floor + 1) (bytes + (if ruling.status == 200 then new_bytes call.act else 0)) (files_in after)) again
+    (keeps-step book.opening book.opened book.first book.capacity book.made later before.last bytes mid (files_in after) mid_keeps call pass floor moment ruling m steps') in
     record {
       keeps =
-          subst (λ (x : Made). Reflects book.opening book.opened book.capacity (book.made ++ x ∷ []) later after.last (kept_in after.versions.list) (files_in after)) same
-          (subst (λ (l : ℕ). Reflects book.opening book.opened book.capacity (book.made ++ one ∷ []) later l (kept_in after.versions.list) (files_in after)) (sym takes.last)
-          (subst (λ (b : ℕ). Reflects book.opening book.opened book.capacity (book.made ++ one ∷ []) later (max before.last floor + 1) b (files_in after)) (sym takes.kept) stepped));
-      folder = agrees-step book.only start now now' mid (files_in after) call book.opened later ruling mid_agrees own steps stores;
+          subst (λ (x : Made). Reflects book.opening book.opened book.first book.capacity (book.made ++ x ∷ []) later after.last (kept_in after.versions.list) (files_in after)) same
+          (subst (λ (l : ℕ). Reflects book.opening book.opened book.first book.capacity (book.made ++ one ∷ []) later l (kept_in after.versions.list) (files_in after)) (sym takes.last)
+          (subst (λ (b : ℕ). Reflects book.opening book.opened book.first book.capacity (book.made ++ one ∷ []) later (max before.last floor + 1) b (files_in after)) (sym takes.kept) stepped));
+      folder = agrees-step book.first book.only start now now' mid (files_in after) call book.opened later ruling mid_agrees own steps stores;
       faults = rose-step began count count' book.made (made_by before call pass floor moment ruling) stands.faults le fault;
       timely = λ h.
           subst (λ (x : Made). GoesByEntries book.opened (book.made ++ x ∷ []) (max book.time moment)) same (goes-push book.opened book.made one book.time (stands.timely h) refl);
-      archive = archive-step book.opening book.made (made_by before call pass floor moment ruling) mid (files_in after) before.versions.list after.versions.list mid_archive
+      archive = archive-step book.first book.opening book.made (made_by before call pass floor moment ruling) mid (files_in after) before.versions.list after.versions.list mid_archive
           (subst (λ (l : List Whole). StaysKept l (files_in after) before.versions.list after.versions.list) mid_is takes.stays) takes.archived
-          (λ most within. takes.within most (subst (AreWithin most) (sym mid_is) within));
-      first = takes.first ∙ stands.first;
+          (λ most above within. takes.within most (subst (λ (n : ℕ). n ≤ most) first above) (subst (AreWithin most) (sym mid_is) within));
+      first_files_are = takes.first_files ∙ stands.first_files_are;
+      number = stands.number;
       few =
           let more = made_long book.made (made_by before call pass floor moment ruling) in
           let old = stands.few in
@@ -220,65 +222,70 @@ stands-step book before after start now now' began count count' call pass floor 
 -- and after one that was refused
 pub stands-stays : {F : Type 0} (book : Book F) (before after : Ledger) (start now now' : Option Files) (began count count' : ℕ) (folder' : F)
     → Stands book before.last before.first_files (files_in before) before.versions.list start now began count
-    → Stays before after → folder.Keeps now now' → count ≤ count'
+    → book.first ≡ before.first → Stays before after → folder.Keeps now now' → count ≤ count'
     → Stands (record book { folder = folder' }) after.last after.first_files (files_in after) after.versions.list start now' began count'
-stands-stays book before after start now now' began count count' folder' stands stays keeps le = record {
-  keeps =
-      subst (λ (l : ℕ). Reflects book.opening book.opened book.capacity book.made book.time l (kept_in after.versions.list) (files_in after)) (sym stays.last)
-      (subst (λ (v : List Version). Reflects book.opening book.opened book.capacity book.made book.time before.last (kept_in v) (files_in after)) (sym stays.versions)
-      (keeps-stays book.opening book.opened book.capacity book.made book.time before.last (kept_in before.versions.list) (files_in before) (files_in after) stands.keeps stays.files));
-  folder = agrees-stays book.only start now now' (files_in before) (files_in after) stands.folder stays.files keeps;
-  faults = rose-stays began (faults_in book.made) count count' stands.faults le;
-  timely = stands.timely;
-  archive = archive-stays book.opening book.made (files_in before) (files_in after) before.versions.list after.versions.list stands.archive stays.stays stays.within;
-  first = stays.first ∙ stands.first;
-  few =
-      let old = stands.few in
-      let same = stays.few in
-      let was = long_joined before.files.items before.locks.files in
-      let is = long_joined after.files.items after.locks.files in
-      omega (arith, old, same, was, is);
-  places = stands.places;
-}
+stands-stays book before after start now now' began count count' folder' stands first stays keeps le =
+    let same : ShowsSame book.first (files_in before) (files_in after) = subst (λ (n : ℕ). ShowsSame n (files_in before) (files_in after)) (sym first) stays.files in
+    record {
+      keeps =
+          subst (λ (l : ℕ). Reflects book.opening book.opened book.first book.capacity book.made book.time l (kept_in after.versions.list) (files_in after)) (sym stays.last)
+          (subst (λ (v : List Version). Reflects book.opening book.opened book.first book.capacity book.made book.time before.last (kept_in v) (files_in after)) (sym stays.versions)
+          (keeps-stays book.opening book.opened book.first book.capacity book.made book.time before.last (kept_in before.versions.list) (files_in before) (files_in after) stands.keeps same));
+      folder = agrees-stays book.first book.only start now now' (files_in before) (files_in after) stands.folder same keeps;
+      faults = rose-stays began (faults_in book.made) count count' stands.faults le;
+      timely = stands.timely;
+      archive = archive-stays book.first book.opening book.made (files_in before) (files_in after) before.versions.list after.versions.list stands.archive stays.stays stays.within;
+      first_files_are = stays.first_files ∙ stands.first_files_are;
+      number = stands.number;
+      few =
+          let old = stands.few in
+          let same = stays.few in
+          let was = long_joined before.files.items before.locks.files in
+          let is = long_joined after.files.items after.locks.files in
+          omega (arith, old, same, was, is);
+      places = stands.places;
+    }
 
 -- what holds of every shard
 pub lawful : {F : Type 0} (book : Book F) (last first : ℕ) (files : List Whole) (versions : List Version) (start now : Option Files) (began count : ℕ)
     → Stands book last first files versions start now began count → IsLawful book start now began count
 lawful book last first files versions start now began count stands = record {
-  legal = Legal-tick book.opening book.opened (items_of book.made) book.time stands.keeps.legal;
-  folder = agrees-state book.only start now (files_of files) (state_of book.opening book.opened book.made book.time).files (torn_in files) (is_torn book.made)
+  legal = Legal-tick book.opening book.opened book.first (items_of book.made) book.time stands.keeps.legal;
+  folder = agrees-state book.only start now (files_of book.first files) (state_of book.opening book.opened book.first book.made book.time).files (torn_in files) (is_torn book.made)
       (λ name. sym (ap (λ (f : File). f.contents) (stands.keeps.shows name))) stands.keeps.torn stands.folder;
   faults = stands.faults;
   timely = stands.timely;
-  alone = λ h. legal-untimed book.opening book.opened book.made book.time (stands.timely h).timely
-      (Legal-tick book.opening book.opened (items_of book.made) book.time stands.keeps.legal);
+  alone = λ h. legal-untimed book.opening book.opened book.first book.made book.time (stands.timely h).timely
+      (Legal-tick book.opening book.opened book.first (items_of book.made) book.time stands.keeps.legal);
 }
 
 -- the book with a step is that of the parts after it
 pub book_step : {F : Type 0} (book : Book F) (before after : Ledger) (call : Call) (pass floor moment : ℕ) (ruling : Ruling) (folder' : F)
-    → book.opened ≡ before.opened → book.capacity ≡ before.capacity → book.made ≡ before.entries.items → book.time ≡ before.time
+    → book.opened ≡ before.opened → book.first ≡ before.first → book.capacity ≡ before.capacity → book.made ≡ before.entries.items → book.time ≡ before.time
     → Takes before after call pass floor moment ruling
     → (record book { made = book.made ++ made_by before call pass floor moment ruling ∷ []; time = max book.time moment; folder = folder' })
-    ≡ record { only = book.only; opening = book.opening; opened = after.opened; capacity = after.capacity; made = after.entries.items; time = after.time; ticked = book.ticked; start = book.start; folder = folder' }
-book_step book before after call pass floor moment ruling folder' opened capacity made time takes =
+    ≡ record { only = book.only; opening = book.opening; opened = after.opened; first = after.first; capacity = after.capacity; made = after.entries.items; time = after.time; ticked = book.ticked; start = book.start; folder = folder' }
+book_step book before after call pass floor moment ruling folder' opened first capacity made time takes =
     let opened' = opened ∙ sym takes.opened in
+    let first' = first ∙ sym takes.first in
     let capacity' = capacity ∙ sym takes.capacity in
     let made' : book.made ++ made_by before call pass floor moment ruling ∷ [] ≡ after.entries.items =
     ap (λ (m : List Made). m ++ made_by before call pass floor moment ruling ∷ []) made ∙ sym takes.entries in
     let time' : max book.time moment ≡ after.time = ap (λ (t : ℕ). max t moment) time ∙ sym takes.time in
-    λ i. record { only = book.only; opening = book.opening; opened = opened' i; capacity = capacity' i; made = made' i; time = time' i; ticked = book.ticked; start = book.start; folder = folder' }
+    λ i. record { only = book.only; opening = book.opening; opened = opened' i; first = first' i; capacity = capacity' i; made = made' i; time = time' i; ticked = book.ticked; start = book.start; folder = folder' }
 
 pub book_stays : {F : Type 0} (book : Book F) (before after : Ledger) (folder' : F)
-    → book.opened ≡ before.opened → book.capacity ≡ before.capacity → book.made ≡ before.entries.items → book.time ≡ before.time
+    → book.opened ≡ before.opened → book.first ≡ before.first → book.capacity ≡ before.capacity → book.made ≡ before.entries.items → book.time ≡ before.time
     → Stays before after
     → (record book { folder = folder' })
-    ≡ record { only = book.only; opening = book.opening; opened = after.opened; capacity = after.capacity; made = after.entries.items; time = after.time; ticked = book.ticked; start = book.start; folder = folder' }
-book_stays book before after folder' opened capacity made time stays =
+    ≡ record { only = book.only; opening = book.opening; opened = after.opened; first = after.first; capacity = after.capacity; made = after.entries.items; time = after.time; ticked = book.ticked; start = book.start; folder = folder' }
+book_stays book before after folder' opened first capacity made time stays =
     let opened' = opened ∙ sym stays.opened in
+    let first' = first ∙ sym stays.first in
     let capacity' = capacity ∙ sym stays.capacity in
     let made' = made ∙ sym stays.entries in
     let time' = time ∙ sym stays.time in
-    λ i. record { only = book.only; opening = book.opening; opened = opened' i; capacity = capacity' i; made = made' i; time = time' i; ticked = book.ticked; start = book.start; folder = folder' }
+    λ i. record { only = book.only; opening = book.opening; opened = opened' i; first = first' i; capacity = capacity' i; made = made' i; time = time' i; ticked = book.ticked; start = book.start; folder = folder' }
 
 pub rose-begin : (began count : ℕ) → began ≤ count → RoseBy began (faults_in []) count
 rose-begin began count le = omega (arith, le)
@@ -292,18 +299,19 @@ stands-tick book ledger start now began count moment time ss ticked m time_is ss
     let files = ledger.files.items in
     let ended = all_ended time ledger.locks.files in
     let bytes = kept_in ledger.versions.list in
-    let passed : Reflects book.opening book.opened book.capacity book.made time ledger.last bytes (files_in ledger) =
-    subst (λ (t : ℕ). Reflects book.opening book.opened book.capacity book.made t ledger.last bytes (files_in ledger)) (sym time_is)
-    (keeps-tick book.opening book.opened book.capacity book.made book.time ledger.last bytes (files_in ledger) stands.keeps moment m) in
+    let passed : Reflects book.opening book.opened book.first book.capacity book.made time ledger.last bytes (files_in ledger) =
+    subst (λ (t : ℕ). Reflects book.opening book.opened book.first book.capacity book.made t ledger.last bytes (files_in ledger)) (sym time_is)
+    (keeps-tick book.opening book.opened book.first book.capacity book.made book.time ledger.last bytes (files_in ledger) stands.keeps moment m) in
     record {
-      keeps = subst (λ (l : List Standing). Reflects book.opening book.opened book.capacity book.made time ledger.last bytes (joined files l)) (sym ss_is)
-          (keeps-ended book.opening book.opened book.capacity book.made time ledger.last bytes files ledger.locks.files passed);
-      folder = agrees-state book.only start now (files_of (files_in ledger)) (files_of (joined files ss)) (torn_in (files_in ledger)) (torn_in (joined files ss))
-          (λ name. contents_any files ss ledger.locks.files name) (λ name. torn_any files ledger.locks.files ss name) stands.folder;
+      keeps = subst (λ (l : List Standing). Reflects book.opening book.opened book.first book.capacity book.made time ledger.last bytes (joined files l)) (sym ss_is)
+          (keeps-ended book.opening book.opened book.first book.capacity book.made time ledger.last bytes files ledger.locks.files passed);
+      folder = agrees-state book.only start now (files_of book.first (files_in ledger)) (files_of book.first (joined files ss)) (torn_in (files_in ledger)) (torn_in (joined files ss))
+          (λ name. contents_any book.first files ss ledger.locks.files name) (λ name. torn_any files ledger.locks.files ss name) stands.folder;
       faults = stands.faults;
       timely = λ h. absurd (cc (h, ticks));
-      archive = archive_any book.opening book.made files ledger.locks.files ss ledger.versions.list stands.archive;
-      first = stands.first;
+      archive = archive_any book.first book.opening book.made files ledger.locks.files ss ledger.versions.list stands.archive;
+      first_files_are = stands.first_files_are;
+      number = stands.number;
       few = let few = stands.few in let was = long_joined files ledger.locks.files in let is = long_joined files ss in omega (arith, few, was, is);
       places = stands.places;
     }

@@ -25,7 +25,7 @@ entries-history made time = entries-items made (Tick time ∷ []) ∙ append-nil
 
 -- a shard at a moment depends on the later of its time and the moment
 at_later : (shard : model.Shard) (m n : ℕ) → max shard.now m ≡ max shard.now n → at_moment shard m ≡ at_moment shard n
-at_later shard m n same = λ i. record { opened = shard.opened; now = same i; files = λ name. settled (shard.files name) (same i) }
+at_later shard m n same = λ i. record { opened = shard.opened; first = shard.first; now = same i; files = λ name. settled (shard.files name) (same i) }
 
 -- a tick to the time that an entry brings changes nothing
 tick_again : (shard : model.Shard) (time m : ℕ) → time ≡ max shard.now m → at_moment (at_moment shard time) m ≡ at_moment shard m
@@ -57,17 +57,17 @@ along-untimed shard (one ∷ made) rest t a =
     let Q : model.Shard → Type 0 = λ s. Along IsAllowed s (items_of made ++ rest) in
     (here, along-untimed next made rest (subst (λ (n : ℕ). IsTimely n made) t.0 t.1) (subst Q (step_again shard one t.0) a.1.1))
 
-pub legal-untimed : (opening : Opening) (opened : ℕ) (made : List Made) (time : ℕ) → IsTimely opened made → Legal opening opened (history_of made time) → Legal opening opened (untimed made)
-legal-untimed opening opened made time t l = record {
-  allowed = along-untimed (opened_shard opening opened) made (Tick time ∷ []) t l.allowed;
+pub legal-untimed : (opening : Opening) (opened first : ℕ) (made : List Made) (time : ℕ) → IsTimely opened made → Legal opening opened first (history_of made time) → Legal opening opened first (untimed made)
+legal-untimed opening opened first made time t l = record {
+  allowed = along-untimed (opened_shard opening opened first) made (Tick time ∷ []) t l.allowed;
   stamps = subst (λ (es : List Entry). model.RisesFrom 0 (stamps es)) (entries-history made time ∙ sym (entries-untimed made)) l.stamps;
 }
 
 -- a call finds the same shard
-pub found-untimed : (opening : Opening) (opened : ℕ) (made : List Made) (time m : ℕ) → IsTimely opened made → time ≡ last_time opened made
-    → at_moment (after (opened_shard opening opened) (history_of made time)) m ≡ at_moment (after (opened_shard opening opened) (untimed made)) m
-found-untimed opening opened made time m t is =
-    let begin = opened_shard opening opened in
+pub found-untimed : (opening : Opening) (opened first : ℕ) (made : List Made) (time m : ℕ) → IsTimely opened made → time ≡ last_time opened made
+    → at_moment (after (opened_shard opening opened first) (history_of made time)) m ≡ at_moment (after (opened_shard opening opened first) (untimed made)) m
+found-untimed opening opened first made time m t is =
+    let begin = opened_shard opening opened first in
     let end = after begin (untimed made) in
     let now : end.now ≡ time = after-now begin made t ∙ sym is in
     ap (λ (s : model.Shard). at_moment s m) (after-append begin (items_of made) (Tick time ∷ []) ∙ ap (λ (s : model.Shard). at_moment s time) (after-untimed begin made t))
@@ -82,23 +82,23 @@ IsFullBy opening opened capacity floor call es at =
     × (most_kept < (sum_by (λ (file : List ℕ × List ℕ). length file.1) opening + sum_by (λ (entry : Entry). if entry.ruling.status == 200 then new_bytes entry.call.act else 0) es) + new_bytes call.act)))
 
 -- fullness looks at the entries and at the shard that a call finds
-full_both : (opening : Opening) (opened capacity floor : ℕ) (call : Call) (m : ℕ) (h k : List Item) → entries h ≡ entries k
-    → at_moment (after (opened_shard opening opened) h) m ≡ at_moment (after (opened_shard opening opened) k) m → FullAt opening opened capacity h floor call m → FullAt opening opened capacity k floor call m
+full_both : (opening : Opening) (opened first capacity floor : ℕ) (call : Call) (m : ℕ) (h k : List Item) → entries h ≡ entries k
+    → at_moment (after (opened_shard opening opened first) h) m ≡ at_moment (after (opened_shard opening opened first) k) m → FullAt opening opened first capacity h floor call m → FullAt opening opened first capacity k floor call m
 unfolding IsFullBy
-full_both opening opened capacity floor call m h k es at full =
+full_both opening opened first capacity floor call m h k es at full =
     let P : List Entry × model.Shard → Type 0 = λ p. IsFullBy opening opened capacity floor call p.0 p.1 in
-    let pair : (entries h, at_moment (after (opened_shard opening opened) h) m) ≡ (entries k, at_moment (after (opened_shard opening opened) k) m) = λ i. (es i, at i) in
+    let pair : (entries h, at_moment (after (opened_shard opening opened first) h) m) ≡ (entries k, at_moment (after (opened_shard opening opened first) k) m) = λ i. (es i, at i) in
     subst P pair full
 
-module _ (opening : Opening) (opened capacity : ℕ) (made : List Made) (time floor : ℕ) (call : Call) (m : ℕ) (timely : IsTimely opened made) (is : time ≡ last_time opened made) where
+module _ (opening : Opening) (opened first capacity : ℕ) (made : List Made) (time floor : ℕ) (call : Call) (m : ℕ) (timely : IsTimely opened made) (is : time ≡ last_time opened made) where
   same_entries : entries (history_of made time) ≡ entries (untimed made)
   same_entries = entries-history made time ∙ sym (entries-untimed made)
 
-  pub full-untimed : FullAt opening opened capacity (history_of made time) floor call m → FullAt opening opened capacity (untimed made) floor call m
-  full-untimed = full_both opening opened capacity floor call m (history_of made time) (untimed made) same_entries (found-untimed opening opened made time m timely is)
+  pub full-untimed : FullAt opening opened first capacity (history_of made time) floor call m → FullAt opening opened first capacity (untimed made) floor call m
+  full-untimed = full_both opening opened first capacity floor call m (history_of made time) (untimed made) same_entries (found-untimed opening opened first made time m timely is)
 
-  pub full-timed : FullAt opening opened capacity (untimed made) floor call m → FullAt opening opened capacity (history_of made time) floor call m
-  full-timed = full_both opening opened capacity floor call m (untimed made) (history_of made time) (sym same_entries) (sym (found-untimed opening opened made time m timely is))
+  pub full-timed : FullAt opening opened first capacity (untimed made) floor call m → FullAt opening opened first capacity (history_of made time) floor call m
+  full-timed = full_both opening opened first capacity floor call m (untimed made) (history_of made time) (sym same_entries) (sym (found-untimed opening opened first made time m timely is))
 
 pub last_time-push : (time : ℕ) (made : List Made) (one : Made) → last_time time (made ++ one ∷ []) ≡ one.time
 last_time-push time [] one = refl
@@ -135,32 +135,32 @@ happened-push true made one =
 happened-push false made one = untimed-push made one
 
 -- what has happened is legal
-pub legal-happened : (b : Bool) (opening : Opening) (opened : ℕ) (made : List Made) (time : ℕ) → Legal opening opened (history_of made time) → (b ≡ false → Legal opening opened (untimed made))
-    → Legal opening opened (happened_of b made time)
-legal-happened true opening opened made time legal alone = legal
-legal-happened false opening opened made time legal alone = alone refl
+pub legal-happened : (b : Bool) (opening : Opening) (opened first : ℕ) (made : List Made) (time : ℕ) → Legal opening opened first (history_of made time) → (b ≡ false → Legal opening opened first (untimed made))
+    → Legal opening opened first (happened_of b made time)
+legal-happened true opening opened first made time legal alone = legal
+legal-happened false opening opened first made time legal alone = alone refl
 
 -- a call at a moment finds the same shard, whether time has gone on to it or not
-found-later : (opening : Opening) (opened : ℕ) (made : List Made) (time m : ℕ)
-    → at_moment (after (opened_shard opening opened) (history_of made (max time m))) m ≡ at_moment (after (opened_shard opening opened) (history_of made time)) m
-found-later opening opened made time m =
-    let begin = opened_shard opening opened in
+found-later : (opening : Opening) (opened first : ℕ) (made : List Made) (time m : ℕ)
+    → at_moment (after (opened_shard opening opened first) (history_of made (max time m))) m ≡ at_moment (after (opened_shard opening opened first) (history_of made time)) m
+found-later opening opened first made time m =
+    let begin = opened_shard opening opened first in
     let before = after begin (items_of made) in
     let at_tick : (t : ℕ) → at_moment (after begin (history_of made t)) m ≡ at_moment before (max t m) =
     λ t. ap (λ (s : model.Shard). at_moment s m) (after-append begin (items_of made) (Tick t ∷ [])) ∙ at_moment-at_moment before t m in
     at_tick (max time m) ∙ at_later before (max (max time m) m) (max time m) (omega arith) ∙ sym (at_tick time)
 
-module _ (opening : Opening) (opened capacity : ℕ) (made : List Made) (time floor : ℕ) (call : Call) (m : ℕ) where
+module _ (opening : Opening) (opened first capacity : ℕ) (made : List Made) (time floor : ℕ) (call : Call) (m : ℕ) where
   -- what the shard is full by before an entry, it was full by when the call came
-  pub full-found : (b : Bool) → (b ≡ false → GoesByEntries opened made time) → FullAt opening opened capacity (happened_of b made (max time m)) floor call m
-      → FullAt opening opened capacity (history_of made time) floor call m
+  pub full-found : (b : Bool) → (b ≡ false → GoesByEntries opened made time) → FullAt opening opened first capacity (happened_of b made (max time m)) floor call m
+      → FullAt opening opened first capacity (history_of made time) floor call m
   full-found true goes full =
       let later = max time m in
       let same : entries (history_of made later) ≡ entries (history_of made time) = entries-history made later ∙ sym (entries-history made time) in
-      full_both opening opened capacity floor call m (history_of made later) (history_of made time) same (found-later opening opened made time m) full
-  full-found false goes full = full-timed opening opened capacity made time floor call m (goes refl).timely (goes refl).time_is full
+      full_both opening opened first capacity floor call m (history_of made later) (history_of made time) same (found-later opening opened first made time m) full
+  full-found false goes full = full-timed opening opened first capacity made time floor call m (goes refl).timely (goes refl).time_is full
 
-  pub full-happened : (b : Bool) → (b ≡ false → GoesByEntries opened made time) → FullAt opening opened capacity (history_of made time) floor call m
-      → FullAt opening opened capacity (happened_of b made time) floor call m
+  pub full-happened : (b : Bool) → (b ≡ false → GoesByEntries opened made time) → FullAt opening opened first capacity (history_of made time) floor call m
+      → FullAt opening opened first capacity (happened_of b made time) floor call m
   full-happened true goes full = full
-  full-happened false goes full = full-untimed opening opened capacity made time floor call m (goes refl).timely (goes refl).time_is full
+  full-happened false goes full = full-untimed opening opened first capacity made time floor call m (goes refl).timely (goes refl).time_is full

@@ -20,6 +20,7 @@ book_of s = record {
   only = s.only.value;
   opening = opening_listed s.opening.value.items;
   opened = s.ledger.opened;
+  first = s.ledger.first;
   capacity = s.ledger.capacity;
   made = s.ledger.entries.items;
   time = s.ledger.time;
@@ -33,9 +34,9 @@ left_of p = record { opening = opening_listed p.opening.value.items; made = p.en
 
 -- what a shard leaves has its contents among its versions, and the numbers of its names in its index
 pub record IsLeft {F : Type 0} (p : past.Inside F) : Type 0 where
-  pub archive : IsArchive (opening_listed p.opening.value.items) p.entries.items (joined p.files.items []) p.versions.list
+  pub archive : IsArchive p.first (opening_listed p.opening.value.items) p.entries.items (joined p.files.items []) p.versions.list
   pub numbered : IsNumbered p.index (named p.files.items)
-  pub first : p.first_files ≡ length (opening_listed p.opening.value.items)
+  pub first_files : p.first_files ≡ length (opening_listed p.opening.value.items)
   pub inside : p.first_files ≤ length p.files.items
   pub few : length p.files.items ≤ 2 ^ 32
 

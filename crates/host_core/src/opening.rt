@@ -115,11 +115,12 @@ fn read_one<F: Folder>(
     }
 }
 
-/// Adds a file that was read, at version 1 and unlocked.
-fn stock_one(stock: &mut Stock, file: ReadFile) -> Result<(), Memory>
-    requires stock { IsStock stock.old }
+/// Adds a file that was read, at that version and unlocked.
+fn stock_one(stock: &mut Stock, file: ReadFile, first: u64) -> Result<(), Memory>
+    requires stock { IsStock first stock.old }
+    requires first { 1 ≤ first }
     requires fresh { place_in (map (λ one. one.0) (opening_listed stock.old.opening.items)) file.name ≡ None }
-    ensures stock { OnOk result (IsStock stock.new) }
+    ensures stock { OnOk result (IsStock first stock.new) }
     ensures opening { OnOk result (opening_listed stock.new.opening.items ≡ opening_listed stock.old.opening.items ++ (file.name, file.contents) ∷ []) }
 {
     let count = stock.files.len();
@@ -128,29 +129,30 @@ fn stock_one(stock: &mut Stock, file: ReadFile) -> Result<(), Memory>
     }
     let ReadFile { name, contents } = file;
     let place = stock.versions.len();
-    let kept = opened(&name, &contents, place);
+    let kept = opened(&name, &contents, place, first);
     stock.index.add(name.copy(), count as u32)?;
-    let first = OpeningFile {
+    let listed = OpeningFile {
         name,
         contents: Extent::of(&contents, place),
     };
-    stock.opening.push(first)?;
+    stock.opening.push(listed)?;
     stock.files.push(kept)?;
-    match stock.versions.add(count as u32, 1, contents) {
+    match stock.versions.add(count as u32, first, contents) {
         Ok(()) => return Ok(()),
         Err(_) => return Err(Memory),
     }
 }
 
-/// The file of a name that stood there at the opening.
-fn opened(name: &FileName, contents: &Bytes, place: usize) -> KeptFile
-    ensures file { file_of (whole result unlocked) ≡ opened_with contents.now }
+/// The file of a name that stood there at the opening, at that version.
+fn opened(name: &FileName, contents: &Bytes, place: usize, first: u64) -> KeptFile
+    requires { 1 ≤ first }
+    ensures file { file_of (whole result unlocked) ≡ opened_with first contents.now }
     ensures name { result.name ≡ name.now }
     ensures torn { result.torn ≡ false }
 {
-    let mut file = unmet(name);
+    let mut file = unmet(name, first);
     file.contents = Some(Extent::of(contents, place));
-    file.version = 1;
+    file.version = first;
     file
 }
 
@@ -175,10 +177,12 @@ fn read_names<F: Folder>(
     only: Option<u8>,
     names: &mut BTreeSet<ByBytes>,
     stock: &mut Stock,
+    first: u64,
 ) -> Result<(), StartFault>
-    requires stock { IsStock stock.old }
+    requires stock { IsStock first stock.old }
+    requires first { 1 ≤ first }
     requires gathers { Gathers only (F.files folder.old) (has names.old) (opening_listed stock.old.opening.items) }
-    ensures stock { OnOk result (IsStock stock.new) }
+    ensures stock { OnOk result (IsStock first stock.new) }
     ensures gathers { OnOk result (Gathers only (F.files folder.old) (λ name. false) (opening_listed stock.new.opening.items)) }
     ensures too_large { IfErr result (λ fault. IfTooLarge fault (IsTooLarge only (F.files folder.old))) }
     ensures failed { IfErr result (λ fault. fault ≡ StartFault.FolderFault → Rose (F.faults folder.old) (F.faults folder.new)) }
@@ -189,7 +193,7 @@ fn read_names<F: Folder>(
         match read_one(folder, next.name, stock.versions.kept()) {
             Err(fault) => return Err(fault),
             Ok(None) => {}
-            Ok(Some(file)) => match stock_one(stock, file) {
+            Ok(Some(file)) => match stock_one(stock, file, first) {
                 Ok(()) => {}
                 Err(_) => return Err(StartFault::Memory),
             },
@@ -203,10 +207,12 @@ pub fn gather<F: Folder>(
     alloc: Global,
     folder: &mut F,
     only: Option<u8>,
+    first: u64,
 ) -> Result<Stock, StartFault>
+    requires { 1 ≤ first }
     ensures opening { IfOk result (λ stock. IsOpening only (F.files folder.old) (opening_listed stock.opening.items)) }
     ensures fits { IfOk result (λ stock. Fits (opening_listed stock.opening.items)) }
-    ensures stock { IfOk result IsStock }
+    ensures stock { IfOk result (IsStock first) }
     ensures too_large { IfErr result (λ fault. IfTooLarge fault (IsTooLarge only (F.files folder.old))) }
     ensures failed { IfErr result (λ fault. fault ≡ StartFault.FolderFault → Rose (F.faults folder.old) (F.faults folder.new)) }
     ensures same { Keeps (F.files folder.old) (F.files folder.new) }
@@ -227,7 +233,7 @@ pub fn gather<F: Folder>(
         index: NameIndex::new(alloc),
         versions: Versions::new(alloc),
     };
-    match read_names(folder, only, &mut names, &mut stock) {
+    match read_names(folder, only, &mut names, &mut stock, first) {
         Ok(()) => return Ok(stock),
         Err(fault) => return Err(fault),
     }

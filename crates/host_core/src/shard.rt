@@ -14,7 +14,7 @@ ghost use Rattle.host_core.specs.Files.{files_of, torn_in};
 ghost use Rattle.host_core.specs.Ledger.{IsFullFault, handed_back};
 ghost use Rattle.host_core.specs.Memory.{takes_no_memory};
 ghost use Rattle.host_core.specs.Turns.{AreAsOf};
-ghost use Rattle.host_core.specs.Opening.{IsOfShard, IsOpening, Fits, IsTooLarge, IfTooLarge};
+ghost use Rattle.host_core.specs.Opening.{IsFirstVersion, IsOfShard, IsOpening, Fits, IsTooLarge, IfTooLarge};
 
 use crate::entry::Entry;
 use crate::file::KeptFile;
@@ -77,21 +77,24 @@ impl<F: Folder> Shard<F> {
     ghost use Rattle.host_core.specs.View.{IsViewOf};
 
     /// Opens a shard over a folder: its files whose names are file names, of shard `only` where a number is
-    /// given, each at version 1 and unlocked. Other names are left alone. A refusal hands the folder back.
+    /// given, each at version `first` and unlocked. Other names are left alone. A refusal hands the folder back.
     pub fn start(
         alloc: Global,
         folder: F,
         only: Option<u8>,
         capacity: u32,
         opened: u64,
+        first: u64,
     ) -> Result<Shard<F>, (F, StartFault)>
         requires capacity { (1 ≤ capacity) × (capacity ≤ 32768) }
         requires only { IfSome only (λ number. number < 16) }
         requires opened { IsMoment opened }
+        requires first { IsFirstVersion first }
         ensures opened { IfOk result (λ shard. shard ≡ record {
           only = only;
           opening = shard.opening;
           opened = opened;
+          first = first;
           capacity = capacity;
           made = [];
           time = opened;
@@ -111,7 +114,7 @@ impl<F: Folder> Shard<F> {
     {
         let mut folder = folder;
         let start = Snapshot::of(&folder);
-        match gather(alloc, &mut folder, only) {
+        match gather(alloc, &mut folder, only, first) {
             Ok(mut stock) => match take_room(
                 alloc,
                 &mut stock.versions,
@@ -120,7 +123,7 @@ impl<F: Folder> Shard<F> {
             ) {
                 Ok(room) => {
                     let shard = Shard::assemble(
-                        alloc, folder, only, start, stock, room, capacity, opened,
+                        alloc, folder, only, start, stock, room, capacity, opened, first,
                     );
                     return Ok(shard);
                 }
@@ -160,9 +163,9 @@ impl<F: Folder> Shard<F> {
         }) }
         ensures stamp { IfOk result (λ step. step.0 ≡ max (last_from 0 (stamps (entries (history_of self.old.made self.old.time)))) floor + 1) }
         ensures back { IfOk result (λ step. step.2 ≡ back_of call.act step.1) }
-        ensures room { OnOk result (FullAt self.old.opening self.old.opened self.old.capacity (history_of self.old.made self.old.time) floor call moment → ⊥) }
+        ensures room { OnOk result (FullAt self.old.opening self.old.opened self.old.first self.old.capacity (history_of self.old.made self.old.time) floor call moment → ⊥) }
         ensures full { IfErr result (λ fault. IsFullFault fault
-            → FullAt self.old.opening self.old.opened self.old.capacity (history_of self.old.made self.old.time) floor call moment) }
+            → FullAt self.old.opening self.old.opened self.old.first self.old.capacity (history_of self.old.made self.old.time) floor call moment) }
         ensures err { OnErr result (self.new ≡ record self.old { folder = self.new.folder }) }
         ensures call { IfErr result (λ fault. handed_back fault ≡ call) }
         ensures light { IfErr result (λ fault. takes_no_memory call.act ≡ true → IsFullFault fault) }
@@ -214,16 +217,16 @@ impl<F: Folder> Shard<F> {
         self.ledger.entries.len() as u64
     }
 
-    /// A file as it stands, where its name has a version.
+    /// A file as it stands, where its name was met: where it has a version from `first` on.
     pub fn file(&self, name: &FileName) -> Option<FileView<'_>>
-        ensures met { IsSome result ↔ (0 < ((state_of self.now.opening self.now.opened self.now.made self.now.time).files name.now).version) }
-        ensures view { IfSome result (λ view. IsViewOf view ((state_of self.now.opening self.now.opened self.now.made self.now.time).files name.now) (is_torn self.now.made name.now)) }
+        ensures met { IsSome result ↔ (self.now.first ≤ ((state_of self.now.opening self.now.opened self.now.first self.now.made self.now.time).files name.now).version) }
+        ensures view { IfSome result (λ view. IsViewOf view ((state_of self.now.opening self.now.opened self.now.first self.now.made self.now.time).files name.now) (is_torn self.now.made name.now)) }
     {
         match self.ledger.index.find(name) {
             None => None,
             Some(number) => {
                 let file = &self.ledger.files[number as usize];
-                let is_met = file.version > 0;
+                let is_met = file.version >= self.ledger.first;
                 if is_met {
                     Some(view_of(
                         &self.ledger.versions,
@@ -239,11 +242,11 @@ impl<F: Folder> Shard<F> {
         }
     }
 
-    /// The names that have a version, in the order of their bytes.
+    /// The names that were met, in the order of their bytes.
     pub fn names(&self) -> Result<NameList, Memory>
-        ensures { IfOk result (AreNames (state_of self.now.opening self.now.opened self.now.made self.now.time)) }
+        ensures { IfOk result (AreNames (state_of self.now.opening self.now.opened self.now.first self.now.made self.now.time)) }
     {
-        match names_of(self.ledger.alloc, &self.ledger.files) {
+        match names_of(self.ledger.alloc, &self.ledger.files, self.ledger.first) {
             Ok(names) => return Ok(names),
             Err(memory) => return Err(memory),
         }
@@ -259,10 +262,12 @@ impl<F: Folder> Shard<F> {
         room: Room,
         capacity: u32,
         opened: u64,
+        first: u64,
     ) -> Shard<F>
         requires moment { IsMoment opened }
+        requires first { IsFirstVersion first }
         requires capacity { capacity ≤ 32768 }
-        requires stock { IsStock stock }
+        requires stock { IsStock first stock }
         requires none { (number : ℕ) → standing_at room.locks.files number ≡ unlocked }
         requires as_of { AreAsOf 0 room.locks }
         requires long { length stock.files.items ≤ length room.locks.files }
@@ -277,6 +282,7 @@ impl<F: Folder> Shard<F> {
           only = only;
           opening = opening_listed stock.opening.items;
           opened = opened;
+          first = first;
           capacity = capacity;
           made = [];
           time = opened;
@@ -292,6 +298,7 @@ impl<F: Folder> Shard<F> {
             ledger: Ledger {
                 alloc,
                 opened,
+                first,
                 capacity,
                 time: opened,
                 last: 0,
@@ -325,6 +332,7 @@ impl<F: Folder> Shard<F> {
             opening,
         } = self;
         let past = Past {
+            first: ledger.first,
             first_files: ledger.first_files,
             files: ledger.files,
             index: ledger.index,

@@ -1,13 +1,13 @@
-use Rattle.std.proofs.Common.{◌≡◌, ◌<◌, ◌≤◌, ◌+◌, ◌||◌, ◌==◌, ℕ, Bool, true, false, List, [], ◌∷◌, ◌++◌, length, Option, None, refl, sym, ap, subst, ◌∙◌, arith}
+use Rattle.std.proofs.Common.{◌≡◌, ◌-◌, ℕ, List, [], ◌∷◌, ◌++◌, length, refl, sym, ap, subst, ◌∙◌, arith}
 use Rattle.std.proofs.lemmas.List.{length-map}
-use Rattle.wopi_model.specs.File.{File, never_met}
-use Rattle.kept_locks.specs.Locks.{Standing, Locks, all_ended, unlocked}
+use Rattle.wopi_model.specs.File.{File}
+use Rattle.kept_locks.specs.Locks.{Standing, Locks, all_ended}
 use Rattle.host_core.specs.declared.file.KeptFile.{KeptFile}
-use Rattle.host_core.specs.Files.{file_of, BeganAtMoment, IsKeptUnder}
+use Rattle.host_core.specs.Files.{BeganAtMoment}
 use Rattle.host_core.specs.Numbers.{named, IsNumbered, AreLocked}
 use Rattle.host_core.specs.Steps.{StepsAll}
 use Rattle.host_core.specs.Turns.{Turns}
-use Rattle.host_core.specs.Whole.{Whole, whole, seen, standing_at, joined}
+use Rattle.host_core.specs.Whole.{seen, standing_at, joined}
 use Rattle.host_core.proofs.Joining.{long_joined}
 use Rattle.host_core.proofs.Light.{create_takes}
 use Rattle.host_core.proofs.Meeting.{push_all, skip_all, skip_bare, still_all, stopped_new, bare_seen, fresh_name, joined_more, locked_more, locked_push, locked_skip}
@@ -31,8 +31,8 @@ step_file-requires-clause-held g c =
     let number = c.len-number.result in
     let at : number ≡ length kept = omega (arith, c.args.files.now.ok.0, c.len-number.ensures) in
     let k = c.unmet-file.result in
-    let is = bare_seen k first mid kept number c.args.now c.requires.locked c.make_place.ensures.stands at c.unmet-file.ensures.file in
-    unmet_is_held (joined kept first.files) c.args.versions.now.list (seen k mid number) number c.requires.stocked is (at ∙ sym (long_joined kept first.files))
+    let is = bare_seen c.args.first k first mid kept number c.args.now c.requires.locked c.make_place.ensures.stands at c.unmet-file.ensures.file in
+    unmet_is_held c.args.first (joined kept first.files) c.args.versions.now.list (seen k mid number) number c.requires.stocked is (at ∙ sym (long_joined kept first.files))
 
 pub step_file-requires-clause-moment : goal.step_file-requires-clause-moment
 step_file-requires-clause-moment g c =
@@ -46,8 +46,10 @@ step_file-requires-clause-moment g c =
 
 pub step_file-requires-clause-version : goal.step_file-requires-clause-version
 step_file-requires-clause-version g c =
-    let zero : c.unmet-file.result.version ≡ 0 = ap (λ (f : File). f.version) c.unmet-file.ensures.file in
-    omega (arith, zero)
+    let begin : c.unmet-file.result.version ≡ c.args.first - 1 = ap (λ (f : File). f.version) c.unmet-file.ensures.file in
+    let low = c.requires.first.0 in
+    let most = c.requires.first.1 in
+    omega (arith, begin, low, most)
 
 pub step_file-requires-clause-ready : goal.step_file-requires-clause-ready
 step_file-requires-clause-ready g c =
@@ -64,7 +66,7 @@ step_file-requires-clause-ready g c =
 
 pub returns-in-Err-clause-err : goal.returns-in-Err-clause-err
 returns-in-Err-clause-err g c =
-    still_all (g.F.Folder.files c.args.folder.now) c.args.versions.now.list (joined c.args.files.now.items c.args.locks.now.files) _ c.args.call c.args.opened c.args.now _
+    still_all c.args.first (g.F.Folder.files c.args.folder.now) c.args.versions.now.list (joined c.args.files.now.items c.args.locks.now.files) _ c.args.call c.args.opened c.args.now _
     (joined_more c.args.files.now.items c.make_place.new.files.items c.args.locks.now c.make_place.new.locks c.make_place.ensures.files c.make_place.ensures.stands) c.requires.stocked refl (λ h. cc)
 
 pub returns-in-Err-clause-stays : goal.returns-in-Err-clause-stays
@@ -94,8 +96,8 @@ returns-then-is_met_by-clause-ok g c =
     let k' = c.step_file.new.file in
     let named_k : k.name ≡ c.args.call.name = c.unmet-file.ensures.name ∙ c.copy-name.ensures in
     let met : c.meet.new.files.items ≡ kept ++ k' ∷ [] = c.meet.ensures ∙ ap (λ (f : List KeptFile). f ++ k' ∷ []) c.make_place.ensures.files in
-    subst (λ (f : List KeptFile). StepsAll folder folder' v v' began count (joined kept (all_ended c.args.now first.files)) (joined f new.files) c.args.call c.args.opened c.args.now c.in-Ok-step_file.carried) (sym met)
-    (push_all folder folder' v v' began count kept number k k' first mid new c.args.call c.args.opened c.args.now c.in-Ok-step_file.carried c.requires.stocked c.requires.place c.make_place.ensures.stands c.requires.locked.beyond
+    subst (λ (f : List KeptFile). StepsAll c.args.first folder folder' v v' began count (joined kept (all_ended c.args.now first.files)) (joined f new.files) c.args.call c.args.opened c.args.now c.in-Ok-step_file.carried) (sym met)
+    (push_all c.args.first folder folder' v v' began count kept number k k' first mid new c.args.call c.args.opened c.args.now c.in-Ok-step_file.carried c.requires.stocked c.requires.place c.make_place.ensures.stands c.requires.locked.beyond
     c.unmet-file.ensures.file c.unmet-file.ensures.torn named_k at c.in-Ok-step_file.ensures.turns c.in-Ok-step_file.ensures.ok)
 
 pub returns-then-is_met_by-clause-locked : goal.returns-then-is_met_by-clause-locked
@@ -162,8 +164,8 @@ returns-in-Ok-step_file-clause-ok g c =
     let k' = c.step_file.new.file in
     let named_k : k.name ≡ c.args.call.name = c.unmet-file.ensures.name ∙ c.copy-name.ensures in
     let turned = sym c.is_met_by.ensures ∙ c.if-is_met_by.false in
-    subst (λ (f : List KeptFile). StepsAll folder folder' v v' began count (joined kept (all_ended c.args.now first.files)) (joined f new.files) c.args.call c.args.opened c.args.now c.in-Ok-step_file.carried) (sym c.make_place.ensures.files)
-    (skip_all folder folder' v v' began count kept number k k' first mid new c.args.call c.args.opened c.args.now c.in-Ok-step_file.carried c.requires.stocked c.requires.place c.make_place.ensures.stands c.requires.locked.beyond
+    subst (λ (f : List KeptFile). StepsAll c.args.first folder folder' v v' began count (joined kept (all_ended c.args.now first.files)) (joined f new.files) c.args.call c.args.opened c.args.now c.in-Ok-step_file.carried) (sym c.make_place.ensures.files)
+    (skip_all c.args.first folder folder' v v' began count kept number k k' first mid new c.args.call c.args.opened c.args.now c.in-Ok-step_file.carried c.requires.stocked c.requires.place c.make_place.ensures.stands c.requires.locked.beyond
     c.unmet-file.ensures.file c.unmet-file.ensures.torn at c.in-Ok-step_file.ensures.turns turned c.in-Ok-step_file.ensures.ok)
 
 pub returns-in-Ok-step_file-clause-locked : goal.returns-in-Ok-step_file-clause-locked
@@ -185,7 +187,7 @@ returns-in-Ok-step_file-clause-locked g c =
     let named_k : k.name ≡ c.args.call.name = c.unmet-file.ensures.name ∙ c.copy-name.ensures in
     let turned = sym c.is_met_by.ensures ∙ c.if-is_met_by.false in
     let bare = c.make_place.ensures.stands number ∙ c.requires.locked.beyond number (omega (arith, at)) in
-    let after = skip_bare folder folder' v v' began count number k k' mid new c.args.call c.args.opened c.args.now c.in-Ok-step_file.carried bare c.unmet-file.ensures.file turned c.in-Ok-step_file.ensures.ok in
+    let after = skip_bare c.args.first folder folder' v v' began count number k k' mid new c.args.call c.args.opened c.args.now c.in-Ok-step_file.carried bare c.unmet-file.ensures.file turned c.in-Ok-step_file.ensures.ok in
     subst (λ (f : List KeptFile). AreLocked f new c.args.now) (sym c.make_place.ensures.files)
     (locked_skip kept mid new number c.args.now (λ n le. c.make_place.ensures.stands n ∙ c.requires.locked.beyond n le) c.in-Ok.ensures.room at after c.in-Ok-step_file.ensures.turns)
 
@@ -213,10 +215,10 @@ returns-in-Err-step_file-clause-err g c =
     let k = c.unmet-file.result in
     let k' = c.step_file.new.file in
     let named_k : k.name ≡ c.args.call.name = c.unmet-file.ensures.name ∙ c.copy-name.ensures in
-    let is = bare_seen k first mid kept number c.args.now c.requires.locked c.make_place.ensures.stands at c.unmet-file.ensures.file in
+    let is = bare_seen c.args.first k first mid kept number c.args.now c.requires.locked c.make_place.ensures.stands at c.unmet-file.ensures.file in
     let same : joined c.make_place.new.files.items new.files ≡ joined kept first.files =
     joined_more kept c.make_place.new.files.items first new c.make_place.ensures.files (λ n. ap (λ l. standing_at l.files n) c.in-Err-step_file.ensures.same ∙ c.make_place.ensures.stands n) in
-    stopped_new folder folder' v v' (joined kept first.files) _ (seen k mid number) (seen k' new number) c.args.call c.args.opened c.args.now c.in-Err-step_file.uncarried same c.requires.stocked c.requires.place is c.in-Err-step_file.ensures.err
+    stopped_new c.args.first folder folder' v v' (joined kept first.files) _ (seen k mid number) (seen k' new number) c.args.call c.args.opened c.args.now c.in-Err-step_file.uncarried same c.requires.stocked c.requires.place is c.in-Err-step_file.ensures.err
 
 pub returns-in-Err-step_file-clause-stays : goal.returns-in-Err-step_file-clause-stays
 returns-in-Err-step_file-clause-stays g c = λ time locked.

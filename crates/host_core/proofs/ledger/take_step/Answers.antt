@@ -1,4 +1,4 @@
-use Rattle.std.proofs.Common.{◌≡◌, ◌+◌, ℕ, max, List, ◌∷◌, ◌++◌, [], length, refl, sym, ap, subst, ◌∙◌, arith}
+use Rattle.std.proofs.Common.{◌≡◌, ◌+◌, ℕ, max, ◌∷◌, ◌++◌, [], refl, sym, ap, subst, ◌∙◌, arith}
 use Rattle.host_core.specs.Archive.{AreWithin, StaysKept}
 use Rattle.host_core.specs.Entries.{Made}
 use Rattle.host_core.specs.Ledger.{ended_in, made_by}
@@ -49,15 +49,16 @@ returns-in-Ok-clause-takes g c =
     let entry : c.new-entry.result ≡ made_by before c.args.call c.args.pass c.args.floor c.args.moment ruling =
     c.new-entry.ensures ∙ (λ i. record { time = now i; step = record { stamp = stamp i; pass = c.args.pass; moment = c.args.moment; call = asked i; ruling = ruling } }) in
     record {
-      steps = subst (λ (t : ℕ). TakesStep (ended_in before t) after c.args.call before.opened t ruling) now ok.steps;
+      steps = subst (λ (t : ℕ). TakesStep before.first (ended_in before t) after c.args.call before.opened t ruling) now ok.steps;
       entries = c.record.ensures.items ∙ ap (λ (m : Made). before.entries.items ++ m ∷ []) entry;
       last = stamp;
       time = now;
       opened = refl;
       capacity = refl;
       first = refl;
+      first_files = refl;
       few = c.in-Ok.ensures.few;
-      within = λ most h. ok.within most (subst (λ (t : ℕ). AreWithin most (ended_in before t)) (sym now) h);
+      within = λ most above h. ok.within most above (subst (λ (t : ℕ). AreWithin most (ended_in before t)) (sym now) h);
       stays = subst (λ (t : ℕ). StaysKept (ended_in before t) after before.versions.list c.step_files.new.versions.list) now ok.stays;
       archived = ok.kept;
       kept = ok.bytes;

@@ -31,12 +31,13 @@ invariant_of-result g c =
     let none : length room.entries.items ≡ 0 = ap (λ (m : List Made). length m) c.requires.entries in
     let few = c.requires.stock.few in
     let most = c.requires.capacity in
-    let count : length stock.files.items ≡ length opening = first_long stock c.requires.stock in
+    let count : length stock.files.items ≡ length opening = first_long c.args.first stock c.requires.stock in
     let long : length opening ≡ length (opening_listed c.of-opening.result.value.items) = ap length same in
     let size = long_joined stock.files.items [] in
     let after : Ledger = record {
       alloc = c.args.alloc;
       opened = c.args.opened;
+      first = c.args.first;
       capacity = c.args.capacity;
       time = c.args.opened;
       last = 0;
@@ -51,6 +52,7 @@ invariant_of-result g c =
       only = c.of.result.value;
       opening = opening_listed c.of-opening.result.value.items;
       opened = c.args.opened;
+      first = c.args.first;
       capacity = c.args.capacity;
       made = room.entries.items;
       time = c.args.opened;
@@ -62,16 +64,17 @@ invariant_of-result g c =
     subst (λ (l : List Whole). Stands book 0 c.len.result l stock.versions.list (files start) (files c.args.folder) (faults start) (faults c.args.folder))
     (sym (free_joined stock.files.items room.locks.files c.requires.none))
     (record {
-      keeps = subst (λ o. Reflects o c.args.opened c.args.capacity room.entries.items c.args.opened 0 (kept_in stock.versions.list) kept) same
-          (subst (λ (m : List Made). Reflects opening c.args.opened c.args.capacity m c.args.opened 0 (kept_in stock.versions.list) kept) (sym c.requires.entries)
-          (keeps-start opening c.args.opened c.args.capacity (kept_in stock.versions.list) kept c.requires.moment c.requires.stock.files c.requires.stock.torn c.requires.stock.kept));
-      folder = subst (λ (only : Option ℕ). Agrees only (files start) (files c.args.folder) (files_of kept) (torn_in kept)) (sym c.of.ensures)
-          (agrees_start c.args.only (files start) (files c.args.folder) opening kept c.requires.opening c.requires.same c.requires.stock.files);
+      keeps = subst (λ o. Reflects o c.args.opened c.args.first c.args.capacity room.entries.items c.args.opened 0 (kept_in stock.versions.list) kept) same
+          (subst (λ (m : List Made). Reflects opening c.args.opened c.args.first c.args.capacity m c.args.opened 0 (kept_in stock.versions.list) kept) (sym c.requires.entries)
+          (keeps-start opening c.args.opened c.args.first c.args.capacity (kept_in stock.versions.list) kept c.requires.moment c.requires.stock.files c.requires.stock.torn c.requires.stock.kept));
+      folder = subst (λ (only : Option ℕ). Agrees only (files start) (files c.args.folder) (files_of c.args.first kept) (torn_in kept)) (sym c.of.ensures)
+          (agrees_start c.args.first c.args.only (files start) (files c.args.folder) opening kept c.requires.opening c.requires.same c.requires.stock.files);
       faults = subst (λ (m : List Made). RoseBy (faults start) (faults_in m) (faults c.args.folder)) (sym c.requires.entries) (rose-begin (faults start) (faults c.args.folder) c.requires.faults);
       timely = λ _. subst (λ (m : List Made). GoesByEntries c.args.opened m c.args.opened) (sym c.requires.entries) (record { timely = tt; time_is = refl });
-      archive = subst (λ o. IsArchive o room.entries.items kept stock.versions.list) same
-          (subst (λ (m : List Made). IsArchive opening m kept stock.versions.list) (sym c.requires.entries) c.requires.stock.archive);
-      first = omega (arith, stock.files.ok.0, c.len.ensures, count, long);
+      archive = subst (λ o. IsArchive c.args.first o room.entries.items kept stock.versions.list) same
+          (subst (λ (m : List Made). IsArchive c.args.first opening m kept stock.versions.list) (sym c.requires.entries) c.requires.stock.archive);
+      first_files_are = omega (arith, stock.files.ok.0, c.len.ensures, count, long);
+      number = c.requires.first;
       few = omega (arith, none, few, most, size);
       places = omega (arith, none);
     })

@@ -1,4 +1,4 @@
-use Rattle.std.proofs.Common.{◌≡◌, ◌<◌, ℕ, Bool, false, List, get_or, Option, Some, option_map, unwrap_or, refl, sym, ap, subst, ◌∙◌, arith}
+use Rattle.std.proofs.Common.{◌≡◌, ◌<◌, ◌≤◌, ◌-◌, ℕ, Bool, false, get_or, Option, option_map, unwrap_or, refl, sym, ap, subst, ◌∙◌, arith}
 use Rattle.file_versions.specs.Places.{IsFirst}
 use Rattle.wopi_model.specs.File.{File, never_met}
 use Rattle.wopi_model.specs.Settle.{settled}
@@ -50,7 +50,7 @@ view_of-requires-clause-moment g c =
     let first : IsFirst (is_named name) kept number = found_first ledger.files.items ledger.locks.files ledger.index name number c.self.invariant.1.numbered c.in-Some.ensures in
     let k = seen c.index-file.result.now ledger.locks number in
     let at : k ≡ get_or kept number k = get_joined ledger.files.items number c.index-file.result.now ledger.locks.files c.index-file.ensures in
-    subst (λ (f : File). BeganAtMoment f.lock) (file_at file_of never_met kept name number k first at) (c.self.invariant.0.keeps.moments name)
+    subst (λ (f : File). BeganAtMoment f.lock) (file_at file_of (never_met ledger.first) kept name number k first at) (c.self.invariant.0.keeps.moments name)
 
 pub view_of-requires-clause-held : goal.view_of-requires-clause-held
 view_of-requires-clause-held g c =
@@ -72,12 +72,13 @@ returns-in-None-clause-met g c =
     let kept = files_in ledger in
     let book = book_of inside in
     let none = found_none ledger.files.items ledger.locks.files ledger.index name c.self.invariant.1.numbered c.in-None.ensures in
-    let here : files_of kept name ≡ never_met = ap (λ (o : Option Whole). unwrap_or (option_map file_of o) never_met) none in
-    let shown = shown-file book.opening book.opened book.capacity book.made book.time ledger.last (kept_in ledger.versions.list) kept c.self.invariant.0.keeps name in
-    let unmet : ((state_of c.args.self.now.opening c.args.self.now.opened c.args.self.now.made c.args.self.now.time).files name).version ≡ 0 =
-    subst (λ (b : Book _). ((state_of b.opening b.opened b.made b.time).files name).version ≡ 0) c.self.view_is
+    let here : files_of book.first kept name ≡ never_met ledger.first = ap (λ (o : Option Whole). unwrap_or (option_map file_of o) (never_met ledger.first)) none in
+    let shown = shown-file book.opening book.opened book.first book.capacity book.made book.time ledger.last (kept_in ledger.versions.list) kept c.self.invariant.0.keeps name in
+    let unmet : ((state_of c.args.self.now.opening c.args.self.now.opened c.args.self.now.first c.args.self.now.made c.args.self.now.time).files name).version ≡ c.args.self.now.first - 1 =
+    subst (λ (b : Book _). ((state_of b.opening b.opened b.first b.made b.time).files name).version ≡ b.first - 1) c.self.view_is
     (sym (ap (λ (f : File). f.version) shown) ∙ ap (λ (f : File). f.version) here) in
-    (λ some. absurd (cc some), λ met. absurd (omega (arith, met, unmet)))
+    let number : 1 ≤ c.args.self.now.first = subst (λ (b : Book _). 1 ≤ b.first) c.self.view_is c.self.invariant.0.number.0 in
+    (λ some. absurd (cc some), λ met. absurd (omega (arith, met, unmet, number)))
 
 pub returns-else-is_met-clause-met : goal.returns-else-is_met-clause-met
 returns-else-is_met-clause-met g c =
@@ -90,12 +91,12 @@ returns-else-is_met-clause-met g c =
     let k = seen c.index-file.result.now ledger.locks number in
     let at : k ≡ get_or kept number k = get_joined ledger.files.items number c.index-file.result.now ledger.locks.files c.index-file.ensures in
     let book = book_of inside in
-    let here : files_of kept name ≡ file_of k = file_at file_of never_met kept name number k first at in
-    let shown = shown-file book.opening book.opened book.capacity book.made book.time ledger.last (kept_in ledger.versions.list) kept c.self.invariant.0.keeps name in
-    let zero : c.index-file.result.now.version ≡ 0 = let is_met = c.if-is_met.false in omega (arith, is_met) in
-    let unmet : ((state_of c.args.self.now.opening c.args.self.now.opened c.args.self.now.made c.args.self.now.time).files name).version ≡ 0 =
-    subst (λ (b : Book _). ((state_of b.opening b.opened b.made b.time).files name).version ≡ 0) c.self.view_is
-    (sym (ap (λ (f : File). f.version) shown) ∙ ap (λ (f : File). f.version) here ∙ zero) in
+    let here : files_of book.first kept name ≡ file_of k = file_at file_of (never_met ledger.first) kept name number k first at in
+    let shown = shown-file book.opening book.opened book.first book.capacity book.made book.time ledger.last (kept_in ledger.versions.list) kept c.self.invariant.0.keeps name in
+    let below : c.index-file.result.now.version < book.first = let is_met = c.if-is_met.false in omega (arith, is_met) in
+    let unmet : ((state_of c.args.self.now.opening c.args.self.now.opened c.args.self.now.first c.args.self.now.made c.args.self.now.time).files name).version < c.args.self.now.first =
+    subst (λ (b : Book _). ((state_of b.opening b.opened b.first b.made b.time).files name).version < b.first) c.self.view_is
+    (subst (λ (n : ℕ). n < book.first) (sym (ap (λ (f : File). f.version) here) ∙ ap (λ (f : File). f.version) shown) below) in
     (λ some. absurd (cc some), λ met. absurd (omega (arith, met, unmet)))
 
 pub returns-then-is_met-clause-met : goal.returns-then-is_met-clause-met
@@ -109,13 +110,14 @@ returns-then-is_met-clause-met g c =
     let k = seen c.index-file.result.now ledger.locks number in
     let at : k ≡ get_or kept number k = get_joined ledger.files.items number c.index-file.result.now ledger.locks.files c.index-file.ensures in
     let book = book_of inside in
-    let here : files_of kept name ≡ file_of k = file_at file_of never_met kept name number k first at in
-    let shown = shown-file book.opening book.opened book.capacity book.made book.time ledger.last (kept_in ledger.versions.list) kept c.self.invariant.0.keeps name in
-    let same : ((state_of c.args.self.now.opening c.args.self.now.opened c.args.self.now.made c.args.self.now.time).files name).version ≡ c.index-file.result.now.version =
-    subst (λ (b : Book _). ((state_of b.opening b.opened b.made b.time).files name).version ≡ c.index-file.result.now.version) c.self.view_is
+    let here : files_of book.first kept name ≡ file_of k = file_at file_of (never_met ledger.first) kept name number k first at in
+    let shown = shown-file book.opening book.opened book.first book.capacity book.made book.time ledger.last (kept_in ledger.versions.list) kept c.self.invariant.0.keeps name in
+    let same : ((state_of c.args.self.now.opening c.args.self.now.opened c.args.self.now.first c.args.self.now.made c.args.self.now.time).files name).version ≡ c.index-file.result.now.version =
+    subst (λ (b : Book _). ((state_of b.opening b.opened b.first b.made b.time).files name).version ≡ c.index-file.result.now.version) c.self.view_is
     (sym (ap (λ (f : File). f.version) shown) ∙ ap (λ (f : File). f.version) here) in
     let met = c.if-is_met.true in
-    (λ some. omega (arith, met, same), λ _. refl)
+    let number : book.first ≡ c.args.self.now.first = ap (λ (b : Book _). b.first) c.self.view_is in
+    (λ some. omega (arith, met, same, number), λ _. refl)
 
 pub returns-then-is_met-clause-view : goal.returns-then-is_met-clause-view
 returns-then-is_met-clause-view g c =
@@ -128,9 +130,9 @@ returns-then-is_met-clause-view g c =
     let k = seen c.index-file.result.now ledger.locks number in
     let at : k ≡ get_or kept number k = get_joined ledger.files.items number c.index-file.result.now ledger.locks.files c.index-file.ensures in
     let book = book_of inside in
-    let here : files_of kept name ≡ file_of k = file_at file_of never_met kept name number k first at in
-    let shown = shown-file book.opening book.opened book.capacity book.made book.time ledger.last (kept_in ledger.versions.list) kept c.self.invariant.0.keeps name in
+    let here : files_of book.first kept name ≡ file_of k = file_at file_of (never_met ledger.first) kept name number k first at in
+    let shown = shown-file book.opening book.opened book.first book.capacity book.made book.time ledger.last (kept_in ledger.versions.list) kept c.self.invariant.0.keeps name in
     let torn : torn_in kept name ≡ c.index-file.result.now.torn = file_at (λ (f : Whole). f.torn) false kept name number k first at in
-    subst (λ (b : Book _). IsViewOf c.view_of.result ((state_of b.opening b.opened b.made b.time).files name) (is_torn b.made name)) c.self.view_is
-    (subst (λ (t : Bool). IsViewOf c.view_of.result ((state_of book.opening book.opened book.made book.time).files name) t) (sym torn ∙ c.self.invariant.0.keeps.torn name)
+    subst (λ (b : Book _). IsViewOf c.view_of.result ((state_of b.opening b.opened b.first b.made b.time).files name) (is_torn b.made name)) c.self.view_is
+    (subst (λ (t : Bool). IsViewOf c.view_of.result ((state_of book.opening book.opened book.first book.made book.time).files name) t) (sym torn ∙ c.self.invariant.0.keeps.torn name)
     (subst (λ (f : File). IsViewOf c.view_of.result f c.index-file.result.now.torn) (ap (λ (f : File). settled f book.time) (sym here) ∙ shown) c.view_of.ensures))
