@@ -17,11 +17,11 @@ module _ {F : Type 0} where
   first_long (lock ∷ locks) [] e = absurd (omega arith)
   first_long (lock ∷ locks) (base ∷ bases) e = ap suc (first_long locks bases (omega arith))
 
-  first_are : (opened capacity shard : ℕ) (locks : List TableId) (bases : List (Book F)) → AreBases opened capacity shard bases → AreSeats 0 (2 ^ 62) opened capacity shard (first_seats locks bases)
-  first_are opened capacity shard [] bases are = tt
-  first_are opened capacity shard (lock ∷ locks) [] are = tt
-  first_are opened capacity shard (lock ∷ locks) (base ∷ bases) are =
-      (record { free = refl; weight_is = refl; base = base; based = refl; is_base = are.0; seen = record { legal = record { allowed = tt; stamps = tt }; named = tt }; owns = tt }, first_are opened capacity (shard + 1) locks bases are.1)
+  first_are : (opened oldest capacity shard : ℕ) (locks : List TableId) (bases : List (Book F)) → AreBases opened oldest capacity shard bases → AreSeats 0 (2 ^ 62) opened oldest capacity shard (first_seats locks bases)
+  first_are opened oldest capacity shard [] bases are = tt
+  first_are opened oldest capacity shard (lock ∷ locks) [] are = tt
+  first_are opened oldest capacity shard (lock ∷ locks) (base ∷ bases) are =
+      (record { free = refl; weight_is = refl; base = base; based = refl; is_base = are.0; seen = record { legal = record { allowed = tt; stamps = tt }; named = tt }; owns = tt }, first_are opened oldest capacity (shard + 1) locks bases are.1)
 
   first_top : (locks : List TableId) (bases : List (Book F)) → top (first_seats locks bases) ≡ 0
   first_top [] bases = refl
@@ -33,31 +33,31 @@ module _ {F : Type 0} where
   first_own j (lock ∷ locks) [] = refl
   first_own j (lock ∷ locks) (base ∷ bases) = first_own (j + 1) locks bases
 
-  pub pass_first : (opened capacity : ℕ) (locks : List TableId) (bases : List (Book F)) → length locks ≡ 16 → length bases ≡ 16 → AreBases opened capacity 0 bases
-      → IsPass (record { number = 0; last = 0; weight = 2 ^ 62; opened = opened; capacity = capacity; seats = first_seats locks bases })
-  pass_first opened capacity locks bases wide many are = record {
-    seats = first_are opened capacity 0 locks bases are;
+  pub pass_first : (opened oldest capacity : ℕ) (locks : List TableId) (bases : List (Book F)) → length locks ≡ 16 → length bases ≡ 16 → AreBases opened oldest capacity 0 bases
+      → IsPass (record { number = 0; last = 0; weight = 2 ^ 62; opened = opened; first = oldest; capacity = capacity; seats = first_seats locks bases })
+  pass_first opened oldest capacity locks bases wide many are = record {
+    seats = first_are opened oldest capacity 0 locks bases are;
     last_is = sym (first_top locks bases);
     wide = first_long locks bases (many ∙ sym wide) ∙ wide;
     rises = subst (λ (own : List Own). RisesFrom 0 (map stamp_of (by_stamp own))) (sym (first_own 0 locks bases)) tt;
   }
 
-  pub of_first : (opened capacity : ℕ) (locks : List TableId) (bases : List (Book F)) → length locks ≡ 16 → length bases ≡ 16
-      → IsPassOf (record { locks = locks; bases = bases; opened = opened; capacity = capacity; made = 1 }) (record { number = 0; last = 0; weight = 2 ^ 62; opened = opened; capacity = capacity; seats = first_seats locks bases })
-  of_first opened capacity locks bases wide many = record { locks = first_locks locks bases (many ∙ sym wide); bases = first_bases locks bases (many ∙ sym wide) }
+  pub of_first : (opened oldest capacity : ℕ) (locks : List TableId) (bases : List (Book F)) → length locks ≡ 16 → length bases ≡ 16
+      → IsPassOf (record { locks = locks; bases = bases; opened = opened; first = oldest; capacity = capacity; made = 1 }) (record { number = 0; last = 0; weight = 2 ^ 62; opened = opened; first = oldest; capacity = capacity; seats = first_seats locks bases })
+  of_first opened oldest capacity locks bases wide many = record { locks = first_locks locks bases (many ∙ sym wide); bases = first_bases locks bases (many ∙ sym wide) }
 
-module _ {F : Type 0} (files : F → Option Files) (faults : F → ℕ) (opened capacity : ℕ) where
-  pub begun_opened : (number : ℕ) (folders : List F) (books : List (Book F)) → AreBegun files faults opened capacity number folders books → AreBegun files faults opened capacity number folders (map as_opened books)
+module _ {F : Type 0} (files : F → Option Files) (faults : F → ℕ) (opened oldest capacity : ℕ) where
+  pub begun_opened : (number : ℕ) (folders : List F) (books : List (Book F)) → AreBegun files faults opened oldest capacity number folders books → AreBegun files faults opened oldest capacity number folders (map as_opened books)
   begun_opened number [] [] a = tt
   begun_opened number [] (b ∷ books) a = absurd a
   begun_opened number (f ∷ folders) [] a = absurd a
   begun_opened number (f ∷ folders) (b ∷ books) a =
-      let is : as_opened b ≡ record { only = Some number; opening = b.opening; opened = opened; capacity = capacity; made = []; time = opened; ticked = false; start = f; folder = f } = ap as_opened a.0.book in (
-        record { book = is ∙ (λ i. record { only = Some number; opening = b.opening; opened = opened; capacity = capacity; made = []; time = opened; ticked = false; start = f; folder = sym (ap start_of a.0.book) i }); opening = a.0.opening; fits = a.0.fits },
+      let is : as_opened b ≡ record { only = Some number; opening = b.opening; opened = opened; first = oldest; capacity = capacity; made = []; time = opened; ticked = false; start = f; folder = f } = ap as_opened a.0.book in (
+        record { book = is ∙ (λ i. record { only = Some number; opening = b.opening; opened = opened; first = oldest; capacity = capacity; made = []; time = opened; ticked = false; start = f; folder = sym (ap start_of a.0.book) i }); opening = a.0.opening; fits = a.0.fits },
         begun_opened (number + 1) folders books a.1,
       )
 
-  pub begun_bases : (number : ℕ) (folders : List F) (books : List (Book F)) → AreBegun files faults opened capacity number folders books → AreBases opened capacity number (map as_opened books)
+  pub begun_bases : (number : ℕ) (folders : List F) (books : List (Book F)) → AreBegun files faults opened oldest capacity number folders books → AreBases opened oldest capacity number (map as_opened books)
   begun_bases number [] [] a = tt
   begun_bases number [] (b ∷ books) a = absurd a
   begun_bases number (f ∷ folders) [] a = absurd a
@@ -67,6 +67,7 @@ module _ {F : Type 0} (files : F → Option Files) (faults : F → ℕ) (opened 
         record {
           only = only;
           opened_is = ap (λ (z : Book F). z.opened) a.0.book;
+          first_is = ap (λ (z : Book F). z.first) a.0.book;
           capacity_is = ap (λ (z : Book F). z.capacity) a.0.book;
           unticked = ap (λ (z : Book F). z.ticked) a.0.book;
           names = subst P (sym only) a.0.opening.taken;

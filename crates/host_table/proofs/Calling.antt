@@ -25,7 +25,7 @@ use Rattle.host_table.proofs.Seats.{get_there, get_set, get_other, map_set, rise
 
 -- the pass, with a seat changed
 abbrev pub with_seat : {F : Type 0} → PassView F → ℕ → Place F → ℕ → PassView F
-with_seat p k w last = record { number = p.number; last = last; weight = p.weight; opened = p.opened; capacity = p.capacity; seats = set p.seats k w }
+with_seat p k w last = record { number = p.number; last = last; weight = p.weight; opened = p.opened; first = p.first; capacity = p.capacity; seats = set p.seats k w }
 
 some_same : {A : Type 0} (x y : A) (o : Option A) → o ≡ Some x → o ≡ Some y → x ≡ y
 some_same x y o a b = cc (a, b)
@@ -34,29 +34,29 @@ module _ {F : Type 0} (p : PassView F) (k : ℕ) (v w : Place F) (inside : IsPas
   here : k < length p.seats
   here = let wide = inside.wide in omega arith
 
-  pub seat_is : IsSeat p.number p.weight p.opened p.capacity k v
-  seat_is = seat_there p.number p.weight p.opened p.capacity 0 k p.seats k v (omega arith) inside.seats here at
+  pub seat_is : IsSeat p.number p.weight p.opened p.first p.capacity k v
+  seat_is = seat_there p.number p.weight p.opened p.first p.capacity 0 k p.seats k v (omega arith) inside.seats here at
 
   was : slice_get p.seats k ≡ Some v
   was = get_there p.seats k v here at
 
   pub own_are : AreOwn p.number p.seats
-  own_are = own_seats p.number p.weight p.opened p.capacity 0 p.seats inside.seats
+  own_are = own_seats p.number p.weight p.opened p.first p.capacity 0 p.seats inside.seats
 
   -- the pass after the call keeps what each pass keeps
-  pub pass_after : (last : ℕ) → IsSeat p.number p.weight p.opened p.capacity k w → IsPrefix v.seen w.seen → last ≡ max p.last (last_stamp w.seen)
+  pub pass_after : (last : ℕ) → IsSeat p.number p.weight p.opened p.first p.capacity k w → IsPrefix v.seen w.seen → last ≡ max p.last (last_stamp w.seen)
       → RisesFrom 0 (map stamp_of (own_of (with_seat p k w last))) → IsPass (with_seat p k w last)
   pass_after last is later last_is rises =
       let rising = rises_of is.base w.seen is.seen in
       record {
-        seats = seats_set p.number p.weight p.opened p.capacity 0 k p.seats k w (omega arith) inside.seats is;
+        seats = seats_set p.number p.weight p.opened p.first p.capacity 0 k p.seats k w (omega arith) inside.seats is;
         last_is = last_is ∙ (ap (λ (n : ℕ). max n (last_stamp w.seen)) inside.last_is ∙ top_set p.seats k v w here at (last_stamp-prefix v.seen w.seen later rising));
         wide = length-set p.seats k w ∙ inside.wide;
         rises = rises;
       }
 
   -- what the seat keeps
-  seat_after : (base : Book F) → v.base ≡ Some base → IsSeen base w.seen → w.base ≡ v.base → w.taken ≡ v.taken → w.weight ≡ v.weight → Owns p.number w.seen w.own → IsSeat p.number p.weight p.opened p.capacity k w
+  seat_after : (base : Book F) → v.base ≡ Some base → IsSeen base w.seen → w.base ≡ v.base → w.taken ≡ v.taken → w.weight ≡ v.weight → Owns p.number w.seen w.own → IsSeat p.number p.weight p.opened p.first p.capacity k w
   seat_after base based seen same_base same_taken same_weight owns =
       let old = seat_is in
       let one : base ≡ old.base = some_same base old.base v.base based old.based in
@@ -65,7 +65,7 @@ module _ {F : Type 0} (p : PassView F) (k : ℕ) (v w : Place F) (inside : IsPas
         weight_is = same_weight ∙ old.weight_is;
         base = base;
         based = same_base ∙ based;
-        is_base = subst (λ (b : Book F). IsBase p.opened p.capacity k b) (sym one) old.is_base;
+        is_base = subst (λ (b : Book F). IsBase p.opened p.first p.capacity k b) (sym one) old.is_base;
         seen = seen;
         owns = owns;
       }
@@ -75,6 +75,7 @@ module _ {F : Type 0} (p : PassView F) (k : ℕ) (v w : Place F) (inside : IsPas
     number = refl;
     weight = refl;
     opened_is = refl;
+    first_is = refl;
     capacity_is = refl;
     locks = map_set lock_of p.seats k v w at lock;
     bases = map_set base_of p.seats k v w at base;
@@ -94,12 +95,13 @@ module _ {F : Type 0} (p : PassView F) (k : ℕ) (v w : Place F) (inside : IsPas
       let old = seat_is in
       let one : base ≡ old.base = some_same base old.base v.base based old.based in
       let opened : base.opened ≡ p.opened = ap (λ (b : Book F). b.opened) one ∙ old.is_base.opened_is in
+      let oldest : base.first ≡ p.first = ap (λ (b : Book F). b.first) one ∙ old.is_base.first_is in
       let now : seen_at (slice_get (set p.seats k w) k) ≡ untimed w.seen = ap seen_at (get_set p.seats k w here) in
       let opening : opening_at (slice_get p.seats k) ≡ base.opening = ap opening_at was ∙ ap opening_seen based in
-      let P : Opening × (ℕ × List Item) → Type 0 = λ z. Legal z.0 z.1.0 z.1.1 in
-      let same_all : (base.opening, (base.opened, untimed w.seen)) ≡ (opening_at (slice_get p.seats k), (p.opened, seen_at (slice_get (set p.seats k w) k))) = λ i. (sym opening i, (opened i, sym now i)) in
-      let legal : Legal (opening_at (slice_get p.seats k)) p.opened (seen_at (slice_get (set p.seats k w) k)) = subst P same_all seen.legal in
-      let Q : ℕ → Type 0 = λ n. Legal (opening_at (slice_get p.seats n)) p.opened (seen_at (slice_get (set p.seats k w) n)) in
+      let P : Opening × (ℕ × (ℕ × List Item)) → Type 0 = λ z. Legal z.0 z.1.0 z.1.1.0 z.1.1.1 in
+      let same_all : (base.opening, (base.opened, (base.first, untimed w.seen))) ≡ (opening_at (slice_get p.seats k), (p.opened, (p.first, seen_at (slice_get (set p.seats k w) k)))) = λ i. (sym opening i, (opened i, (oldest i, sym now i))) in
+      let legal : Legal (opening_at (slice_get p.seats k)) p.opened p.first (seen_at (slice_get (set p.seats k w) k)) = subst P same_all seen.legal in
+      let Q : ℕ → Type 0 = λ n. Legal (opening_at (slice_get p.seats n)) p.opened p.first (seen_at (slice_get (set p.seats k w) n)) in
       record {
         others = λ shard differ. ap seen_at (get_other p.seats k shard w (λ e. differ (e ∙ home)));
         openings = opening_same same;
@@ -107,6 +109,7 @@ module _ {F : Type 0} (p : PassView F) (k : ℕ) (v w : Place F) (inside : IsPas
         pass = refl;
         capacity = refl;
         opened = refl;
+        first = refl;
         ticked = refl;
         alone = λ _. seen_alone (slice_get (set p.seats k w) (shard_of call.name));
         legal = subst Q home legal;
@@ -185,16 +188,18 @@ module _ {F : Type 0} (p : PassView F) (k : ℕ) (v w : Place F) (inside : IsPas
           let base : calls.base ≡ seat.base = some_same calls.base seat.base v.base calls.based seat.based in
           let opening : opening_at (slice_get p.seats k) ≡ calls.base.opening = ap opening_at was ∙ ap opening_seen calls.based in
           let opened : p.opened ≡ calls.base.opened = sym (ap (λ (b : Book F). b.opened) base ∙ seat.is_base.opened_is) in
+          let oldest : p.first ≡ calls.base.first = sym (ap (λ (b : Book F). b.first) base ∙ seat.is_base.first_is) in
           let capacity : p.capacity ≡ calls.base.capacity = sym (ap (λ (b : Book F). b.capacity) base ∙ seat.is_base.capacity_is) in
-          let P : Opening × (ℕ × ℕ) → Type 0 = λ z. FullAt z.0 z.1.0 z.1.1 (untimed made) p.last call moment → ⊥ in
-          let terms : (calls.base.opening, (calls.base.opened, calls.base.capacity)) ≡ (opening_at (slice_get p.seats k), (p.opened, p.capacity)) = λ i. (sym opening i, (sym opened i, sym capacity i)) in
-          let room : FullAt (opening_at (slice_get p.seats k)) p.opened p.capacity (untimed made) p.last call moment → ⊥ = subst P terms calls.room in
+          let P : Opening × (ℕ × (ℕ × ℕ)) → Type 0 = λ z. FullAt z.0 z.1.0 z.1.1.0 z.1.1.1 (untimed made) p.last call moment → ⊥ in
+          let terms : (calls.base.opening, (calls.base.opened, (calls.base.first, calls.base.capacity))) ≡ (opening_at (slice_get p.seats k), (p.opened, (p.first, p.capacity))) =
+          λ i. (sym opening i, (sym opened i, (sym oldest i, sym capacity i))) in
+          let room : FullAt (opening_at (slice_get p.seats k)) p.opened p.first p.capacity (untimed made) p.last call moment → ⊥ = subst P terms calls.room in
           let end : untimed (made ++ one ∷ []) ≡ untimed made ++ Step entry ∷ [] = ap (map Step) (steps-append made (one ∷ [])) ∙ map-append Step (steps_of made) (entry ∷ []) in
           let seen : seen_at (slice_get (set p.seats k w) k) ≡ untimed made ++ Step entry ∷ [] = ap seen_at (get_set p.seats k w here) ∙ (ap untimed calls.seen ∙ end) in
           let Seen : ℕ → Type 0 = λ n. seen_at (slice_get (set p.seats k w) n) ≡ untimed made ++ Step entry ∷ [] in
           let Last : ℕ → Type 0 = λ n. entries (seen_at (slice_get (set p.seats k w) n)) ≡ entries (untimed made) ++ entry ∷ [] in
           let Begins : ℕ → Type 0 = λ n. Extends (entries (seen_at (slice_get p.seats n))) (entries (untimed made)) in
-          let Room : ℕ → Type 0 = λ n. FullAt (opening_at (slice_get p.seats n)) p.opened p.capacity (untimed made) p.last call moment → ⊥ in
+          let Room : ℕ → Type 0 = λ n. FullAt (opening_at (slice_get p.seats n)) p.opened p.first p.capacity (untimed made) p.last call moment → ⊥ in
           record {
             found = untimed made;
             later = [];
@@ -238,11 +243,12 @@ module _ {F : Type 0} (p : PassView F) (k : ℕ) (v w : Place F) (inside : IsPas
           let base : looks.base ≡ seat.base = some_same looks.base seat.base v.base looks.based seat.based in
           let opening : opening_at (slice_get p.seats k) ≡ looks.base.opening = ap opening_at was ∙ ap opening_seen looks.based in
           let opened : p.opened ≡ looks.base.opened = sym (ap (λ (b : Book F). b.opened) base ∙ seat.is_base.opened_is) in
+          let oldest : p.first ≡ looks.base.first = sym (ap (λ (b : Book F). b.first) base ∙ seat.is_base.first_is) in
           let capacity : p.capacity ≡ looks.base.capacity = sym (ap (λ (b : Book F). b.capacity) base ∙ seat.is_base.capacity_is) in
-          let P : Opening × (ℕ × (ℕ × List Item)) → Type 0 = λ z. IsFullCall refusal → FullAt z.0 z.1.0 z.1.1.0 z.1.1.1 p.last call moment in
-          let terms : (looks.base.opening, (looks.base.opened, (looks.base.capacity, untimed w.seen))) ≡ (opening_at (slice_get p.seats k), (p.opened, (p.capacity, seen_at (slice_get (set p.seats k w) k)))) =
-          λ i. (sym opening i, (sym opened i, (sym capacity i, sym now i))) in
-          let Full : ℕ → Type 0 = λ n. IsFullCall refusal → FullAt (opening_at (slice_get p.seats n)) p.opened p.capacity (seen_at (slice_get (set p.seats k w) n)) p.last call moment in
+          let P : Opening × (ℕ × (ℕ × (ℕ × List Item))) → Type 0 = λ z. IsFullCall refusal → FullAt z.0 z.1.0 z.1.1.0 z.1.1.1.0 z.1.1.1.1 p.last call moment in
+          let terms : (looks.base.opening, (looks.base.opened, (looks.base.first, (looks.base.capacity, untimed w.seen)))) ≡ (opening_at (slice_get p.seats k), (p.opened, (p.first, (p.capacity, seen_at (slice_get (set p.seats k w) k))))) =
+          λ i. (sym opening i, (sym opened i, (sym oldest i, (sym capacity i, sym now i)))) in
+          let Full : ℕ → Type 0 = λ n. IsFullCall refusal → FullAt (opening_at (slice_get p.seats n)) p.opened p.first p.capacity (seen_at (slice_get (set p.seats k w) n)) p.last call moment in
           let Begins : ℕ → Type 0 = λ n. Extends (entries (seen_at (slice_get p.seats n))) (entries (seen_at (slice_get (set p.seats k w) n))) in
           let begins : entries (seen_at (slice_get (set p.seats k w) k)) ≡ entries (seen_at (slice_get p.seats k)) ++ steps_of looks.later.0 =
           ap (λ (items : List Item). entries items) now ∙ (entries-untimed w.seen ∙ (ap steps_of (sym looks.later.1) ∙ (steps-append v.seen looks.later.0 ∙ ap (λ (es : List Entry). es ++ steps_of looks.later.0) (sym old)))) in
@@ -280,7 +286,7 @@ module _ {F : Type 0} (p : PassView F) (k : ℕ) (v w : Place F) (inside : IsPas
       own_stays_then = on_err answer _ _ own_looked looked
 
 -- the seat of the call's shard has its turn there
-pub based_call : {F : Type 0} (p : PassView F) (k : ℕ) (v : Place F) (name : List ℕ) → IsSeat p.number p.weight p.opened p.capacity k v → k ≡ shard_of name → Prelude.IsSomeAnd v.base (λ base. base.only ≡ Some (shard_of name))
+pub based_call : {F : Type 0} (p : PassView F) (k : ℕ) (v : Place F) (name : List ℕ) → IsSeat p.number p.weight p.opened p.first p.capacity k v → k ≡ shard_of name → Prelude.IsSomeAnd v.base (λ base. base.only ≡ Some (shard_of name))
 based_call p k v name seat home =
     let P : Option (Book _) → Type 0 = λ o. Prelude.IsSomeAnd o (λ base. base.only ≡ Some (shard_of name)) in
     subst P (sym seat.based) (seat.is_base.only ∙ ap Some home)

@@ -39,29 +39,29 @@ module _ {A : Type 0} where
 pub rises_of : {F : Type 0} (base : Book F) (seen : List Made) → IsSeen base seen → RisesFrom 0 (stamps (steps_of seen))
 rises_of base seen is = subst (λ (es : List Entry). RisesFrom 0 (stamps es)) (entries-untimed seen) is.legal.stamps
 
-module _ {F : Type 0} (number weight opened capacity : ℕ) where
-  pub seat_there : (j n : ℕ) (ss : List (Place F)) (k : ℕ) (v : Place F) → n ≡ j + k → AreSeats number weight opened capacity j ss → k < length ss → v ≡ get_or ss k v → IsSeat number weight opened capacity n v
+module _ {F : Type 0} (number weight opened oldest capacity : ℕ) where
+  pub seat_there : (j n : ℕ) (ss : List (Place F)) (k : ℕ) (v : Place F) → n ≡ j + k → AreSeats number weight opened oldest capacity j ss → k < length ss → v ≡ get_or ss k v → IsSeat number weight opened oldest capacity n v
   seat_there j n [] k v e are h at = absurd (omega arith)
   seat_there j n (s ∷ ss) zero v e are h at =
       let here : j ≡ n = omega arith in
-      let P : ℕ × Place F → Type 0 = λ z. IsSeat number weight opened capacity z.0 z.1 in
+      let P : ℕ × Place F → Type 0 = λ z. IsSeat number weight opened oldest capacity z.0 z.1 in
       let same : (j, s) ≡ (n, v) = λ i. (here i, sym at i) in
       subst P same are.0
   seat_there j n (s ∷ ss) (suc k) v e are h at = seat_there (j + 1) n ss k v (omega arith) are.1 (omega arith) at
 
-  pub seats_set : (j n : ℕ) (ss : List (Place F)) (k : ℕ) (w : Place F) → n ≡ j + k → AreSeats number weight opened capacity j ss → IsSeat number weight opened capacity n w → AreSeats number weight opened capacity j (set ss k w)
+  pub seats_set : (j n : ℕ) (ss : List (Place F)) (k : ℕ) (w : Place F) → n ≡ j + k → AreSeats number weight opened oldest capacity j ss → IsSeat number weight opened oldest capacity n w → AreSeats number weight opened oldest capacity j (set ss k w)
   seats_set j n [] k w e are is = tt
   seats_set j n (s ∷ ss) zero w e are is =
       let here : n ≡ j = omega arith in
-      let P : ℕ → Type 0 = λ z. IsSeat number weight opened capacity z w in
+      let P : ℕ → Type 0 = λ z. IsSeat number weight opened oldest capacity z w in
       (subst P here is, are.1)
   seats_set j n (s ∷ ss) (suc k) w e are is = (are.0, seats_set (j + 1) n ss k w (omega arith) are.1 is)
 
-  pub own_seats : (j : ℕ) (ss : List (Place F)) → AreSeats number weight opened capacity j ss → AreOwn number ss
+  pub own_seats : (j : ℕ) (ss : List (Place F)) → AreSeats number weight opened oldest capacity j ss → AreOwn number ss
   own_seats j [] are = tt
   own_seats j (s ∷ ss) are = ((rises_of are.0.base s.seen are.0.seen, are.0.owns), own_seats (j + 1) ss are.1)
 
-  pub named_seats : (j : ℕ) (ss : List (Place F)) → AreSeats number weight opened capacity j ss → AreInShards j ss
+  pub named_seats : (j : ℕ) (ss : List (Place F)) → AreSeats number weight opened oldest capacity j ss → AreInShards j ss
   named_seats j [] are = tt
   named_seats j (s ∷ ss) are = (subst (λ (o : Option ℕ). AreNamed o s.seen) are.0.is_base.only are.0.seen.named, named_seats (j + 1) ss are.1)
 
@@ -72,8 +72,8 @@ most_from low (x ∷ xs) n rises (zero, inside, is) = let rest = last-above x xs
 most_from low (x ∷ xs) n rises (suc k, inside, is) = most_from x xs n rises.1 (k, omega (arith, inside), is)
 
 -- nor above the greatest of all shards
-module _ {F : Type 0} (number weight opened capacity : ℕ) where
-  pub below_top : (j : ℕ) (ss : List (Place F)) → AreSeats number weight opened capacity j ss → AreBelow (top ss) ss
+module _ {F : Type 0} (number weight opened oldest capacity : ℕ) where
+  pub below_top : (j : ℕ) (ss : List (Place F)) → AreSeats number weight opened oldest capacity j ss → AreBelow (top ss) ss
   below_top j [] are shard stamp c = absurd (omega (arith, c.1))
   below_top j (s ∷ ss) are zero stamp c =
       let here : Contains (stamps (steps_of s.seen)) stamp = subst (λ (es : List Entry). Contains (stamps es) stamp) (entries-untimed s.seen) c in
@@ -89,6 +89,6 @@ top_set (s ∷ ss) (suc k) v w h e le = let a = top_set ss k v w (omega arith) e
 pub has_seen : {F : Type 0} (p : PassView F) → IsPass p → HasSeen p
 has_seen p is = record {
   last_is = is.last_is;
-  below = subst (λ n. AreBelow n p.seats) (sym is.last_is) (below_top p.number p.weight p.opened p.capacity 0 p.seats is.seats);
-  named = named_seats p.number p.weight p.opened p.capacity 0 p.seats is.seats;
+  below = subst (λ n. AreBelow n p.seats) (sym is.last_is) (below_top p.number p.weight p.opened p.first p.capacity 0 p.seats is.seats);
+  named = named_seats p.number p.weight p.opened p.first p.capacity 0 p.seats is.seats;
 }

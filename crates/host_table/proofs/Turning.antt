@@ -1,5 +1,5 @@
 -- A call in its turn, as the seat sees it.
-use Rattle.std.proofs.Common.{◌≡◌, ℕ, ◌-◌, None, Some, Result, Ok, Err, IfOk, IfErr, OnErr, List, [], ◌∷◌, ◌++◌, length, sym, ap, subst, ◌∙◌, arith, length-append}
+use Rattle.std.proofs.Common.{◌≡◌, ℕ, ◌-◌, Option, None, Some, IsSomeAnd, Result, Ok, Err, IfOk, IfErr, OnErr, List, [], ◌∷◌, ◌++◌, length, sym, ap, subst, ◌∙◌, arith, length-append}
 use Rattle.std.proofs.lemmas.List.{append-nil}
 use mathlib.Core.List.{IsPrefix}
 use Rattle.turn_lock.specs.Places.{places_from, places_behind}
@@ -12,7 +12,7 @@ use Rattle.host_core.specs.Caller.{entry_of, IsFullCall, next_stamp}
 use Rattle.host_core.specs.Entries.{Made}
 use Rattle.host_core.specs.Value.{Book}
 use Rattle.host_core.specs.Times.{untimed}
-use Rattle.host_table.specs.Histories.{as_opened}
+use Rattle.host_table.specs.Histories.{as_opened, IsSeen}
 use Rattle.host_table.specs.Held.{Adds, Declines}
 use Rattle.host_table.specs.Passes.{Place}
 use Rattle.host_table.specs.Calls.{Calls, Looks}
@@ -35,6 +35,15 @@ pub given_back : {F : Type 0} (v t w : Place F) (old new : Book F) → t ≡ rec
 given_back v t w old new taken given =
     given ∙ (λ i. record { lock = (taken i).lock; seen = new.made; own = (taken i).own ++ added_places (taken i).taken new.made; weight = (taken i).weight; base = (taken i).base; taken = None })
 
+-- what the seat has seen is legal from its shard's opening
+pub seen_call : {F : Type 0} (v w : Place F) (old new : Book F) → v.base ≡ Some (as_opened old) → as_opened new ≡ as_opened old
+    → w ≡ record { lock = v.lock; seen = new.made; own = v.own ++ added_places (Some old.made) new.made; weight = v.weight; base = v.base; taken = None }
+    → IsSeen (as_opened new) new.made → IsSomeAnd v.base (λ base. IsSeen base w.seen)
+seen_call v w old new based same is seen =
+    let P : Option (Book _) → Type 0 = λ o. IsSomeAnd o (λ base. IsSeen base w.seen) in
+    let later : IsSeen (as_opened new) w.seen = subst (IsSeen (as_opened new)) (sym (ap (λ (p : Place _). p.seen) is)) seen in
+    subst P (sym based) (subst (λ (b : Book _). IsSeen b w.seen) same later)
+
 pub made_call : {F : Type 0} (v w : Place F) (old new : Book F) (call : Call) (pass floor moment : ℕ) (receipt : Receipt) → v.taken ≡ None → v.base ≡ Some (as_opened old) → IsPrefix v.seen old.made
     → w ≡ record { lock = v.lock; seen = new.made; own = v.own ++ added_places (Some old.made) new.made; weight = v.weight; base = v.base; taken = None }
     → Adds old new call pass floor moment receipt → Calls v call pass floor moment receipt w
@@ -43,7 +52,7 @@ made_call v w old new call pass floor moment receipt free based begins is adds =
     let seen : w.seen ≡ new.made = ap (λ (p : Place _). p.seen) is in
     let own : v.own ++ added_places (Some old.made) new.made ≡ v.own ++ receipt.place ∷ [] =
     ap (λ (places : List ℕ). v.own ++ places) (ap (places_behind old.made) adds.made ∙ (places_one old.made one ∙ ap (λ (place : ℕ). place ∷ []) (sym adds.place))) in
-    let P : List Made → Type 0 = λ made. FullAt old.opening old.opened old.capacity (untimed made) floor call moment → ⊥ in
+    let P : List Made → Type 0 = λ made. FullAt old.opening old.opened old.first old.capacity (untimed made) floor call moment → ⊥ in
     record {
       base = as_opened old;
       based = based;
@@ -66,7 +75,7 @@ refused_call v w old new call floor moment refusal free based begins is declines
     let same : w.seen ≡ old.made = seen ∙ declines.made in
     let own : v.own ++ added_places (Some old.made) new.made ≡ v.own =
     ap (λ (places : List ℕ). v.own ++ places) (ap (places_behind old.made) declines.made ∙ places_none old.made) ∙ append-nil v.own in
-    let P : List Made → Type 0 = λ made. IsFullCall refusal → FullAt old.opening old.opened old.capacity (untimed made) floor call moment in
+    let P : List Made → Type 0 = λ made. IsFullCall refusal → FullAt old.opening old.opened old.first old.capacity (untimed made) floor call moment in
     record {
       base = as_opened old;
       based = based;

@@ -22,7 +22,7 @@ module _ {F : Type 0} (v : Place F) (call : Call) where
     pub shard : base.only ≡ Some receipt.shard
     pub place : receipt.place ≡ length (v.seen ++ between)
     pub stamp : receipt.stamp ≡ next_stamp floor (untimed (v.seen ++ between))
-    pub room : FullAt base.opening base.opened base.capacity (untimed (v.seen ++ between)) floor call moment → ⊥
+    pub room : FullAt base.opening base.opened base.first base.capacity (untimed (v.seen ++ between)) floor call moment → ⊥
     pub back : receipt.back ≡ back_of call.act receipt.ruling
     pub same : w ≡ record { lock = v.lock; seen = w.seen; own = v.own ++ receipt.place ∷ []; weight = v.weight; base = v.base; taken = v.taken }
 
@@ -31,6 +31,6 @@ module _ {F : Type 0} (v : Place F) (call : Call) where
     pub base : Book F
     pub based : v.base ≡ Some base
     pub later : IsPrefix v.seen w.seen
-    pub full : IsFullCall refusal → FullAt base.opening base.opened base.capacity (untimed w.seen) floor call moment
+    pub full : IsFullCall refusal → FullAt base.opening base.opened base.first base.capacity (untimed w.seen) floor call moment
     pub handed : called_back refusal ≡ call
     pub same : w ≡ record { lock = v.lock; seen = w.seen; own = v.own; weight = v.weight; base = v.base; taken = v.taken }

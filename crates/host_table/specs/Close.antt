@@ -105,7 +105,8 @@ module _ {F : Type 0} (files : F → Option Files) (faults : F → ℕ) where
   -- the journal of a host and of all its passes, which has no entry of another, and the folders
   pub record Ends (host : HostView F) (passes : List (PassView F)) (journal : JournalView F) (folders : List F) : Type 0 where
     pub opened_is : journal.opened ≡ host.opened
-    pub legal : LegalHost (openings journal.parts) journal.opened (steps_of journal.merge)
+    pub first_is : journal.first ≡ host.first
+    pub legal : LegalHost (openings journal.parts) journal.opened journal.first (steps_of journal.merge)
     pub parts : AreParts journal.merge 0 journal.parts
     pub ended : AreEnded host.bases journal.parts folders
     pub seen : AllByRecursion (λ pass. AreSeen pass.seats journal.parts) passes

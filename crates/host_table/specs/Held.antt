@@ -26,13 +26,13 @@ pub record Adds {F : Type 0} (old new : Book F) (call : Call) (pass floor moment
   pub shard : old.only ≡ Some receipt.shard
   pub place : receipt.place ≡ length old.made
   pub stamp : receipt.stamp ≡ next_stamp floor (untimed old.made)
-  pub room : FullAt old.opening old.opened old.capacity (untimed old.made) floor call moment → ⊥
+  pub room : FullAt old.opening old.opened old.first old.capacity (untimed old.made) floor call moment → ⊥
   pub back : receipt.back ≡ back_of call.act receipt.ruling
 
 -- a call that made none
 pub record Declines {F : Type 0} (old new : Book F) (call : Call) (floor moment : ℕ) (refusal : CallFault) : Type 0 where
   pub made : new.made ≡ old.made
-  pub full : IsFullCall refusal → FullAt old.opening old.opened old.capacity (untimed old.made) floor call moment
+  pub full : IsFullCall refusal → FullAt old.opening old.opened old.first old.capacity (untimed old.made) floor call moment
   pub handed : called_back refusal ≡ call
 
 -- what a shard leaves, and its folder as the last step left it

@@ -20,5 +20,5 @@ as_opened book = record book { made = []; time = book.opened; folder = book.star
 
 -- what was seen of a shard that was opened like that
 pub record IsSeen {F : Type 0} (base : Book F) (seen : List Made) : Type 0 where
-  pub legal : Legal base.opening base.opened (untimed seen)
+  pub legal : Legal base.opening base.opened base.first (untimed seen)
   pub named : AreNamed base.only seen

@@ -7,9 +7,10 @@ use Rattle.host_core.specs.Entries.{Made}
 use Rattle.host_core.specs.Value.{Left}
 use Rattle.host_table.specs.declared.journal.Spot.{Spot}
 
--- when the host opened, what each shard leaves, and all entries in their order
+-- when the host opened, the version of the files that it began with, what each shard leaves, and all entries in their order
 pub record JournalView (F : Type 0) : Type 0 where
   pub opened : ℕ
+  pub first : ℕ
   pub parts : List (Left F)
   pub merge : List Made
 

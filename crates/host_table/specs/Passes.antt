@@ -16,20 +16,24 @@ use Rattle.host_table.specs.Histories.{last_stamp, AreNamed, IsSeen}
 abbrev pub Place : Type 0 → Type 0
 Place F = SeatValue Made (Book F)
 
--- the pass's number, its last stamp, its weight, when its host opened, the capacity of a shard, and its seats by shard
+-- The pass's number, its last stamp, its weight, when its host opened, the version of the files that it began with, the
+-- capacity of a shard, and its seats by shard.
 pub record PassView (F : Type 0) : Type 0 where
   pub number : ℕ
   pub last : ℕ
   pub weight : ℕ
   pub opened : ℕ
+  pub first : ℕ
   pub capacity : ℕ
   pub seats : List (Place F)
 
--- the locks and the shards as they were opened, by number; when the host opened, the capacity of a shard, and how many passes were made
+-- The locks and the shards as they were opened, by number; when the host opened, the version of the files that it began
+-- with, the capacity of a shard, and how many passes were made.
 pub record HostView (F : Type 0) : Type 0 where
   pub locks : List TableId
   pub bases : List (Book F)
   pub opened : ℕ
+  pub first : ℕ
   pub capacity : ℕ
   pub made : ℕ
 
@@ -117,6 +121,7 @@ module _ {F : Type 0} where
     floor = pass.last;
     capacity = pass.capacity;
     opened = pass.opened;
+    first = pass.first;
     ticked = false;
     home = shard_of;
     openings = λ shard. opening_at (slice_get pass.seats shard);
@@ -124,30 +129,31 @@ module _ {F : Type 0} where
   }
 
   -- the shard of that number, as it was opened
-  pub record IsBase (opened capacity shard : ℕ) (base : Book F) : Type 0 where
+  pub record IsBase (opened first capacity shard : ℕ) (base : Book F) : Type 0 where
     pub only : base.only ≡ Some shard
     pub opened_is : base.opened ≡ opened
+    pub first_is : base.first ≡ first
     pub capacity_is : base.capacity ≡ capacity
     pub unticked : base.ticked ≡ false
     pub names : AllByRecursion (λ file. MayKeep base.only file.0) base.opening
 
-  abbrev pub AreBases : ℕ → ℕ → ℕ → List (Book F) → Type 0
-  AreBases opened capacity shard [] = ⊤
-  AreBases opened capacity shard (base ∷ bases) = IsBase opened capacity shard base × AreBases opened capacity (shard + 1) bases
+  abbrev pub AreBases : ℕ → ℕ → ℕ → ℕ → List (Book F) → Type 0
+  AreBases opened first capacity shard [] = ⊤
+  AreBases opened first capacity shard (base ∷ bases) = IsBase opened first capacity shard base × AreBases opened first capacity (shard + 1) bases
 
   -- what a pass keeps of its seat at the shard of that number
-  pub record IsSeat (number weight opened capacity shard : ℕ) (seat : Place F) : Type 0 where
+  pub record IsSeat (number weight opened first capacity shard : ℕ) (seat : Place F) : Type 0 where
     pub free : seat.taken ≡ None
     pub weight_is : seat.weight ≡ weight
     pub base : Book F
     pub based : seat.base ≡ Some base
-    pub is_base : IsBase opened capacity shard base
+    pub is_base : IsBase opened first capacity shard base
     pub seen : IsSeen base seat.seen
     pub owns : Owns number seat.seen seat.own
 
-  abbrev pub AreSeats : ℕ → ℕ → ℕ → ℕ → ℕ → List (Place F) → Type 0
-  AreSeats number weight opened capacity shard [] = ⊤
-  AreSeats number weight opened capacity shard (seat ∷ seats) = IsSeat number weight opened capacity shard seat × AreSeats number weight opened capacity (shard + 1) seats
+  abbrev pub AreSeats : ℕ → ℕ → ℕ → ℕ → ℕ → ℕ → List (Place F) → Type 0
+  AreSeats number weight opened first capacity shard [] = ⊤
+  AreSeats number weight opened first capacity shard (seat ∷ seats) = IsSeat number weight opened first capacity shard seat × AreSeats number weight opened first capacity (shard + 1) seats
 
   -- a pass that is split off, and what is left of the old one
   abbrev pub given_half : Place F → Place F
@@ -173,7 +179,7 @@ module _ {F : Type 0} where
 
   -- what holds of every pass
   pub record IsPass (pass : PassView F) : Type 0 where
-    pub seats : AreSeats pass.number pass.weight pass.opened pass.capacity 0 pass.seats
+    pub seats : AreSeats pass.number pass.weight pass.opened pass.first pass.capacity 0 pass.seats
     pub last_is : pass.last ≡ top pass.seats
     pub wide : length pass.seats ≡ 16
     pub rises : RisesFrom 0 (map stamp_of (own_of pass))
@@ -189,13 +195,14 @@ module _ {F : Type 0} where
     pub number : new.number ≡ old.number
     pub weight : new.weight ≡ old.weight
     pub opened_is : new.opened ≡ old.opened
+    pub first_is : new.first ≡ old.first
     pub capacity_is : new.capacity ≡ old.capacity
     pub locks : locks_of new ≡ locks_of old
     pub bases : map base_of new.seats ≡ map base_of old.seats
 
   -- what holds of every host
   pub record IsHost (host : HostView F) : Type 0 where
-    pub bases : AreBases host.opened host.capacity 0 host.bases
+    pub bases : AreBases host.opened host.first host.capacity 0 host.bases
     pub wide : length host.locks ≡ 16
     pub many : length host.bases ≡ 16
     pub small : host.capacity ≤ 32768

@@ -21,7 +21,7 @@ module _ {F : Type 0} where
 
   -- the first pass has seen nothing and has all of the weight
   abbrev pub first_pass : HostView F → PassView F
-  first_pass host = record { number = 0; last = 0; weight = 2 ^ 62; opened = host.opened; capacity = host.capacity; seats = first_seats host.locks host.bases }
+  first_pass host = record { number = 0; last = 0; weight = 2 ^ 62; opened = host.opened; first = host.first; capacity = host.capacity; seats = first_seats host.locks host.bases }
 
   abbrev pub start_of : Book F → F
   start_of book = book.start
@@ -71,21 +71,22 @@ module _ {F : Type 0} (files : F → Option Files) (faults : F → ℕ) where
   IsBlamed olds news fault.Memory = ⊤
 
   -- the shard of that number, as it was opened over a folder
-  pub record IsBegun (opened capacity number : ℕ) (folder : F) (base : Book F) : Type 0 where
-    pub book : base ≡ record { only = Some number; opening = base.opening; opened = opened; capacity = capacity; made = []; time = opened; ticked = false; start = folder; folder = base.folder }
+  pub record IsBegun (opened first capacity number : ℕ) (folder : F) (base : Book F) : Type 0 where
+    pub book : base ≡ record { only = Some number; opening = base.opening; opened = opened; first = first; capacity = capacity; made = []; time = opened; ticked = false; start = folder; folder = base.folder }
     pub opening : IsOpening (Some number) (files folder) base.opening
     pub fits : Fits base.opening
 
-  abbrev pub AreBegun : ℕ → ℕ → ℕ → List F → List (Book F) → Type 0
-  AreBegun opened capacity number [] [] = ⊤
-  AreBegun opened capacity number [] (base ∷ bases) = ⊥
-  AreBegun opened capacity number (folder ∷ folders) [] = ⊥
-  AreBegun opened capacity number (folder ∷ folders) (base ∷ bases) = IsBegun opened capacity number folder base × AreBegun opened capacity (number + 1) folders bases
+  abbrev pub AreBegun : ℕ → ℕ → ℕ → ℕ → List F → List (Book F) → Type 0
+  AreBegun opened first capacity number [] [] = ⊤
+  AreBegun opened first capacity number [] (base ∷ bases) = ⊥
+  AreBegun opened first capacity number (folder ∷ folders) [] = ⊥
+  AreBegun opened first capacity number (folder ∷ folders) (base ∷ bases) = IsBegun opened first capacity number folder base × AreBegun opened first capacity (number + 1) folders bases
 
   -- a host over these folders, and its first pass
-  pub record Starts (folders : List F) (capacity opened : ℕ) (host : HostView F) (pass : PassView F) : Type 0 where
-    pub bases : AreBegun opened capacity 0 folders host.bases
+  pub record Starts (folders : List F) (capacity opened first : ℕ) (host : HostView F) (pass : PassView F) : Type 0 where
+    pub bases : AreBegun opened first capacity 0 folders host.bases
     pub opened_is : host.opened ≡ opened
+    pub first_is : host.first ≡ first
     pub capacity_is : host.capacity ≡ capacity
     pub made : host.made ≡ 1
     pub pass_is : pass ≡ first_pass host

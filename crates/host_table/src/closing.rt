@@ -153,7 +153,12 @@ pub(crate) fn end_host<F: Folder>(
     requires spots { (room.spots.items ≡ []) × (16 * host.capacity ≤ vec_capacity room.spots) }
     ensures { Ends F.files F.faults host passes.items result.0 result.1.items }
 {
-    let Host { locks, opened, .. } = host;
+    let Host {
+        locks,
+        opened,
+        first,
+        ..
+    } = host;
     let Room {
         mut shards,
         mut folders,
@@ -166,6 +171,7 @@ pub(crate) fn end_host<F: Folder>(
     spots.sort_unstable_by_key(|spot| spot.order());
     let journal = Journal {
         opened,
+        first,
         pasts,
         spots,
     };

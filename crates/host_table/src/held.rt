@@ -5,7 +5,7 @@ ghost use Rattle.outside.specs.Folder.{Keeps};
 ghost use Rattle.wopi_model.specs.Moment.{IsMoment};
 ghost use Rattle.host_core.specs.Caller.{IsFullCall};
 ghost use Rattle.host_core.specs.Memory.{takes_no_memory};
-ghost use Rattle.host_core.specs.Opening.{IsOpening, Fits, IsTooLarge, IfTooLarge};
+ghost use Rattle.host_core.specs.Opening.{IsFirstVersion, IsOpening, Fits, IsTooLarge, IfTooLarge};
 ghost use Rattle.wopi_text.specs.FileName.{shard_of};
 ghost use Rattle.host_table.specs.Histories.{last_stamp, as_opened, IsSeen};
 ghost use Rattle.host_table.specs.Held.{Adds, Declines, IsTakenApart};
@@ -58,14 +58,17 @@ impl<F: Folder> Held<F> {
         number: u8,
         capacity: u32,
         opened: u64,
+        first: u64,
     ) -> Result<Held<F>, (F, StartFault)>
         requires capacity { (1 ≤ capacity) × (capacity ≤ 32768) }
         requires number { number < 16 }
         requires opened { IsMoment opened }
+        requires first { IsFirstVersion first }
         ensures opened { IfOk result (λ held. held ≡ record {
           only = Some number;
           opening = held.opening;
           opened = opened;
+          first = first;
           capacity = capacity;
           made = [];
           time = opened;
@@ -82,7 +85,7 @@ impl<F: Folder> Held<F> {
         ensures handed { IfErr result (λ refused. Keeps (F.files folder) (F.files refused.0)) }
         ensures counts { IfErr result (λ refused. F.faults folder ≤ F.faults refused.0) }
     {
-        match Shard::start(alloc, folder, Some(number), capacity, opened) {
+        match Shard::start(alloc, folder, Some(number), capacity, opened, first) {
             Ok(shard) => return Ok(Held { shard }),
             Err(refused) => return Err(refused),
         }

@@ -2,6 +2,7 @@
 ghost use Rattle.std.specs.Prelude.{◌≡◌, ◌+◌, ◌<◌, ◌≤◌, ◌∷◌, [], ◌++◌, length, map, IfOk, IfErr, OnOk, OnErr, None, Some, true, IsSomeAnd, IsTrue, ◌↔◌};
 ghost use Rattle.std.specs.List.{AllByRecursion};
 ghost use Rattle.wopi_model.specs.Moment.{IsMoment};
+ghost use Rattle.host_core.specs.Opening.{IsFirstVersion};
 ghost use Rattle.wopi_text.specs.FileName.{shard_of};
 ghost use Rattle.host_core.specs.Caller.{Makes, Refuses, Frames, IsFullCall, entry_of};
 ghost use Rattle.host_core.specs.Memory.{takes_no_memory};
@@ -40,6 +41,8 @@ pub struct Host<F: Folder> {
     /// The shards when the host began.
     pub(crate) shards: Snapshot<Vec<Held<F>>>,
     pub(crate) opened: u64,
+    /// The version of the files that stood there at the opening.
+    pub(crate) first: u64,
     pub(crate) capacity: u32,
     pub(crate) made: u32,
 }
@@ -99,12 +102,13 @@ fn begin<F: Folder>(
     shards: Snapshot<Vec<Held<F>>>,
     capacity: u32,
     opened: u64,
+    first: u64,
 ) -> (Host<F>, Pass<F>)
     requires seats { seats.items ≡ first_seats locks.items (map as_opened shards.value.items) }
     requires many { (length locks.items ≡ 16) × (length shards.value.items ≡ 16) }
     requires small { capacity ≤ 32768 }
-    requires bases { AreBases opened capacity 0 (map as_opened shards.value.items) }
-    ensures host { result.0 ≡ record { locks = locks.items; bases = map as_opened shards.value.items; opened = opened; capacity = capacity; made = 1 } }
+    requires bases { AreBases opened first capacity 0 (map as_opened shards.value.items) }
+    ensures host { result.0 ≡ record { locks = locks.items; bases = map as_opened shards.value.items; opened = opened; first = first; capacity = capacity; made = 1 } }
     ensures pass { result.1 ≡ first_pass result.0 }
     ensures of_host { IsPassOf result.0 result.1 }
 {
@@ -113,6 +117,7 @@ fn begin<F: Folder>(
         last: 0,
         weight: 1 << 62,
         opened: Snapshot::of(&opened),
+        first: Snapshot::of(&first),
         capacity: Snapshot::of(&capacity),
         seats,
     };
@@ -121,6 +126,7 @@ fn begin<F: Folder>(
         locks,
         shards,
         opened,
+        first,
         capacity,
         made: 1,
     };
@@ -129,25 +135,27 @@ fn begin<F: Folder>(
 
 impl<F: Folder> Host<F> {
     /// Opens a shard over each of 16 folders, and gives the host and its first pass, which has number 0. Shard i
-    /// takes the names whose number is i. The fault is that of the first shard that has one; a refusal hands the
+    /// takes the names whose number is i, and its files begin at version `first`. The fault is that of the first shard that has one; a refusal hands the
     /// folders back in their order.
     pub fn start(
         alloc: Global,
         folders: Vec<F>,
         capacity: u32,
         opened: u64,
+        first: u64,
     ) -> Result<(Host<F>, Pass<F>), (Vec<F>, StartFault)>
         requires capacity { (1 ≤ capacity) × (capacity ≤ 32768) }
         requires folders { length folders.items ≡ 16 }
         requires opened { IsMoment opened }
-        ensures starts { IfOk result (λ begun. Starts F.files F.faults folders.items capacity opened begun.0 begun.1) }
+        requires first { IsFirstVersion first }
+        ensures starts { IfOk result (λ begun. Starts F.files F.faults folders.items capacity opened first begun.0 begun.1) }
         ensures handed { IfErr result (λ refused. AreHanded F.files F.faults folders.items refused.0.items) }
         ensures blamed { IfErr result (λ refused. IsBlamed F.files F.faults folders.items refused.0.items refused.1) }
     {
         let Ok(mut back) = Vec::with_capacity(alloc, SHARDS) else {
             return Err((folders, StartFault::Memory));
         };
-        match open_all(alloc, folders, &mut back, capacity, opened) {
+        match open_all(alloc, folders, &mut back, capacity, opened, first) {
             Err(fault) => return Err((back, fault)),
             Ok(shards) => {
                 let about = Snapshot::of(&shards);
@@ -157,7 +165,7 @@ impl<F: Folder> Host<F> {
                         return Err((back, StartFault::Memory));
                     }
                     Ok((locks, seats)) => {
-                        return Ok(begin(alloc, locks, seats, about, capacity, opened));
+                        return Ok(begin(alloc, locks, seats, about, capacity, opened, first));
                     }
                 }
             }
@@ -210,6 +218,7 @@ impl<F: Folder> Host<F> {
             last: pass.last,
             weight: half,
             opened: Snapshot::of(&self.opened),
+            first: Snapshot::of(&self.first),
             capacity: Snapshot::of(&self.capacity),
             seats,
         }

@@ -2,6 +2,7 @@
 ghost use Rattle.std.specs.Prelude.{◌≡◌, ◌+◌, ◌≤◌, [], ◌++◌, List, map, length, vec_len, vec_capacity, IfOk, IfErr, OnOk};
 ghost use Rattle.std.specs.Vec.Iter.{into_iter_items, into_iter_len};
 ghost use Rattle.wopi_model.specs.Moment.{IsMoment};
+ghost use Rattle.host_core.specs.Opening.{IsFirstVersion};
 ghost use Rattle.host_table.specs.Histories.{as_opened};
 ghost use Rattle.host_table.specs.Start.{first_seats, start_of, AreNew, AreHanded, IsBlamed, AreBegun};
 
@@ -46,12 +47,14 @@ pub(crate) fn open_all<F: Folder>(
     back: &mut Vec<F>,
     capacity: u32,
     opened: u64,
+    first: u64,
 ) -> Result<Vec<Held<F>>, StartFault>
     requires capacity { (1 ≤ capacity) × (capacity ≤ 32768) }
     requires folders { length folders.items ≡ 16 }
     requires opened { IsMoment opened }
+    requires first { IsFirstVersion first }
     requires room { (back.old.items ≡ []) × (16 ≤ vec_capacity back.old) }
-    ensures begun { IfOk result (λ shards. AreBegun F.files F.faults opened capacity 0 folders.items shards.items) }
+    ensures begun { IfOk result (λ shards. AreBegun F.files F.faults opened first capacity 0 folders.items shards.items) }
     ensures back { OnOk result ((back.new.items ≡ []) × (vec_capacity back.new ≡ vec_capacity back.old)) }
     ensures handed { IfErr result (λ fault. AreHanded F.files F.faults folders.items back.new.items) }
     ensures blamed { IfErr result (λ fault. IsBlamed F.files F.faults folders.items back.new.items fault) }
@@ -62,7 +65,7 @@ pub(crate) fn open_all<F: Folder>(
         return Err(StartFault::Memory);
     };
     while let Some(folder) = rest.next() {
-        match Held::start(alloc, folder, shards.len() as u8, capacity, opened) {
+        match Held::start(alloc, folder, shards.len() as u8, capacity, opened, first) {
             Ok(held) => shards.push_reserved(held),
             Err((folder, fault)) => {
                 hand_back(shards, back);

@@ -20,6 +20,7 @@ pub struct Pass<F: Folder> {
     pub(crate) weight: u64,
     /// Those of its host, as contracts see them.
     pub(crate) opened: Snapshot<u64>,
+    pub(crate) first: Snapshot<u64>,
     pub(crate) capacity: Snapshot<u32>,
     pub(crate) seats: Vec<Seat<Held<F>>>,
 }

@@ -24,7 +24,7 @@ fn folder(alloc: Global) -> Result<MemFolder, Fail> {
     Ok(folder)
 }
 
-/// A host over 16 such folders, opened at 0, and its first pass.
+/// A host over 16 such folders, opened at 0, and its first pass. Its files begin at version 7.
 fn open(alloc: Global) -> Result<(Host<MemFolder>, Pass<MemFolder>), Fail>
     ensures of_host { IfOk result (λ begun. IsPassOf begun.0 begun.1) }
     ensures fresh { IfOk result (λ begun. (begun.0.made ≡ 1) × (begun.1.weight ≡ 2 ^ 62)) }
@@ -36,7 +36,7 @@ fn open(alloc: Global) -> Result<(Host<MemFolder>, Pass<MemFolder>), Fail>
     if folders.len() != 16 {
         return Err("16 folders".into());
     }
-    match Host::start(alloc, folders, 8, 0) {
+    match Host::start(alloc, folders, 8, 0, 7) {
         Ok((host, pass)) => Ok((host, pass)),
         Err(_refused) => Err("a host".into()),
     }
@@ -104,6 +104,22 @@ fn make_one<R: Wait>(
 {
     match host.call(rt, pass, call, 7) {
         Ok(Receipt { stamp, shard, .. }) => Some((stamp, shard)),
+        Err(_) => None,
+    }
+}
+
+/// Makes a call by a pass at its host, and gives the version that is told.
+fn version_by<R: Wait>(
+    rt: &R,
+    host: &Host<MemFolder>,
+    pass: &mut Pass<MemFolder>,
+    call: Call,
+) -> Option<u64>
+    requires { IsPassOf host.now pass.old }
+    ensures { IsPassOf host.now pass.new }
+{
+    match host.call(rt, pass, call, 7) {
+        Ok(Receipt { ruling, .. }) => ruling.version,
         Err(_) => None,
     }
 }
@@ -185,6 +201,38 @@ fn a_pass_has_its_own_entries_in_the_journal(rt: HostRuntime) -> Result<(), Fail
     assert!(rt; spots_of(alloc, &journal, Some(0))?.as_slice() == mine.as_slice());
     assert!(rt; spots_of(alloc, &journal, Some(1))?.as_slice() == others.as_slice());
     assert!(rt; spots_of(alloc, &journal, None)?.len() == 4);
+    Ok(())
+}
+
+#[test]
+fn versions_go_on_from_the_first_one(rt: HostRuntime) -> Result<(), Fail> {
+    let alloc = rt.alloc();
+    let (host, mut first) = open(alloc)?;
+    let absent = lock_call(&rt, b"new.csv");
+    assert!(rt; version_by(&rt, &host, &mut first, absent).is_none());
+    let lock = lock_call(&rt, b"a.csv");
+    assert!(rt; version_by(&rt, &host, &mut first, lock) == Some(7));
+    let mut save = lock_call(&rt, b"a.csv");
+    save.act = Act::Put {
+        lock: Some(LockId::read(b"L1").expect(&rt, "a lock id")),
+        contents: Bytes::from_vec(b"5,6\n".to_vec(alloc)?),
+    };
+    assert!(rt; version_by(&rt, &host, &mut first, save) == Some(8));
+    let mut made = lock_call(&rt, b"new.csv");
+    made.act = Act::Create {
+        overwrite: false,
+        contents: Bytes::from_vec(b"7,8\n".to_vec(alloc)?),
+    };
+    assert!(rt; version_by(&rt, &host, &mut first, made) == Some(7));
+    let passes = vec![in alloc; first]?;
+    if !host.whole(&passes) {
+        return Err("all passes".into());
+    }
+    let Ok((journal, _folders)) = host.close(passes) else {
+        panic!(rt; "no memory")
+    };
+    assert!(rt; journal.first() == 7);
+    assert!(rt; journal.contents(2) == Some(b"5,6\n".as_slice()));
     Ok(())
 }
 

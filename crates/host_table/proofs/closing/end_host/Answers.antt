@@ -53,4 +53,4 @@ returns g c =
     (shards_long host c.args.passes.items c.join_all-seats.result.items c.close_all.new.shards.items c.args.room.shards.items e.0 c.host.invariant of joined.joined joined.locks e.2 c.requires.shards.0 e.1)
     of whole joined.joined (shards_ends host c.args.passes.items c.join_all-seats.result.items c.close_all.new.shards.items c.args.room.shards.items e.0 c.host.invariant of joined.joined joined.locks e.2 c.requires.shards.0 e.1)
     c.take_apart.ensures.taken moved up).1 in
-    subst (λ (h : HostView F). Ends f.files f.faults h c.args.passes.items (record { opened = host.opened; parts = c.take_apart.new.pasts.items; merge = merge_of c.take_apart.new.pasts.items sorted }) c.take_apart.new.folders.items) c.host.view_is all
+    subst (λ (h : HostView F). Ends f.files f.faults h c.args.passes.items (record { opened = host.opened; first = host.first; parts = c.take_apart.new.pasts.items; merge = merge_of c.take_apart.new.pasts.items sorted }) c.take_apart.new.folders.items) c.host.view_is all

@@ -3,7 +3,7 @@ use mathlib.Core.List.{IsPrefix}
 use Rattle.host_core.specs.Entries.{Made}
 use Rattle.host_table.specs.Passes.{Place}
 use Rattle.host_table.specs.Calls.{Calls, Looks}
-use Rattle.host_table.proofs.Turning.{grown, given_back, made_call, refused_call, err_map}
+use Rattle.host_table.proofs.Turning.{grown, given_back, seen_call, made_call, refused_call, err_map}
 use Rattle.host_core.proofs.Results.{ifok_map}
 use Rattle.host_table.proofs.host.turn.Goals as goal
 
@@ -11,6 +11,12 @@ pub give_back-requires-clause-turn : goal.give_back-requires-clause-turn
 give_back-requires-clause-turn g c =
     let P : Option (List Made) → Type 0 = λ o. IsSomeAnd o (λ taken. IsPrefix taken c.call-answer.new.self.made) in
     subst P (sym (ap (λ (p : Place g.row.F.Denot). p.taken) c.take-held.ensures.seat)) (grown _ _ _ _ _ _ _ c.call-answer.ensures.made c.call-answer.ensures.refused)
+
+pub returns-clause-seen : goal.returns-clause-seen
+returns-clause-seen g c =
+    let v = c.args.seat.now in let w = c.give_back.new.seat in let old = c.take-held.result in let new = c.call-answer.new.self in
+    let after = given_back v c.take-held.new.seat w old new c.take-held.ensures.seat c.give_back.ensures in
+    seen_call v w old new c.take-held.ensures.base c.call-answer.ensures.base after c.call-answer.ensures.seen
 
 pub returns-clause-made : goal.returns-clause-made
 returns-clause-made g c =
