@@ -48,7 +48,7 @@ fn folder(alloc: Global, names: &[&str]) -> Result<MemFolder, Fail> {
 fn over(alloc: Global, capacity: u32, folder: MemFolder) -> Result<Single<MemFolder>, Fail>
     requires { (1 ≤ capacity) × (capacity ≤ 32768) }
 {
-    match Shard::start(alloc, folder, None, capacity, 0) {
+    match Shard::start(alloc, folder, None, capacity, 0, 1) {
         Ok(shard) => Ok(Single::new(shard)),
         Err(_refused) => Err("a shard".into()),
     }
