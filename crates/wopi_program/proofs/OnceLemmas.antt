@@ -40,7 +40,7 @@ module _ {F : Type 0} (files : F → Option Files) (faults : F → ℕ) where
 
   -- the entries of a connection over a fresh shard are legal by themselves
   legal_alone : (desk : Desk) (end : ConnEnd) (left clock clock' held held' : Option (List ℕ)) (folder : F) (first : Book F) → first.made ≡ [] → first.ticked ≡ false
-      → (s : ServesShard files faults desk end left clock clock' held held' first folder) → Legal first.opening first.opened (map Step (made s.serves.deeds))
+      → (s : ServesShard files faults desk end left clock clock' held held' first folder) → Legal first.opening first.opened first.first (map Step (made s.serves.deeds))
   legal_alone desk end left clock clock' held held' folder first none unticked s =
       let last = s.last in
       let does = s.serves.makes in
@@ -51,9 +51,11 @@ module _ {F : Type 0} (files : F → Option Files) (faults : F → ℕ) where
       in
       let opening : last.opening ≡ first.opening = does.follows.openings 0 in
       let opened : last.opened ≡ first.opened = does.follows.opened in
-      subst (λ (o : Opening). Legal o first.opened (map Step (made s.serves.deeds))) opening
-      (subst (λ (m : ℕ). Legal last.opening m (map Step (made s.serves.deeds))) opened
-      (subst (λ (l : List Item). Legal last.opening last.opened l) items (s.lawful.alone calm)))
+      let begins : last.first ≡ first.first = does.follows.first in
+      subst (λ (o : Opening). Legal o first.opened first.first (map Step (made s.serves.deeds))) opening
+      (subst (λ (m : ℕ). Legal last.opening m first.first (map Step (made s.serves.deeds))) opened
+      (subst (λ (n : ℕ). Legal last.opening last.opened n (map Step (made s.serves.deeds))) begins
+      (subst (λ (l : List Item). Legal last.opening last.opened last.first l) items (s.lawful.alone calm))))
 
   pub opens_and_serves : (desk : Desk) (key base : List ℕ) (opened : ℕ) (end : ConnEnd) (left clock mid clock' held held' : Option (List ℕ)) (folder folder' : F)
       (first : Book F) → desk.key ≡ key → desk.base ≡ base → desk.opened ≡ opened → Gives clock mid opened
@@ -61,6 +63,7 @@ module _ {F : Type 0} (files : F → Option Files) (faults : F → ℕ) where
         only = None;
         opening = first.opening;
         opened = opened;
+        first = 1;
         capacity = 4096;
         made = [];
         time = opened;
@@ -80,8 +83,9 @@ module _ {F : Type 0} (files : F → Option Files) (faults : F → ℕ) where
     times = subst (Gives clock mid) (sym opened_is) times;
     opens = subst (λ m. IsFresh files folder m first) (sym opened_is) (record { book = book; opening = opening; fits = fits });
     serves = serves;
-    legal = subst (λ (m : ℕ). Legal first.opening m (map Step (made serves.serves.deeds))) (ap (λ (b : Book F). b.opened) book ∙ sym opened_is)
-        (legal_alone desk end left mid clock' held held' folder' first (ap (λ (b : Book F). b.made) book) (ap (λ (b : Book F). b.ticked) book) serves);
+    legal = subst (λ (m : ℕ). Legal first.opening m 1 (map Step (made serves.serves.deeds))) (ap (λ (b : Book F). b.opened) book ∙ sym opened_is)
+        (subst (λ (n : ℕ). Legal first.opening first.opened n (map Step (made serves.serves.deeds))) (ap (λ (b : Book F). b.first) book)
+        (legal_alone desk end left mid clock' held held' folder' first (ap (λ (b : Book F). b.made) book) (ap (λ (b : Book F). b.ticked) book) serves));
   }
 
 -- status 3 comes only with a fault of reading

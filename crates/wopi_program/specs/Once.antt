@@ -51,12 +51,13 @@ Finishes held count status old new FolderFault = (status ≡ 5) × NotesFor held
 Finishes held count status old new (TooLarge name) = TooLargeEnds held count status old new name
 Finishes held count status old new Memory = (status ≡ 6) × NotesFor held count status old new
 
--- A shard that was opened over a folder at a moment: its files, and no entry yet.
+-- A shard that was opened over a folder at a moment: its files, at version 1, and no entry yet.
 pub record IsFresh {F : Type 0} (files : F → Option Files) (folder : F) (opened : ℕ) (first : Book F) : Type 0 where
   pub book : first ≡ record {
     only = None;
     opening = first.opening;
     opened = opened;
+    first = 1;
     capacity = 4096;
     made = [];
     time = opened;
@@ -90,7 +91,7 @@ pub record OpensAndServes {F : Type 0} (files : F → Option Files) (faults : F 
   pub times : Gives clock mid desk.opened
   pub opens : IsFresh files folder desk.opened first
   pub serves : ServesShard files faults desk end left mid clock' held held' first folder'
-  pub legal : Legal first.opening desk.opened (map Step (made serves.serves.deeds))
+  pub legal : Legal first.opening desk.opened 1 (map Step (made serves.serves.deeds))
 
 -- No shard was opened at the moment that the clock gave: the folder holds what it held, and its count hasn't fallen.
 pub record OpensNone {F : Type 0} (files : F → Option Files) (faults : F → ℕ) (clock clock' : Option (List ℕ)) (folder folder' : F) : Type 0 where

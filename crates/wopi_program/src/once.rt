@@ -111,7 +111,7 @@ fn once_over<S: Source, K: Sink, F: Folder, C: Clock>(
 {
     let opened = clock.now();
     let desk = Desk::new(key, base, opened);
-    match Shard::start(alloc, folder, None, CAPACITY, opened) {
+    match Shard::start(alloc, folder, None, CAPACITY, opened, 1) {
         Ok(shard) => {
             let (folder, end) = serve_over(alloc, &desk, shard, source, sink, clock);
             (folder, OnceEnd::Served(end))
