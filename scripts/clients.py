@@ -115,8 +115,9 @@ class Host:
         must(self.process.returncode == status, f"status {self.process.returncode}, {notes}")
         with open(self.journal) as file:
             lines = file.read().splitlines()
-        must(lines[0].startswith("wopi journal 1 opened ") and lines[-1] == "end", "the journal isn't whole")
-        return [line.split(" ")[5] for line in lines[1:-1] if not line.startswith("file ")]
+        acts = [line.split(" ")[6] for line in lines[1:-1] if not line.startswith("file ")]
+        must(lines[0].startswith("wopi journal 2 opened ") and lines[-1] == f"end {len(acts)}", "the journal isn't whole")
+        return acts
 
 
 def ask(link, override, body=None, behind="", method="POST", wanted=200, **more):

@@ -307,9 +307,10 @@ def served(room):
     is_told(status, notes, (0, 4, 5, 6, 10))
     statuses = are_replies(got, [reply(1)])
     lines = room.journal().splitlines()
-    must(not lines or lines[0].startswith(b"wopi journal 1 opened "), f"another journal: {lines[:1]}")
-    must(status in (4, 5, 6) or lines[-1:] == [b"end"], f"status {status}, and the journal isn't whole")
-    if lines[-1:] == [b"end"] and statuses == [200]:
+    must(not lines or lines[0].startswith(b"wopi journal 2 opened "), f"another journal: {lines[:1]}")
+    whole = bool(lines) and lines[-1].startswith(b"end ")
+    must(status in (4, 5, 6) or whole, f"status {status}, and the journal isn't whole")
+    if whole and statuses == [200]:
         must(any(b" lock 4c31 " in line for line in lines), "a reply without its entry")
     must(room.kept() == OLD, "other contents")
     return status

@@ -109,14 +109,14 @@ def serve_client(port, client, connections, replies, faults):
 
 def entries(journal):
     lines = journal.decode().splitlines()
-    if not lines or not lines[0].startswith("wopi journal 1 opened ") or lines[-1] != "end":
+    if not lines or not lines[0].startswith("wopi journal 2 opened ") or not lines[-1].startswith("end "):
         raise SystemExit("the journal isn't whole")
     for line in lines[1:-1]:
         words = line.split(" ")
         if words[0] == "file":
             continue
-        place = next(at for at in range(5, len(words)) if words[at].startswith("ann."))
-        yield (words[4], " ".join(words[5:place]), *words[place + 1:place + 5])
+        place = next(at for at in range(6, len(words)) if words[at].startswith("ann."))
+        yield (words[5], " ".join(words[6:place]), *words[place + 1:place + 5])
 
 
 def main():

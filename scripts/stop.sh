@@ -99,8 +99,8 @@ run() {
   wait "$host"
   check 'the status' 0 $?
   check 'the file' halves "$(cat "$room/files/a.csv")"
-  check "the journal's entries" 'lock put' "$(awk '$6 == "lock" || $6 == "put" { print $6 }' "$room/journal" | xargs)"
-  check "the journal's end" end "$(tail -n 1 "$room/journal")"
+  check "the journal's entries" 'lock put' "$(awk '$7 == "lock" || $7 == "put" { print $7 }' "$room/journal" | xargs)"
+  check "the journal's end" 'end 2' "$(tail -n 1 "$room/journal")"
   check 'the notes' '' "$(cat "$room/notes")"
 }
 
@@ -112,7 +112,7 @@ run_early() {
   kill -s TERM "$host"
   wait "$host" 2>/dev/null
   ended="$? $(tail -n 1 "$room/journal")"
-  [ "$ended" = '143 ' ] || check "the status and the journal's end" '0 end' "$ended"
+  [ "$ended" = '143 ' ] || check "the status and the journal's end" '0 end 0' "$ended"
 }
 
 token=$("$program" token "$key" ann a.csv w 1 253402300000000 253402300799999) || exit 1

@@ -3,7 +3,6 @@ use Rattle.std.specs.Prelude.{ℕ, List, [], ◌∷◌, ◌++◌, decimal}
 use Rattle.std.specs.List.{flat_map}
 use Rattle.hex.specs.Hex.{encode_lower}
 use Rattle.wopi_text.specs.Ids.{id_of}
-use Rattle.wopi_model.specs.Shard.{Entry}
 use Rattle.wopi_model.specs.Host.{shard_of_entry}
 use Rattle.host_table.specs.declared.lines.Piece.{Piece}
 use Rattle.host_table.specs.declared.lines.Piece.TheVariants as piece
@@ -20,14 +19,14 @@ piece_text (piece.Number number) = decimal number
 piece_text (piece.Hex bytes) = encode_lower bytes.now
 
 -- where an entry stands, when it was made and of which file
-abbrev pub head_text : Entry → List ℕ
-head_text entry =
-    decimal entry.stamp ++ space ∷ decimal (shard_of_entry entry) ++ space ∷ decimal entry.pass
-    ++ space ∷ decimal entry.moment ++ space ∷ id_of entry.call.name
+abbrev pub head_text : Made → List ℕ
+head_text one =
+    decimal one.step.stamp ++ space ∷ decimal (shard_of_entry one.step) ++ space ∷ decimal one.step.pass
+    ++ space ∷ decimal one.step.moment ++ space ∷ decimal one.time ++ space ∷ id_of one.step.call.name
 
 -- a line's text up to the token, and the rest of it
 abbrev pub begin_text : Made → List ℕ
-begin_text one = head_text one.step ++ ((space ∷ act_text (kept_act one.step.call.act)) ++ (space ∷ token_fields one.step.call.token))
+begin_text one = head_text one ++ ((space ∷ act_text (kept_act one.step.call.act)) ++ (space ∷ token_fields one.step.call.token))
 
 abbrev pub end_text : Made → List ℕ
 end_text one = (space ∷ ruling_text one.step.ruling) ++ (space ∷ (optional_hex (accepted_contents one) ++ line_feed ∷ []))

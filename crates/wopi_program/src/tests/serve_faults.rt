@@ -82,7 +82,11 @@ fn left_by<R: Threads + Wait + Sync>(
     })
 }
 
-const OPENING: [&str; 3] = ["wopi journal 1 opened 0", "file 612e637376 312c320a", "end"];
+const OPENING: [&str; 3] = [
+    "wopi journal 2 opened 0 first 1",
+    "file 612e637376 312c320a",
+    "end 0",
+];
 
 /// The number of the link's read and of its write that fails, the lines of the journal, and the link's replies.
 struct Row {
