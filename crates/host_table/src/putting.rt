@@ -12,7 +12,7 @@ use itoa::Buffer;
 use outside::{Failed, Sink, write_whole};
 
 /// Writes what was gathered.
-pub(crate) fn send<K: Sink>(sink: &mut K, room: &mut WriteRoom) -> Result<(), Failed>
+pub fn send<K: Sink>(sink: &mut K, room: &mut WriteRoom) -> Result<(), Failed>
     ensures bytes { Gathers (K.held sink.old) (K.held sink.new) room.old.bytes.items room.new.bytes.items result [] }
     ensures none { OnOk result (room.new.bytes.items ≡ []) }
     ensures never_falls { K.write_faults sink.old ≤ K.write_faults sink.new }
@@ -63,7 +63,7 @@ fn gather(room: &mut WriteRoom, text: &[u8])
 }
 
 /// Gathers a text, or writes it where there is no room for it.
-pub(crate) fn put<K: Sink>(sink: &mut K, room: &mut WriteRoom, text: &[u8]) -> Result<(), Failed>
+fn put<K: Sink>(sink: &mut K, room: &mut WriteRoom, text: &[u8]) -> Result<(), Failed>
     ensures bytes { Gathers (K.held sink.old) (K.held sink.new) room.old.bytes.items room.new.bytes.items result text.now }
     ensures never_falls { K.write_faults sink.old ≤ K.write_faults sink.new }
     ensures failed { OnErr result (Rose (K.write_faults sink.old) (K.write_faults sink.new)) }
@@ -138,8 +138,9 @@ fn put_piece<K: Sink>(sink: &mut K, room: &mut WriteRoom, piece: Piece<'_>) -> R
     }
 }
 
-/// Puts pieces of a line, one after another.
-pub(crate) fn put_pieces<K: Sink>(
+/// Puts pieces of a line, one after another: they are gathered, or written where there is no room for them. At a fault a
+/// front of what was gathered and of them was written.
+pub fn put_pieces<K: Sink>(
     sink: &mut K,
     room: &mut WriteRoom,
     pieces: &[Piece<'_>],

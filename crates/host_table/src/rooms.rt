@@ -43,13 +43,16 @@ pub struct CloseRoom<F: Folder> {
 /// The memory that writing a journal takes. What is to be written is gathered there, and written in large pieces.
 #[derive(Drop)]
 pub struct WriteRoom {
-    pub(crate) bytes: Vec<u8>,
-    ghost wide: { 65536 ≤ vec_capacity bytes },
+    /// What was gathered and isn't written yet.
+    pub bytes: Vec<u8>,
+    pub ghost wide: { 65536 ≤ vec_capacity bytes },
 }
 
 impl WriteRoom {
     /// Room for any journal.
-    pub fn new(alloc: Global) -> Result<WriteRoom, Memory> {
+    pub fn new(alloc: Global) -> Result<WriteRoom, Memory>
+        ensures { IfOk result (λ room. room.bytes.items ≡ []) }
+    {
         let bytes = Vec::with_capacity(alloc, PIECE)?;
         Ok(WriteRoom { bytes })
     }

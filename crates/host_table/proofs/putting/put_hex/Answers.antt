@@ -1,4 +1,4 @@
-use Rattle.std.proofs.Common.{◌≡◌, ◌++◌, arith, []}
+use Rattle.std.proofs.Common.{arith}
 use Rattle.host_table.proofs.WritingLemmas.{hex_begun, hex_more, hex_cut, hex_done, hex_cut_at, none_left}
 use Rattle.host_table.proofs.putting.put_hex.Goals as goal
 

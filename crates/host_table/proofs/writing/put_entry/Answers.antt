@@ -1,4 +1,3 @@
-use Rattle.host_table.specs.Pieces.{begin_text, end_text}
 use Rattle.host_table.proofs.WritingLemmas.{entry_gathered, entry_cut}
 use Rattle.host_table.proofs.writing.put_entry.Goals as goal
 
