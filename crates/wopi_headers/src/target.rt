@@ -1,6 +1,6 @@
 //! The target of a request: its path, and the token in its query.
-ghost use Rattle.std.specs.Prelude.{◌≡◌, ◌==◌, ◌≤◌, ◌++◌, IfOk, length, position};
-ghost use Rattle.std.specs.List.{before_first, after_first, position_or_len, slice_split};
+ghost use Rattle.std.specs.Prelude.{◌≡◌, false, ◌==◌, ◌≤◌, ◌++◌, IfOk, length, position};
+ghost use Rattle.std.specs.List.{list_any, before_first, after_first, position_or_len, slice_split};
 ghost use Rattle.std.specs.Option.{option_copied, option_map};
 ghost use Rattle.percent_encoding.specs.Percent.{percent_decode};
 ghost use Rattle.wopi_headers.specs.Targets.{begins_with, from_slash, path_of, query_of, is_token, token_part, token_of};
@@ -86,20 +86,44 @@ fn is_token(part: &[u8]) -> bool
     before(part, b'=') == b"access_token".as_slice()
 }
 
-/// The first part of a query that is the token.
-fn token_part(query: &[u8]) -> Option<&[u8]>
+/// A query of one part, where that is the token.
+#[tactic(auto, using(crate::proofs::Escapes::one_part))]
+fn only_part(query: &[u8]) -> Option<&[u8]>
+    requires { list_any (λ b. b == 38) query.now ≡ false }
+    ensures { option_copied result ≡ token_part query.now }
+{
+    if is_token(query) { Some(query) } else { None }
+}
+
+/// The first of several parts that is the token.
+fn part_among(query: &[u8]) -> Option<&[u8]>
     ensures { option_copied result ≡ token_part query.now }
 {
     query.split(|b| *b == b'&').find(|part| is_token(part))
 }
 
-/// The value of a part of a query, percent-decoded.
+/// The first part of a query that is the token.
+fn token_part(query: &[u8]) -> Option<&[u8]>
+    ensures { option_copied result ≡ token_part query.now }
+{
+    if query.contains(&b'&') {
+        part_among(query)
+    } else {
+        only_part(query)
+    }
+}
+
+/// The value of a part of a query, percent-decoded. One with no percent sign is copied whole.
 fn decoded(alloc: Global, part: &[u8]) -> Result<Bytes, Memory>
     ensures { IfOk result (λ value. value ≡ percent_decode (after_first (λ b. b == 61) part.now)) }
 {
-    let mut value = Vec::new(alloc);
-    percent_decode(after(part, b'=')).append_to(&mut value)?;
-    Ok(Bytes::from_vec(value))
+    let value = after(part, b'=');
+    if !value.contains(&b'%') {
+        return Bytes::from_slice(alloc, value);
+    }
+    let mut bytes = Vec::with_capacity(alloc, value.len())?;
+    percent_decode(value).append_to(&mut bytes)?;
+    Ok(Bytes::from_vec(bytes))
 }
 
 /// The token of a target, percent-decoded; it is empty where the query has none.
