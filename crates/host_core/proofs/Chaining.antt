@@ -51,11 +51,11 @@ further None number e = absurd (cc)
 further (Some m) number e = (m, refl, cc)
 
 -- the first file has the name, or one of the others has
-module _ (k : KeptFile) (s : Standing) (files : List KeptFile) (ss : List Standing) (name : List ℕ) where
+module _ (first : ℕ) (k : KeptFile) (s : Standing) (files : List KeptFile) (ss : List Standing) (name : List ℕ) where
   abbrev found : Bool → File
-  found b = unwrap_or (option_map file_of (if b then Some (whole k s) else first_of (is_named name) (joined files ss))) never_met
+  found b = unwrap_or (option_map file_of (if b then Some (whole k s) else first_of (is_named name) (joined files ss))) (never_met first)
 
-  found_one : (number : ℕ) → ((m : ℕ) → place_in (named files) name ≡ Some m → (j : KeptFile) × (files_of (joined files ss) name ≡ file_of (whole j (standing_at ss m))))
+  found_one : (number : ℕ) → ((m : ℕ) → place_in (named files) name ≡ Some m → (j : KeptFile) × (files_of first (joined files ss) name ≡ file_of (whole j (standing_at ss m))))
       → (b : Bool) → bytes_eq k.name name ≡ b → (if b then Some 0 else option_map suc (place_in (named files) name)) ≡ Some number
       → (j : KeptFile) × (found (bytes_eq k.name name) ≡ file_of (whole j (standing_at (s ∷ ss) number)))
   found_one number more true is e =
@@ -71,22 +71,22 @@ bare_at zero = refl
 bare_at (suc number) = refl
 
 -- what stands under the number of a name's place is the name's
-found_at : (files : List KeptFile) (ss : List Standing) (name : List ℕ) (number : ℕ) → place_in (named files) name ≡ Some number
-    → (k : KeptFile) × (files_of (joined files ss) name ≡ file_of (whole k (standing_at ss number)))
-found_at [] ss name number at = absurd (cc)
-found_at (k ∷ files) [] name number at =
-    let (j, same) = found_one k unlocked files [] name number (λ m e. found_at files [] name m e) (bytes_eq k.name name) refl at in
+found_at : (first : ℕ) (files : List KeptFile) (ss : List Standing) (name : List ℕ) (number : ℕ) → place_in (named files) name ≡ Some number
+    → (k : KeptFile) × (files_of first (joined files ss) name ≡ file_of (whole k (standing_at ss number)))
+found_at first [] ss name number at = absurd (cc)
+found_at first (k ∷ files) [] name number at =
+    let (j, same) = found_one first k unlocked files [] name number (λ m e. found_at first files [] name m e) (bytes_eq k.name name) refl at in
     (j, same ∙ ap (λ s. file_of (whole j s)) (bare_at number))
-found_at (k ∷ files) (s ∷ ss) name number at = found_one k s files ss name number (λ m e. found_at files ss name m e) (bytes_eq k.name name) refl at
+found_at first (k ∷ files) (s ∷ ss) name number at = found_one first k s files ss name number (λ m e. found_at first files ss name m e) (bytes_eq k.name name) refl at
 
 -- what is kept has the chains of what has happened
-chains_kept : {F : Type 0} (ledger : Ledger) (book : Book F) → book.time ≡ ledger.time → Reflects book.opening book.opened book.capacity book.made book.time ledger.last (kept_in ledger.versions.list) (files_in ledger) → IsTied ledger
+chains_kept : {F : Type 0} (ledger : Ledger) (book : Book F) → book.time ≡ ledger.time → Reflects book.opening book.opened book.first book.capacity book.made book.time ledger.last (kept_in ledger.versions.list) (files_in ledger) → IsTied ledger
     → KeepsChains ledger book
 chains_kept ledger book time keeps tied = λ name number at.
     let ss = ledger.locks.files in
     let s = standing_at ss number in
-    let (k, is) = found_at ledger.files.items ss name number at in
-    let shown = shown-file book.opening book.opened book.capacity book.made book.time ledger.last (kept_in ledger.versions.list) (files_in ledger) keeps name in
+    let (k, is) = found_at book.first ledger.files.items ss name number at in
+    let shown = shown-file book.opening book.opened book.first book.capacity book.made book.time ledger.last (kept_in ledger.versions.list) (files_in ledger) keeps name in
     let none : expired s.lock ledger.time ≡ None = unexpired s.lock ledger.time (tied.stand number) in
     ap (still_spent (chain_at ledger.locks.chains number)) time
     ∙ chain_still ledger.locks.chains ss ledger.time number (tied.locked.as_of.chains ledger.time tied.locked.as_of.stepped)
