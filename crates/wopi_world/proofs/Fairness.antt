@@ -12,7 +12,7 @@ use Rattle.save_session.specs.declared.state.Effect.{Effect}
 use Rattle.save_session.specs.declared.state.Effect.TheVariants.{Sends, Tells, Ignores}
 use Rattle.save_session.specs.declared.input.Input.TheVariants.{Reply as Replies, NoAnswer}
 use Rattle.save_session.specs.Session.{stepped}
-use Rattle.wopi_world.specs.History.{Item, Ran, Restarted, Legal, IsAllowed, Along, BeginsNext, happens, after, opening_names, names_after}
+use Rattle.wopi_world.specs.History.{Item, Ran, Restarted, IsNextFirst, Legal, IsAllowed, Along, BeginsNext, happens, after, opening_names, names_after}
 use Rattle.wopi_world.specs.Requests.{Client, Sent, input_of, call_of}
 use Rattle.wopi_world.specs.World.{Setting, Request, Reply, Member, World, first_shard, first_world, Event, Asks, Deliver, Answer, Lose, Foreign, Ticks, Entry, Restarts, Fault, Refused, next_first, ruling_in, item_of, enters, delivered_by, delivered, Ask, Unread, One, Copy, asks_one, is_taken, tries, foreign, takes, turns, for_client, is_asked, answers_sender, answers_place, answers, refuses, comes, run_from, run}
 use Rattle.wopi_world.specs.Valid.{IsValidEvent, AreValid, IsValid}
@@ -143,3 +143,7 @@ fair setting events valid =
 
 pub legal_lem : (setting : Setting) (events : List Event) → IsValid setting events → Legal setting.opening setting.opened setting.first (run setting events).history
 legal_lem setting events valid = let f = fair setting events valid in record { allowed = f.allowed; begins = f.begins; stamps = f.numbered.rises }
+
+pub next_lem : (setting : Setting) (events : List Event) → IsValid setting events → IsNextFirst (run setting events).shard (next_first setting (run setting events))
+next_lem setting events valid =
+    let world = run setting events in next_first_is world.shard (names_after (opening_names setting.opening) world.history) (fair setting events valid).known

@@ -2,11 +2,11 @@
 ghost use Rattle.std.specs.List.{slice_get};
 ghost use Rattle.std.specs.Prelude.{◌≡◌, ℕ, List, map, Some};
 ghost use Rattle.wopi_model.specs.Shard.{Shard, Opening, Item, Legal, opening_file, opened_shard, entries};
-ghost use Rattle.wopi_world.specs.History.{Ran, restarted, after};
+ghost use Rattle.wopi_world.specs.History.{Ran, IsNextFirst, restarted, after};
 ghost use Rattle.wopi_world.specs.History as world;
 ghost use Rattle.wopi_world.specs.Journals.{events_of, AreSameItems, AreCounted};
 ghost use Rattle.wopi_world.specs.Requests.{Client, Sent, call_of};
-ghost use Rattle.wopi_world.specs.World.{Setting, World, Event, IsSameHistory, comes, first_shard, run};
+ghost use Rattle.wopi_world.specs.World.{Setting, World, Event, IsSameHistory, comes, first_shard, next_first, run};
 ghost use Rattle.wopi_world.specs.World as event;
 ghost use Rattle.wopi_world.specs.Valid.{IsValid};
 ghost use Rattle.wopi_world.specs.Safe.{IsSafe};
@@ -20,12 +20,15 @@ pub fn safe_always()
     ensures { (setting : Setting) (events : List Event) → IsValid setting events → IsSafe setting (run setting events) }
 {}
 
-/// The history of a valid world is one that a shard may have over restarts, and leaves the world's.
+/// The history of a valid world is one that a shard may have over restarts, and leaves the world's
+/// shard; a restart then would begin with the number that comes next after all versions.
 pub fn worlds_are_legal()
     ensures legal { (setting : Setting) (events : List Event) → IsValid setting events →
         world.Legal setting.opening setting.opened setting.first (run setting events).history }
     ensures leaves { (setting : Setting) (events : List Event) → IsValid setting events →
         after (first_shard setting) (run setting events).history ≡ (run setting events).shard }
+    ensures next { (setting : Setting) (events : List Event) → IsValid setting events →
+        IsNextFirst (run setting events).shard (next_first setting (run setting events)) }
 {}
 
 /// A restart leaves the shard that opens then with the contents that are there: each file begins

@@ -4,8 +4,16 @@
 //! A world (`specs/World.antt`) has one shard of a host with its history, any number of sessions,
 //! and all that was ever sent between them. Events come in any order: a session is asked for
 //! something, a request is delivered, once, late, again or never, an answer comes or is lost, time
-//! goes on, somebody else asks, the store fails. What is safe stands in `specs/Safe.antt`, and under
-//! which premises in `specs/Valid.antt`: nonces differ, and nobody else presents a session's ids.
+//! goes on, somebody else asks, the store fails, the host restarts. What is safe stands in
+//! `specs/Safe.antt`, and under which premises in `specs/Valid.antt`: nonces differ, nobody else
+//! presents a session's ids, and at a restart the clock is later than before and no token that was
+//! used before is issued at it or after.
+//!
+//! A history (`specs/History.antt`) has the runs of the host with the restarts between them. At a
+//! restart the contents stay; locks and spent ids go, the files that are there begin at a version
+//! above all before, and requests, replies and sessions stay. A session's ids don't come again,
+//! though they are spent no more, since its token was issued before the host opened
+//! (`specs/Sessions.antt`).
 //!
 //! Nothing here runs: [`laws`] has the theorem and what ties a running host to it.
 #![tactic(auto)]
