@@ -18,7 +18,7 @@ use Rattle.host_core.specs.Files.{file_of, files_of, is_named}
 use Rattle.host_core.specs.Ledger.{files_in, IsTied}
 use Rattle.host_core.specs.Numbers.{named}
 use Rattle.host_core.specs.Value.{Book, Reflects, Stands}
-use Rattle.host_core.specs.Whole.{Whole, whole, standing_at, joined}
+use Rattle.host_core.specs.Whole.{whole, standing_at, joined}
 use Rattle.host_core.proofs.History.{shown-file}
 
 abbrev first_list : List (List Spent) → List Spent

@@ -1,4 +1,4 @@
-use Rattle.std.proofs.Common.{List, ◌≤◌, ap, sym, subst, ◌∙◌, arith}
+use Rattle.std.proofs.Common.{List, ap, sym, subst, ◌∙◌, arith}
 use Rattle.kept_locks.specs.Locks.{Standing}
 use Rattle.kept_locks.specs.Ties.{BeganBy}
 use Rattle.host_core.specs.Whole.{standing_at}

@@ -24,25 +24,20 @@ make_place-requires-clause-number g c = omega (arith, c.args.files.now.ok.0, c.l
 
 pub step_file-requires-clause-held : goal.step_file-requires-clause-held
 step_file-requires-clause-held g c =
-    let folder = g.F.Folder.files c.args.folder.now in
     let kept = c.args.files.now.items in
     let first = c.args.locks.now in
     let mid = c.make_place.new.locks in
     let number = c.len-number.result in
     let at : number ≡ length kept = omega (arith, c.args.files.now.ok.0, c.len-number.ensures) in
     let k = c.unmet-file.result in
-    let is = bare_seen c.args.first k first mid kept number c.args.now c.requires.locked c.make_place.ensures.stands at c.unmet-file.ensures.file in
-    unmet_is_held c.args.first (joined kept first.files) c.args.versions.now.list (seen k mid number) number c.requires.stocked is (at ∙ sym (long_joined kept first.files))
+    let is = bare_seen c.args.first k first mid kept number c.args.now c.requires.ready.locked c.make_place.ensures.stands at c.unmet-file.ensures.file in
+    unmet_is_held c.args.first (joined kept first.files) c.args.versions.now.list (seen k mid number) number c.requires.ready.stocked is (at ∙ sym (long_joined kept first.files))
 
 pub step_file-requires-clause-moment : goal.step_file-requires-clause-moment
 step_file-requires-clause-moment g c =
-    let folder = g.F.Folder.files c.args.folder.now in
-    let kept = c.args.files.now.items in
-    let first = c.args.locks.now in
-    let mid = c.make_place.new.locks in
     let number = c.len-number.result in
-    let at : number ≡ length kept = omega (arith, c.args.files.now.ok.0, c.len-number.ensures) in
-    subst (λ (s : Standing). BeganAtMoment s.lock) (sym (c.make_place.ensures.stands number ∙ c.requires.locked.beyond number (omega (arith, at)))) tt
+    let at : number ≡ length c.args.files.now.items = omega (arith, c.args.files.now.ok.0, c.len-number.ensures) in
+    subst (λ (s : Standing). BeganAtMoment s.lock) (sym (c.make_place.ensures.stands number ∙ c.requires.ready.locked.beyond number (omega (arith, at)))) tt
 
 pub step_file-requires-clause-version : goal.step_file-requires-clause-version
 step_file-requires-clause-version g c =
@@ -53,25 +48,28 @@ step_file-requires-clause-version g c =
 
 pub step_file-requires-clause-ready : goal.step_file-requires-clause-ready
 step_file-requires-clause-ready g c =
-    let folder = g.F.Folder.files c.args.folder.now in
-    let kept = c.args.files.now.items in
-    let first = c.args.locks.now in
-    let mid = c.make_place.new.locks in
     let number = c.len-number.result in
-    let at : number ≡ length kept = omega (arith, c.args.files.now.ok.0, c.len-number.ensures) in
+    let at : number ≡ length c.args.files.now.items = omega (arith, c.args.files.now.ok.0, c.len-number.ensures) in
     let room = c.in-Ok.ensures.room in
-    let spare = c.requires.spare in
+    let spare = c.requires.ready.spare in
     let same = c.make_place.ensures.spare in
-    record { here = omega (arith, room, at); spare = omega (arith, spare, same); as_of = c.make_place.ensures.as_of c.args.now c.requires.locked.as_of }
+    record { here = omega (arith, room, at); spare = omega (arith, spare, same); as_of = c.make_place.ensures.as_of c.args.now c.requires.ready.locked.as_of }
 
 pub returns-in-Err-clause-err : goal.returns-in-Err-clause-err
 returns-in-Err-clause-err g c =
-    still_all c.args.first (g.F.Folder.files c.args.folder.now) c.args.versions.now.list (joined c.args.files.now.items c.args.locks.now.files) _ c.args.call c.args.opened c.args.now _
-    (joined_more c.args.files.now.items c.make_place.new.files.items c.args.locks.now c.make_place.new.locks c.make_place.ensures.files c.make_place.ensures.stands) c.requires.stocked refl (λ h. cc)
-
-pub returns-in-Err-clause-stays : goal.returns-in-Err-clause-stays
-returns-in-Err-clause-stays g c = λ time locked.
-    locked_more c.args.files.now.items c.make_place.new.files.items c.args.locks.now c.make_place.new.locks time c.make_place.ensures.files c.make_place.ensures.stands c.make_place.ensures.as_of c.make_place.ensures.longer locked
+    let kept = c.args.files.now.items in
+    let first = c.args.locks.now in
+    let placed = c.make_place.ensures in
+    let same = placed.spare in
+    record {
+      stops = still_all c.args.first (g.F.Folder.files c.args.folder.now) c.args.versions.now.list (joined kept first.files) _ c.args.call c.args.opened c.args.now _
+          (joined_more kept c.make_place.new.files.items first c.make_place.new.locks placed.files placed.stands) c.requires.ready.stocked refl (λ h. cc);
+      locked = λ time locked. locked_more kept c.make_place.new.files.items first c.make_place.new.locks time placed.files placed.stands placed.as_of placed.longer locked;
+      stand = placed.stands;
+      spare = omega (arith, same);
+      shelf = omega arith;
+      light = create_takes c.args.call.act c.requires.create;
+    }
 
 pub returns-in-Err-clause-numbered : goal.returns-in-Err-clause-numbered
 returns-in-Err-clause-numbered g c =
@@ -81,115 +79,84 @@ returns-in-Err-clause-numbered g c =
 pub returns-then-is_met_by-clause-ok : goal.returns-then-is_met_by-clause-ok
 returns-then-is_met_by-clause-ok g c =
     let folder = g.F.Folder.files c.args.folder.now in
-    let kept = c.args.files.now.items in
-    let first = c.args.locks.now in
-    let mid = c.make_place.new.locks in
-    let number = c.len-number.result in
-    let at : number ≡ length kept = omega (arith, c.args.files.now.ok.0, c.len-number.ensures) in
     let folder' = g.F.Folder.files c.step_file.new.folder in
     let began = g.F.Folder.faults c.args.folder.now in
     let count = g.F.Folder.faults c.step_file.new.folder in
     let v = c.args.versions.now.list in
     let v' = c.step_file.new.versions.list in
-    let new = c.step_file.new.locks in
-    let k = c.unmet-file.result in
-    let k' = c.step_file.new.file in
-    let named_k : k.name ≡ c.args.call.name = c.unmet-file.ensures.name ∙ c.copy-name.ensures in
-    let met : c.meet.new.files.items ≡ kept ++ k' ∷ [] = c.meet.ensures ∙ ap (λ (f : List KeptFile). f ++ k' ∷ []) c.make_place.ensures.files in
-    subst (λ (f : List KeptFile). StepsAll c.args.first folder folder' v v' began count (joined kept (all_ended c.args.now first.files)) (joined f new.files) c.args.call c.args.opened c.args.now c.in-Ok-step_file.carried) (sym met)
-    (push_all c.args.first folder folder' v v' began count kept number k k' first mid new c.args.call c.args.opened c.args.now c.in-Ok-step_file.carried c.requires.stocked c.requires.place c.make_place.ensures.stands c.requires.locked.beyond
-    c.unmet-file.ensures.file c.unmet-file.ensures.torn named_k at c.in-Ok-step_file.ensures.turns c.in-Ok-step_file.ensures.ok)
-
-pub returns-then-is_met_by-clause-locked : goal.returns-then-is_met_by-clause-locked
-returns-then-is_met_by-clause-locked g c =
-    let folder = g.F.Folder.files c.args.folder.now in
     let kept = c.args.files.now.items in
     let first = c.args.locks.now in
     let mid = c.make_place.new.locks in
+    let new = c.step_file.new.locks in
     let number = c.len-number.result in
     let at : number ≡ length kept = omega (arith, c.args.files.now.ok.0, c.len-number.ensures) in
-    let folder' = g.F.Folder.files c.step_file.new.folder in
-    let began = g.F.Folder.faults c.args.folder.now in
-    let count = g.F.Folder.faults c.step_file.new.folder in
-    let v = c.args.versions.now.list in
-    let v' = c.step_file.new.versions.list in
-    let new = c.step_file.new.locks in
     let k = c.unmet-file.result in
     let k' = c.step_file.new.file in
+    let stands = c.make_place.ensures.stands in
+    let beyond = c.requires.ready.locked.beyond in
+    let turns = c.in-Ok-step_file.ensures.turns in
+    let same = c.make_place.ensures.spare in
+    let more = turns.spare in
     let named_k : k.name ≡ c.args.call.name = c.unmet-file.ensures.name ∙ c.copy-name.ensures in
     let met : c.meet.new.files.items ≡ kept ++ k' ∷ [] = c.meet.ensures ∙ ap (λ (f : List KeptFile). f ++ k' ∷ []) c.make_place.ensures.files in
-    subst (λ (f : List KeptFile). AreLocked f new c.args.now) (sym met)
-    (locked_push kept k' mid new c.args.now (λ n le. c.make_place.ensures.stands n ∙ c.requires.locked.beyond n le) c.in-Ok.ensures.room
-    (subst (λ (n : ℕ). Turns mid new n c.args.now) at c.in-Ok-step_file.ensures.turns))
+    record {
+      steps = subst (λ (f : List KeptFile). StepsAll c.args.first folder folder' v v' began count (joined kept (all_ended c.args.now first.files)) (joined f new.files) c.args.call c.args.opened c.args.now c.in-Ok-step_file.carried) (sym met)
+          (push_all c.args.first folder folder' v v' began count kept number k k' first mid new c.args.call c.args.opened c.args.now c.in-Ok-step_file.carried c.requires.ready.stocked c.requires.place stands beyond
+          c.unmet-file.ensures.file c.unmet-file.ensures.torn named_k at turns c.in-Ok-step_file.ensures.ok);
+      locked = subst (λ (f : List KeptFile). AreLocked f new c.args.now) (sym met)
+          (locked_push kept k' mid new c.args.now (λ n le. stands n ∙ beyond n le) c.in-Ok.ensures.room (subst (λ (n : ℕ). Turns mid new n c.args.now) at turns));
+      stand = turns.stand;
+      spare = omega (arith, same, more);
+      shelf = c.step_file.ensures.places;
+    }
 
 pub returns-then-is_met_by-clause-numbered : goal.returns-then-is_met_by-clause-numbered
 returns-then-is_met_by-clause-numbered g c =
-    let folder = g.F.Folder.files c.args.folder.now in
     let kept = c.args.files.now.items in
-    let first = c.args.locks.now in
-    let mid = c.make_place.new.locks in
     let number = c.len-number.result in
     let at : number ≡ length kept = omega (arith, c.args.files.now.ok.0, c.len-number.ensures) in
-    let folder' = g.F.Folder.files c.step_file.new.folder in
-    let began = g.F.Folder.faults c.args.folder.now in
-    let count = g.F.Folder.faults c.step_file.new.folder in
-    let v = c.args.versions.now.list in
-    let v' = c.step_file.new.versions.list in
-    let new = c.step_file.new.locks in
-    let k = c.unmet-file.result in
     let k' = c.step_file.new.file in
-    let named_k : k.name ≡ c.args.call.name = c.unmet-file.ensures.name ∙ c.copy-name.ensures in
     let met : c.meet.new.files.items ≡ kept ++ k' ∷ [] = c.meet.ensures ∙ ap (λ (f : List KeptFile). f ++ k' ∷ []) c.make_place.ensures.files in
     let name_is : k'.name ≡ c.copy-name.result = c.in-Ok-step_file.ensures.ok.steps.name ∙ c.unmet-file.ensures.name in
     let names : named c.meet.new.files.items ≡ named kept ++ c.copy-name.result ∷ [] = ap named met ∙ named_push kept k' ∙ ap (λ (n : List ℕ). named kept ++ n ∷ []) name_is in
-    let fresh = fresh_name kept first.files c.args.index.now c.args.call.name c.copy-name.result c.requires.numbered c.requires.place c.copy-name.ensures in
+    let fresh = fresh_name kept c.args.locks.now.files c.args.index.now c.args.call.name c.copy-name.result c.requires.numbered c.requires.place c.copy-name.ensures in
     subst (IsNumbered c.make_place.new.index) (sym names)
     (numbered_push c.args.index.now c.make_place.new.index (named kept) c.copy-name.result number c.requires.numbered fresh (at ∙ sym (length-map kept (λ (f : KeptFile). f.name))) c.in-Ok.ensures.index)
 
 pub returns-in-Ok-step_file-clause-ok : goal.returns-in-Ok-step_file-clause-ok
 returns-in-Ok-step_file-clause-ok g c =
     let folder = g.F.Folder.files c.args.folder.now in
-    let kept = c.args.files.now.items in
-    let first = c.args.locks.now in
-    let mid = c.make_place.new.locks in
-    let number = c.len-number.result in
-    let at : number ≡ length kept = omega (arith, c.args.files.now.ok.0, c.len-number.ensures) in
     let folder' = g.F.Folder.files c.step_file.new.folder in
     let began = g.F.Folder.faults c.args.folder.now in
     let count = g.F.Folder.faults c.step_file.new.folder in
     let v = c.args.versions.now.list in
     let v' = c.step_file.new.versions.list in
-    let new = c.step_file.new.locks in
-    let k = c.unmet-file.result in
-    let k' = c.step_file.new.file in
-    let named_k : k.name ≡ c.args.call.name = c.unmet-file.ensures.name ∙ c.copy-name.ensures in
-    let turned = sym c.is_met_by.ensures ∙ c.if-is_met_by.false in
-    subst (λ (f : List KeptFile). StepsAll c.args.first folder folder' v v' began count (joined kept (all_ended c.args.now first.files)) (joined f new.files) c.args.call c.args.opened c.args.now c.in-Ok-step_file.carried) (sym c.make_place.ensures.files)
-    (skip_all c.args.first folder folder' v v' began count kept number k k' first mid new c.args.call c.args.opened c.args.now c.in-Ok-step_file.carried c.requires.stocked c.requires.place c.make_place.ensures.stands c.requires.locked.beyond
-    c.unmet-file.ensures.file c.unmet-file.ensures.torn at c.in-Ok-step_file.ensures.turns turned c.in-Ok-step_file.ensures.ok)
-
-pub returns-in-Ok-step_file-clause-locked : goal.returns-in-Ok-step_file-clause-locked
-returns-in-Ok-step_file-clause-locked g c =
-    let folder = g.F.Folder.files c.args.folder.now in
     let kept = c.args.files.now.items in
     let first = c.args.locks.now in
     let mid = c.make_place.new.locks in
+    let new = c.step_file.new.locks in
     let number = c.len-number.result in
     let at : number ≡ length kept = omega (arith, c.args.files.now.ok.0, c.len-number.ensures) in
-    let folder' = g.F.Folder.files c.step_file.new.folder in
-    let began = g.F.Folder.faults c.args.folder.now in
-    let count = g.F.Folder.faults c.step_file.new.folder in
-    let v = c.args.versions.now.list in
-    let v' = c.step_file.new.versions.list in
-    let new = c.step_file.new.locks in
     let k = c.unmet-file.result in
     let k' = c.step_file.new.file in
-    let named_k : k.name ≡ c.args.call.name = c.unmet-file.ensures.name ∙ c.copy-name.ensures in
+    let stands = c.make_place.ensures.stands in
+    let beyond = c.requires.ready.locked.beyond in
+    let turns = c.in-Ok-step_file.ensures.turns in
+    let same = c.make_place.ensures.spare in
+    let more = turns.spare in
     let turned = sym c.is_met_by.ensures ∙ c.if-is_met_by.false in
-    let bare = c.make_place.ensures.stands number ∙ c.requires.locked.beyond number (omega (arith, at)) in
+    let bare = stands number ∙ beyond number (omega (arith, at)) in
     let after = skip_bare c.args.first folder folder' v v' began count number k k' mid new c.args.call c.args.opened c.args.now c.in-Ok-step_file.carried bare c.unmet-file.ensures.file turned c.in-Ok-step_file.ensures.ok in
-    subst (λ (f : List KeptFile). AreLocked f new c.args.now) (sym c.make_place.ensures.files)
-    (locked_skip kept mid new number c.args.now (λ n le. c.make_place.ensures.stands n ∙ c.requires.locked.beyond n le) c.in-Ok.ensures.room at after c.in-Ok-step_file.ensures.turns)
+    record {
+      steps = subst (λ (f : List KeptFile). StepsAll c.args.first folder folder' v v' began count (joined kept (all_ended c.args.now first.files)) (joined f new.files) c.args.call c.args.opened c.args.now c.in-Ok-step_file.carried) (sym c.make_place.ensures.files)
+          (skip_all c.args.first folder folder' v v' began count kept number k k' first mid new c.args.call c.args.opened c.args.now c.in-Ok-step_file.carried c.requires.ready.stocked c.requires.place stands beyond
+          c.unmet-file.ensures.file c.unmet-file.ensures.torn at turns turned c.in-Ok-step_file.ensures.ok);
+      locked = subst (λ (f : List KeptFile). AreLocked f new c.args.now) (sym c.make_place.ensures.files)
+          (locked_skip kept mid new number c.args.now (λ n le. stands n ∙ beyond n le) c.in-Ok.ensures.room at after turns);
+      stand = turns.stand;
+      spare = omega (arith, same, more);
+      shelf = c.step_file.ensures.places;
+    }
 
 pub returns-in-Ok-step_file-clause-numbered : goal.returns-in-Ok-step_file-clause-numbered
 returns-in-Ok-step_file-clause-numbered g c =
@@ -200,30 +167,30 @@ returns-in-Ok-step_file-clause-numbered g c =
 
 pub returns-in-Err-step_file-clause-err : goal.returns-in-Err-step_file-clause-err
 returns-in-Err-step_file-clause-err g c =
-    let folder = g.F.Folder.files c.args.folder.now in
     let kept = c.args.files.now.items in
     let first = c.args.locks.now in
     let mid = c.make_place.new.locks in
+    let new = c.step_file.new.locks in
     let number = c.len-number.result in
     let at : number ≡ length kept = omega (arith, c.args.files.now.ok.0, c.len-number.ensures) in
-    let folder' = g.F.Folder.files c.step_file.new.folder in
-    let began = g.F.Folder.faults c.args.folder.now in
-    let count = g.F.Folder.faults c.step_file.new.folder in
-    let v = c.args.versions.now.list in
-    let v' = c.step_file.new.versions.list in
-    let new = c.step_file.new.locks in
     let k = c.unmet-file.result in
-    let k' = c.step_file.new.file in
-    let named_k : k.name ≡ c.args.call.name = c.unmet-file.ensures.name ∙ c.copy-name.ensures in
-    let is = bare_seen c.args.first k first mid kept number c.args.now c.requires.locked c.make_place.ensures.stands at c.unmet-file.ensures.file in
-    let same : joined c.make_place.new.files.items new.files ≡ joined kept first.files =
-    joined_more kept c.make_place.new.files.items first new c.make_place.ensures.files (λ n. ap (λ l. standing_at l.files n) c.in-Err-step_file.ensures.same ∙ c.make_place.ensures.stands n) in
-    stopped_new c.args.first folder folder' v v' (joined kept first.files) _ (seen k mid number) (seen k' new number) c.args.call c.args.opened c.args.now c.in-Err-step_file.uncarried same c.requires.stocked c.requires.place is c.in-Err-step_file.ensures.err
-
-pub returns-in-Err-step_file-clause-stays : goal.returns-in-Err-step_file-clause-stays
-returns-in-Err-step_file-clause-stays g c = λ time locked.
-    subst (λ l. AreLocked c.make_place.new.files.items l time) (sym c.in-Err-step_file.ensures.same)
-    (locked_more c.args.files.now.items c.make_place.new.files.items c.args.locks.now c.make_place.new.locks time c.make_place.ensures.files c.make_place.ensures.stands c.make_place.ensures.as_of c.make_place.ensures.longer locked)
+    let placed = c.make_place.ensures in
+    let stopped = c.in-Err-step_file.ensures in
+    let stand : (n : ℕ) → standing_at new.files n ≡ standing_at first.files n = λ n. ap (λ (l : Locks). standing_at l.files n) stopped.same ∙ placed.stands n in
+    let is = bare_seen c.args.first k first mid kept number c.args.now c.requires.ready.locked placed.stands at c.unmet-file.ensures.file in
+    let one = placed.spare in
+    let two : new.spare ≡ mid.spare = ap (λ (l : Locks). l.spare) stopped.same in
+    record {
+      stops = stopped_new c.args.first (g.F.Folder.files c.args.folder.now) (g.F.Folder.files c.step_file.new.folder) c.args.versions.now.list c.step_file.new.versions.list
+          (joined kept first.files) _ (seen k mid number) (seen c.step_file.new.file new number) c.args.call c.args.opened c.args.now c.in-Err-step_file.uncarried
+          (joined_more kept c.make_place.new.files.items first new placed.files stand) c.requires.ready.stocked c.requires.place is stopped.err;
+      locked = λ time locked. subst (λ l. AreLocked c.make_place.new.files.items l time) (sym stopped.same)
+          (locked_more kept c.make_place.new.files.items first mid time placed.files placed.stands placed.as_of placed.longer locked);
+      stand = stand;
+      spare = omega (arith, one, two);
+      shelf = stopped.unused;
+      light = stopped.light;
+    }
 
 pub returns-in-Err-step_file-clause-numbered : goal.returns-in-Err-step_file-clause-numbered
 returns-in-Err-step_file-clause-numbered g c =
@@ -231,18 +198,3 @@ returns-in-Err-step_file-clause-numbered g c =
     let fresh = fresh_name kept c.args.locks.now.files c.args.index.now c.args.call.name c.copy-name.result c.requires.numbered c.requires.place c.copy-name.ensures in
     subst (λ (f : List KeptFile). IsNumbered c.remove-in-Err-step_file.new.self (named f)) (sym c.make_place.ensures.files)
     (numbered_back c.args.index.now c.make_place.new.index c.remove-in-Err-step_file.new.self (named kept) c.copy-name.result c.len-number.result c.requires.numbered fresh c.in-Ok.ensures.index c.remove-in-Err-step_file.ensures)
-
-pub returns-in-Err-clause-spared : goal.returns-in-Err-clause-spared
-returns-in-Err-clause-spared g c = let same = c.make_place.ensures.spare in omega (arith, same)
-
-pub returns-in-Err-step_file-clause-spared : goal.returns-in-Err-step_file-clause-spared
-returns-in-Err-step_file-clause-spared g c =
-    let one = c.make_place.ensures.spare in
-    let two : c.step_file.new.locks.spare ≡ c.make_place.new.locks.spare = ap (λ (l : Locks). l.spare) c.in-Err-step_file.ensures.same in
-    omega (arith, one, two)
-
-pub returns-in-Err-clause-light : goal.returns-in-Err-clause-light
-returns-in-Err-clause-light g c = create_takes c.args.call.act c.requires.create
-
-pub returns-in-Err-step_file-clause-stand : goal.returns-in-Err-step_file-clause-stand
-returns-in-Err-step_file-clause-stand g c = λ n. ap (λ (l : Locks). standing_at l.files n) c.in-Err-step_file.ensures.same ∙ c.make_place.ensures.stands n

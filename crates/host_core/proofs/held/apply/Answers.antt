@@ -1,4 +1,4 @@
-use Rattle.std.proofs.Common.{◌≡◌, ◌<◌, List, length, refl, sym, ap, subst, ◌∙◌, arith}
+use Rattle.std.proofs.Common.{◌≡◌, ◌<◌, List, length, sym, ap, subst, ◌∙◌, arith}
 use Rattle.std.proofs.lemmas.List.{length-map}
 use Rattle.kept_locks.specs.Locks.{Standing, all_ended, ended_at, stepped, with_lock}
 use Rattle.kept_locks.specs.Ties.{BeganBy, GoesOn, Spends}

@@ -10,13 +10,13 @@ use Rattle.host_core.proofs.ledger.take_step.Goals as goal
 pub returns-in-KeptFull-clause-tied : goal.returns-in-KeptFull-clause-tied
 returns-in-KeptFull-clause-tied g c =
     let spare = c.requires.tied.spare in
-    let more = c.in-Err.ensures.spared in
+    let more = c.in-Err.ensures.err.spare in
     let shelf = c.requires.tied.shelf in
-    let unused = c.in-Err.ensures.unused in
+    let unused = c.in-Err.ensures.err.shelf in
     record {
       numbered = c.step_files.ensures.numbered;
-      locked = c.in-Err.ensures.stays c.args.ledger.now.time c.requires.tied.locked;
-      stand = stand_same c.args.ledger.now.locks.files c.step_files.new.locks.files c.args.ledger.now.time c.in-Err.ensures.stand c.requires.tied.stand;
+      locked = c.in-Err.ensures.err.locked c.args.ledger.now.time c.requires.tied.locked;
+      stand = stand_same c.args.ledger.now.locks.files c.step_files.new.locks.files c.args.ledger.now.time c.in-Err.ensures.err.stand c.requires.tied.stand;
       spare = omega (arith, spare, more);
       shelf = omega (arith, shelf, unused);
       slots = c.requires.tied.slots;
@@ -25,13 +25,13 @@ returns-in-KeptFull-clause-tied g c =
 pub returns-in-Memory-clause-tied : goal.returns-in-Memory-clause-tied
 returns-in-Memory-clause-tied g c =
     let spare = c.requires.tied.spare in
-    let more = c.in-Err.ensures.spared in
+    let more = c.in-Err.ensures.err.spare in
     let shelf = c.requires.tied.shelf in
-    let unused = c.in-Err.ensures.unused in
+    let unused = c.in-Err.ensures.err.shelf in
     record {
       numbered = c.step_files.ensures.numbered;
-      locked = c.in-Err.ensures.stays c.args.ledger.now.time c.requires.tied.locked;
-      stand = stand_same c.args.ledger.now.locks.files c.step_files.new.locks.files c.args.ledger.now.time c.in-Err.ensures.stand c.requires.tied.stand;
+      locked = c.in-Err.ensures.err.locked c.args.ledger.now.time c.requires.tied.locked;
+      stand = stand_same c.args.ledger.now.locks.files c.step_files.new.locks.files c.args.ledger.now.time c.in-Err.ensures.err.stand c.requires.tied.stand;
       spare = omega (arith, spare, more);
       shelf = omega (arith, shelf, unused);
       slots = c.requires.tied.slots;
@@ -42,7 +42,7 @@ returns-in-Ok-clause-takes g c =
     let before = c.args.ledger.now in
     let after = joined c.step_files.new.files.items c.step_files.new.locks.files in
     let ruling = c.in-Ok.carried.ruling in
-    let ok = c.in-Ok.ensures.ok in
+    let ok = c.in-Ok.ensures.ok.steps in
     let stamp : c.max-stamp.result + 1 ≡ max before.last c.args.floor + 1 = omega (arith, c.max-stamp.ensures) in
     let now : c.max-now.result ≡ max before.time c.args.moment = c.max-now.ensures in
     let asked = c.of-asked.ensures in
@@ -65,4 +65,4 @@ returns-in-Ok-clause-takes g c =
     }
 
 pub returns-in-Memory-clause-light : goal.returns-in-Memory-clause-light
-returns-in-Memory-clause-light g c = λ takes. absurd (cc (takes, c.in-Err.ensures.light))
+returns-in-Memory-clause-light g c = λ takes. absurd (cc (takes, c.in-Err.ensures.err.light))

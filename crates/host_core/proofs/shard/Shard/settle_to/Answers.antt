@@ -1,14 +1,6 @@
-use Rattle.std.proofs.Common.{◌≡◌, ◌≤◌, ℕ, List, length, refl, subst, sym, ap, ◌∙◌, arith}
-use Rattle.std.proofs.lemmas.List.{length-map}
-use Rattle.kept_locks.specs.Locks.{Standing, all_ended, ended_at, unlocked}
+use Rattle.std.proofs.Common.{refl, subst, sym, arith}
 use Rattle.host_core.specs.Turns.{AllStand}
-use Rattle.host_core.specs.Whole.{Whole, standing_at, joined}
-use Rattle.host_core.specs.Archive.{IsArchive}
-use Rattle.host_core.specs.Files.{files_of, torn_in}
-use Rattle.host_core.specs.Ledger.{files_in, IsTied}
-use Rattle.host_core.specs.Value.{Reflects, Agrees, Stands}
 use Rattle.host_core.specs.ShardView.{book_of}
-use Rattle.file_versions.specs.Versions.{kept_in}
 use Rattle.host_core.specs.declared.ledger.Ledger.{Ledger}
 use Rattle.host_core.proofs.Chaining.{with_chains}
 use Rattle.host_core.proofs.Standing.{lawful, stands-tick}
