@@ -1,5 +1,5 @@
 -- How the index has of each file what its chain has.
-use Rattle.std.proofs.Common.{◌≡◌, ◌≢◌, ◌⊎◌, inl, inr, ◌+◌, ◌<◌, ◌≤◌, ℕ, zero, suc, Bool, true, false, List, [], ◌∷◌, ◌++◌, ◌&&◌, ◌||◌, cond, length, Option, None, Some, refl, sym, ap, subst, ◌∙◌, arith, length-append}
+use Rattle.std.proofs.Common.{◌≡◌, ◌≢◌, ◌⊎◌, inl, inr, ◌+◌, ◌≤◌, ℕ, zero, suc, Bool, true, false, List, [], ◌∷◌, ◌++◌, ◌&&◌, ◌||◌, cond, length, Option, None, Some, refl, sym, ap, subst, ◌∙◌, arith, length-append}
 use Rattle.std.specs.Prelude.{slice_get, nat_lt, max}
 use Rattle.std.proofs.lemmas.Bool.{cases_eq}
 use Rattle.std.proofs.lemmas.Bool.Decides.{nat_tests}
@@ -8,7 +8,7 @@ use Rattle.std.specs.HashMap.{HashMap, IsEmpty, get}
 use Rattle.wopi_model.specs.Act.{is_spent}
 use Rattle.wopi_model.specs.Settle.{still_spent}
 use Rattle.wopi_model.specs.declared.locks.Spent.{Spent}
-use Rattle.expiry_queue.specs.Chains.{Chains, IsLive, Becomes, spent_of}
+use Rattle.expiry_queue.specs.Chains.{Chains, IsLive, Becomes}
 use Rattle.expiry_queue.specs.Queue.{Queue}
 use Rattle.expiry_queue.specs.Waiting.{Waiting}
 use Rattle.kept_locks.specs.declared.index.SpentOn.{SpentOn}

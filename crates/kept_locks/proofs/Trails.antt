@@ -1,13 +1,13 @@
 -- What is shown of a chain, and what the index tells of it, as time goes on.
-use Rattle.std.proofs.Common.{◌≡◌, ◌≢◌, ◌⊎◌, inl, inr, ◌+◌, ◌<◌, ◌≤◌, ℕ, Bool, true, false, ◌&&◌, ◌||◌, cond, if◌then◌else◌, List, [], ◌∷◌, Option, None, Some, refl, sym, ap, subst, ◌∙◌, arith}
-use Rattle.std.specs.Prelude.{nat_lt, nat_le, nat_eq, bytes_eq, max}
+use Rattle.std.proofs.Common.{◌≡◌, ◌⊎◌, inl, inr, ◌<◌, ◌≤◌, ℕ, Bool, true, false, ◌&&◌, ◌||◌, cond, if◌then◌else◌, List, [], ◌∷◌, Option, refl, sym, ap, ◌∙◌, arith}
+use Rattle.std.specs.Prelude.{nat_lt, bytes_eq, max}
 use Rattle.std.proofs.lemmas.Bool.Decides.{nat_tests}
-use Rattle.std.proofs.lemmas.Bool.{lt-ltb, le-ltb, ltb-true, ltb-false, eq-eqb, ne_eqb}
+use Rattle.std.proofs.lemmas.Bool.{lt-ltb, ltb-true, ltb-false, eq-eqb, ne_eqb}
 use Rattle.wopi_model.specs.Act.{is_spent}
 use Rattle.wopi_model.specs.Settle.{still_spent}
 use Rattle.wopi_model.specs.declared.locks.Spent.{Spent}
 use Rattle.wopi_model.proofs.Settling.{still-still}
-use Rattle.expiry_queue.specs.Chains.{Chains, Becomes, IsLive, BeginsIn, spent_of, spent_in}
+use Rattle.expiry_queue.specs.Chains.{Chains, Becomes, IsLive, spent_of}
 use Rattle.std.specs.HashMap.{HashMap}
 use Rattle.kept_locks.specs.declared.index.SpentOn.{SpentOn}
 use Rattle.kept_locks.specs.declared.trail.Trail.{Trail}

@@ -1,5 +1,5 @@
 -- What the index of spent ids says, and what is shown of a chain of them.
-use Rattle.std.specs.Prelude.{◌≡◌, ◌≢◌, ℕ, ◌<◌, ◌≤◌, Bool, true, false, ◌&&◌, ◌||◌, List, Option, None, Some, max, nat_lt, nat_eq, bytes_eq, if◌then◌else◌}
+use Rattle.std.specs.Prelude.{◌≡◌, ◌≢◌, ℕ, ◌≤◌, Bool, false, ◌&&◌, ◌||◌, List, Option, None, Some, max, nat_lt, nat_eq, bytes_eq, if◌then◌else◌}
 use Rattle.std.specs.HashMap.{HashMap, get}
 use Rattle.wopi_model.specs.Act.{is_spent}
 use Rattle.wopi_model.specs.Settle.{still_spent}

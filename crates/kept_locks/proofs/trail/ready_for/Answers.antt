@@ -1,4 +1,4 @@
-use Rattle.std.proofs.Common.{◌≤◌, true, arith}
+use Rattle.std.proofs.Common.{true, arith}
 use Rattle.kept_locks.proofs.Trails.{tells_purged}
 use Rattle.kept_locks.proofs.trail.ready_for.Goals as goal
 

@@ -1,4 +1,4 @@
-use Rattle.std.proofs.Common.{◌≡◌, ◌<◌, ◌≤◌, List, ap, ◌∙◌, arith}
+use Rattle.std.proofs.Common.{◌<◌, ◌≤◌, List, ap, ◌∙◌, arith}
 use Rattle.wopi_model.specs.Act.{is_spent}
 use Rattle.wopi_model.specs.declared.locks.Spent.{Spent}
 use Rattle.expiry_queue.specs.Chains.{spent_of}

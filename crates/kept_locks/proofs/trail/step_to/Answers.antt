@@ -1,4 +1,4 @@
-use Rattle.std.proofs.Common.{◌≡◌, ◌<◌, ◌≤◌, ℕ, inl, inr, true, false, sym, subst, arith}
+use Rattle.std.proofs.Common.{◌<◌, ◌≤◌, ℕ, inl, inr, true, false, sym, subst, arith}
 use Rattle.wopi_model.specs.Settle.{still_spent}
 use Rattle.kept_locks.specs.Refusals.{Goes, shown_of}
 use Rattle.kept_locks.proofs.Trails.{tells_purged, step_lazy}

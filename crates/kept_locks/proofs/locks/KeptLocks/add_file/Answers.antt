@@ -1,4 +1,4 @@
-use Rattle.std.proofs.Common.{◌≡◌, ap, ◌∙◌}
+use Rattle.std.proofs.Common.{ap, ◌∙◌}
 use Rattle.kept_locks.specs.Locks.{Locks}
 use Rattle.kept_locks.proofs.Indexing.{tied_added}
 use Rattle.kept_locks.proofs.Latest.{latest_added, still_chained}
