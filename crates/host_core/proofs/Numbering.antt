@@ -1,10 +1,10 @@
 -- Files found by their numbers.
-use Rattle.std.proofs.Common.{◌≡◌, ◌<◌, ◌+◌, ℕ, zero, suc, Bool, true, false, if◌then◌else◌, List, [], ◌∷◌, ◌++◌, ◌||◌, length, map, set, get_or, Option, None, Some, option_map, unwrap_or, refl, sym, ap, subst, ◌∙◌, arith}
+use Rattle.std.proofs.Common.{◌≡◌, ◌<◌, ℕ, zero, suc, Bool, true, false, if◌then◌else◌, List, [], ◌∷◌, ◌++◌, ◌||◌, length, set, get_or, Option, None, Some, option_map, unwrap_or, refl, sym, ap, ◌∙◌, arith}
 use Rattle.std.proofs.lemmas.List.{map-append}
 use Rattle.std.proofs.lemmas.Slice.Eq.{bytes_eq-Decides}
 use Rattle.std.specs.Str.{bytes_eq}
 use Rattle.std.specs.List.{list_any}
-use Rattle.file_versions.specs.Places.{IsFirst, first_of}
+use Rattle.file_versions.specs.Places.{IsFirst}
 use Rattle.name_index.specs.Index.{number_of}
 use Rattle.host_core.specs.declared.file.KeptFile.{KeptFile}
 use Rattle.host_core.specs.Archive.{names_of, place_in}
