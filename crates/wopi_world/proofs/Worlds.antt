@@ -20,7 +20,8 @@ use Rattle.wopi_acts.specs.Answers.{ruling_told}
 use Rattle.wopi_world.proofs.Lengthening.{Along-weaker}
 use Rattle.wopi_world.proofs.OneRun.{issued}
 use Rattle.wopi_world.proofs.Ids.{keeps_ids}
-use Rattle.wopi_world.proofs.Fairness.{answered_in, fair}
+use Rattle.wopi_world.proofs.Coming.{answered_in}
+use Rattle.wopi_world.proofs.Fairness.{fair}
 use Rattle.save_session.specs.LockIds.{lock_id}
 use Rattle.save_session.specs.declared.state.State.{State}
 use Rattle.save_session.specs.declared.state.Effect.{Effect}

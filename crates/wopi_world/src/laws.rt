@@ -20,14 +20,14 @@ pub fn safe_always()
     ensures { (setting : Setting) (events : List Event) → IsValid setting events → IsSafe setting (run setting events) }
 {}
 
-/// The history of a valid world is one that a shard may have over restarts, and leaves the world's
-/// shard; a restart then would begin with the number that comes next after all versions.
+/// The history of a valid world is one that a shard may have over restarts. A world's history leaves
+/// its shard, and its next first version is one more than the greatest of all its versions.
 pub fn worlds_are_legal()
     ensures legal { (setting : Setting) (events : List Event) → IsValid setting events →
         world.Legal setting.opening setting.opened setting.first (run setting events).history }
-    ensures leaves { (setting : Setting) (events : List Event) → IsValid setting events →
+    ensures leaves { (setting : Setting) (events : List Event) →
         after (first_shard setting) (run setting events).history ≡ (run setting events).shard }
-    ensures next { (setting : Setting) (events : List Event) → IsValid setting events →
+    ensures next { (setting : Setting) (events : List Event) →
         IsNextFirst (run setting events).shard (next_first setting (run setting events)) }
 {}
 
