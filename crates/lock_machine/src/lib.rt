@@ -2,7 +2,7 @@
 //!
 //! [`settle`] says what the passing of time leaves of a lock. Of an act on a file whose lock is
 //! settled [`verdict`] says what the lock table does, [`lock_after`] and [`spent_by`] what it leaves
-//! where it went through, and [`judge`] all three. All are exact, in both directions: their answers
+//! where the act went through, and [`judge`] all three. All are exact, in both directions: their answers
 //! are those of the definitions of wopi_model. None takes memory, and none refuses. A lock id is long
 //! and lies where it is kept: what only looks at one borrows it, and what begins a lock or spends an
 //! id copies it once.

@@ -8,8 +8,9 @@
 //! may do stands in `Safety`. The laws that tie them are the functions of [`laws`].
 //!
 //! The files of an opening have one version, the shard's `first`, and a name that was never met has
-//! the version below it. So a host that opens again with a greater number goes on with versions that
-//! were never told. A history is of one run of the host; what a restart does stands in wopi_world.
+//! the version below it. So a host that opens again with a number above all its versions goes on with
+//! versions that were never told. A history is of one run of the host; what a restart does stands in
+//! wopi_world.
 //!
 //! A moment is a number of milliseconds. What happens to a lock follows MS-WOPI's pages on the
 //! operations Lock, RefreshLock, Unlock, UnlockAndRelock, PutFile, PutRelativeFile and DeleteFile;

@@ -72,12 +72,12 @@ ran_from seen (Restarted moment first ∷ items) = ran_from [] items
 abbrev pub last_run : List Item → List run.Item
 last_run history = ran_from [] history
 
--- the names that may be met: those of the opening, and those of all entries
+-- the names of an opening
 abbrev pub opening_names : Opening → List (List ℕ)
 opening_names [] = []
 opening_names (file ∷ opening) = file.0 ∷ opening_names opening
 
--- the names of the entries, the last one first
+-- the names of the entries, the last one first, and behind them those names
 abbrev pub names_after : List (List ℕ) → List Item → List (List ℕ)
 names_after names [] = names
 names_after names (Ran (Tick moment) ∷ items) = names_after names items

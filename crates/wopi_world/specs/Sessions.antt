@@ -1,4 +1,4 @@
--- What else holds of one session: how long its ids are kept, and that it lives in one run of the host.
+-- What else holds of one session: how long its ids are kept, and that its accepted requests stand in one run of the host.
 use Rattle.std.specs.Prelude.{◌≡◌, ◌⊎◌, ⊤, ℕ, ◌<◌, ◌≤◌, List, ◌∷◌, ◌++◌}
 use Rattle.std.specs.List.{AllByRecursion}
 use Rattle.wopi_model.specs.declared.locks.Lock.{Lock}
