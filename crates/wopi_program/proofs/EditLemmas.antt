@@ -1,20 +1,23 @@
 -- The statuses of `edit`.
-use Rattle.std.proofs.Common.{◌≡◌, ◌≢◌, ◌≤◌, ◌⊎◌, ℕ, List, [], ◌++◌, Option, Result, Ok, Err, ◌∙◌, refl, sym, subst, append-nil, length, codes, decimal, ◌<◌, arith, inl, inr}
+use Rattle.std.proofs.Common.{◌≡◌, ◌≢◌, ℕ, List, [], ◌++◌, Option, Result, Ok, Err, ◌∙◌, refl, sym, subst, append-nil, length, codes, decimal, ◌<◌, arith, inl, inr}
 use Rattle.std.proofs.lemmas.List.{length-append}
-use Rattle.std.specs.Io.KnownBytes.{Appends}
-use Rattle.outside.specs.Faults.{Rose}
+use Rattle.std.specs.Io.KnownBytes.{Appends, IsAtEnd}
+use Rattle.outside.specs.Faults.{RoseBy}
 use Rattle.outside.specs.Stream.{GrewByPrefix}
 use Rattle.grid_editor.proofs.TurnLemmas.{appends_then}
-use Rattle.outside.specs.declared.dialer.Exchange.{Exchange}
 use Rattle.save_session.specs.declared.output.Outcome.{Outcome}
 use Rattle.save_session.specs.declared.output.Outcome.TheVariants as outcome
+use Rattle.wopi_client.specs.Talk.{Grew, lost_in}
+use Rattle.grid_editor.specs.declared.command.Command.{Command}
+use Rattle.grid_editor.specs.declared.editor.Editor.{Editor}
 use Rattle.grid_editor.specs.declared.turns.EditFault.{EditFault}
 use Rattle.grid_editor.specs.declared.turns.EditFault.TheVariants as fault
 use Rattle.grid_editor.specs.declared.turns.Went.{Went}
 use Rattle.grid_editor.specs.declared.turns.Went.TheVariants.{On, Ended}
+use Rattle.grid_editor.specs.Inputs.{IsScript}
 use Rattle.wopi_program.specs.declared.outside_world.Outside.{Outside}
 use Rattle.wopi_program.specs.Meanings.{Meanings}
-use Rattle.wopi_program.specs.Edit.{EditEnds, Tells, bad_line, last_line, status_of}
+use Rattle.wopi_program.specs.Edit.{EditEnds, Edits, HasRun, IsRun, Tells, bad_line, last_line, status_of}
 
 ended-not-2 : (told : Outcome) → status_of (Ok (Ended told)) ≢ 2
 ended-not-2 (outcome.Opened version) is = absurd (omega (arith, is))
@@ -41,6 +44,54 @@ pub tells-not-2 : (held held' : Option (List ℕ)) (status wanted : ℕ) (lines 
 tells-not-2 held held' status wanted lines last other (inl (is, grew)) two = other (sym is ∙ two)
 tells-not-2 held held' status wanted lines last other (inr (some, inl (is, front, rest, same, more))) two = absurd (omega (arith, is, two))
 tells-not-2 held held' status wanted lines last other (inr (some, inr (is, more))) two = absurd (omega (arith, is, two))
+
+module _ {S K F N D C L : Type 0} (m : Meanings S K F N D C L) where
+  -- a script that was read from the input, and then run
+  pub run_of : (first : Editor) (commands : List Command) (status : ℕ) (old mid new : Outside S K F N D C) → mid.output ≡ old.output → mid.dialer ≡ old.dialer
+      → new ≡ record mid { output = new.output; dialer = new.dialer } → IsScript (m.left old.input) commands → IsAtEnd (m.left mid.input)
+      → HasRun m first commands status mid new → IsRun m first status old new
+  run_of first commands status old mid new output_is dialer_is others script whole ran =
+      let input_is : mid.input ≡ new.input = λ i. (sym others i).input in
+      record {
+        commands = commands;
+        script = script;
+        whole = subst (λ (s : S). IsAtEnd (m.left s)) input_is whole;
+        ran = record {
+          last = ran.last;
+          result = ran.result;
+          written = ran.written;
+          sent = ran.sent;
+          runs = ran.runs;
+          output = subst (λ (k : K). Tells (m.held k) (m.held new.output) status (status_of ran.result) ran.written (last_line ran.result)) output_is ran.output;
+          exchanges = subst (λ (d : D). Grew (m.exchanges d) (m.exchanges new.dialer) ran.sent) dialer_is ran.exchanges;
+          lost = subst (λ (d : D). RoseBy (m.dialer_faults d) (lost_in ran.sent) (m.dialer_faults new.dialer)) dialer_is ran.lost;
+        };
+      }
+
+  -- what became of a script says nothing of the notes
+  pub edits_noted : (first : Editor) (status : ℕ) (old new : Outside S K F N D C) (notes : K) → Edits m first status old new
+      → Edits m first status old (record new { notes = notes })
+  edits_noted first status old new notes (inl unread) =
+      inl (record { statuses = unread.statuses; output_is = unread.output_is; dialer_is = unread.dialer_is })
+  edits_noted first status old new notes (inr (inl refused)) =
+      inr (inl (record { number = refused.number; bad = refused.bad; told = refused.told; dialer_is = refused.dialer_is }))
+  edits_noted first status old new notes (inr (inr run)) =
+      let ran = run.ran in
+      inr (inr (record {
+        commands = run.commands;
+        script = run.script;
+        whole = run.whole;
+        ran = record {
+          last = ran.last;
+          result = ran.result;
+          written = ran.written;
+          sent = ran.sent;
+          runs = ran.runs;
+          output = ran.output;
+          exchanges = ran.exchanges;
+          lost = ran.lost;
+        };
+      }))
 
 pub EditEnds-known : {S K F N D C L : Type 0} (m : Meanings S K F N D C L) (words : List (List ℕ)) (status : ℕ) (old new : Outside S K F N D C)
     → EditEnds m words status old new → status ≢ 2

@@ -1,5 +1,5 @@
 -- The words of `edit`.
-use Rattle.std.proofs.Common.{◌≡◌, ℕ, suc, ◌+◌, ◌<◌, ◌≤◌, Bool, true, false, List, [], ◌∷◌, ◌++◌, Option, None, Some, length, take, drop, get_or, decimal, ◌^◌, ◌↔◌, IsTrue, nat_lt, ltb-true, lt-ltb, refl, sym, ap, ◌∙◌, subst, arith}
+use Rattle.std.proofs.Common.{◌≡◌, ℕ, suc, ◌+◌, ◌<◌, List, [], ◌∷◌, ◌++◌, None, Some, length, take, drop, get_or, decimal, ◌↔◌, IsTrue, nat_lt, ltb-true, lt-ltb, refl, sym, ap, ◌∙◌, subst, arith}
 use Rattle.std.proofs.lemmas.List.{drop_more, length-append, length-take, take-append-drop}
 use Rattle.wopi_text.specs.Decimals.{decimal_of}
 use Rattle.wopi_text.proofs.Decimals.{decimal_of-some, decimal_of-decimal}

@@ -1,10 +1,17 @@
--- What the status of a run of `serve` tells of its end.
+-- What the status of a run of `serve` tells of its end, and what a line on the notes changes.
 use Rattle.std.proofs.Common.{◌≡◌, ◌≢◌, ℕ, List, Option, refl, inl, inr, arith}
 use Rattle.wopi_program.specs.declared.serving.ServeEnd.{ServeEnd}
 use Rattle.wopi_program.specs.declared.serving.ServeEnd.TheVariants as end
 use Rattle.wopi_program.specs.declared.outside_world.Outside.{Outside}
 use Rattle.wopi_program.specs.Meanings.{Meanings}
 use Rattle.wopi_program.specs.ServeEnds.{ServeEnds, ServeFinishes}
+
+-- outside worlds that are one stay so with the same notes
+pub noted : {S K F N D C : Type 0} (one other : Outside S K F N D C) (notes : K) → one ≡ other → record one { notes = notes } ≡ record other { notes = notes }
+noted one other notes is = λ i. record (is i) { notes = notes }
+
+pub same_notes : {S K F N D C : Type 0} (one other : Outside S K F N D C) → one ≡ other → one.notes ≡ other.notes
+same_notes one other is = λ i. (is i).notes
 
 pub write_ended : {K : Type 0} (held : K → Option (List ℕ)) (count : K → ℕ) (status : ℕ) (old new : K) (e : ServeEnd)
     → ServeFinishes held count status old new e → status ≡ 4 → e ≡ end.WriteFault

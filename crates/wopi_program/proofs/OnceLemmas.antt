@@ -1,15 +1,11 @@
 -- From a shard that was served to a run of `once`.
-use Rattle.std.proofs.Common.{◌≡◌, ◌≢◌, ◌≤◌, ℕ, Bool, false, List, [], ◌++◌, map, Option, None, refl, sym, ap, ◌∙◌, subst, inl, inr, arith}
-use Rattle.outside.specs.Faults.{Rose}
-use Rattle.outside.specs.Folder.{Files, Keeps}
+use Rattle.std.proofs.Common.{◌≡◌, ◌≢◌, ℕ, Bool, false, List, [], ◌++◌, map, Option, None, refl, sym, ap, ◌∙◌, subst, inl, inr, arith}
 use Rattle.outside.specs.Clock.{Gives}
 use Rattle.wopi_model.specs.Shard.{Opening, Item, Step, Entry, Legal, entries}
-use Rattle.host_core.specs.declared.opening.StartFault.{StartFault}
-use Rattle.host_core.specs.declared.opening.StartFault.TheVariants as refusal
 use Rattle.host_core.specs.Entries.{Made, items_of}
 use Rattle.host_core.specs.Times.{untimed, happened_of}
 use Rattle.host_core.specs.Value.{Book, IsLawful}
-use Rattle.host_core.specs.Opening.{IsOpening, Fits, IsTooLarge, IfTooLarge}
+use Rattle.host_core.specs.Opening.{IsOpening, Fits}
 use Rattle.host_core.specs.Single.{sight_of, sees_its_own, SeesItsOwn}
 use Rattle.host_server.specs.declared.desk.Desk.{Desk}
 use Rattle.host_server.specs.declared.connection.ConnEnd.{ConnEnd}
@@ -20,32 +16,36 @@ use Rattle.wopi_program.specs.declared.outside_world.Outside.{Outside}
 use Rattle.wopi_program.specs.declared.once.OnceEnd.{OnceEnd}
 use Rattle.wopi_program.specs.declared.once.OnceEnd.TheVariants.{Served, FolderFault, TooLarge, Memory}
 use Rattle.wopi_program.specs.Meanings.{Meanings}
-use Rattle.wopi_program.specs.Once.{IsFresh, ServesShard, OpensAndServes, OpensNone, OnceRuns, Untouched, Finishes, OnceEnds, end_of}
+use Rattle.wopi_program.specs.Once.{IsFresh, ServesShard, OpensAndServes, OnceRuns, OnceRunsIn, Untouched, Finishes, OnceEnds}
 
-module _ {F : Type 0} (files : F → Option Files) (faults : F → ℕ) where
-  pub shard_serves : (desk : Desk) (end : ConnEnd) (left clock clock' held held' : Option (List ℕ)) (first began ended last : Book F) (folder : F)
+module _ {S K F N D C L : Type 0} (m : Meanings S K F N D C L) where
+  pub shard_serves : (desk : Desk) (end : ConnEnd) (first began ended last : Book F) (folder : F) (clock clock' : C) (old new : Outside S K F N D C)
       → began ≡ first → last ≡ ended
-      → Serves desk SeesItsOwn end left clock clock' (sight_of began) (sight_of ended) held held' → ended.start ≡ began.start → last.only ≡ None
-      → IsLawful last (files last.start) (files last.folder) (faults last.start) (faults last.folder) → folder ≡ last.folder
-      → ServesShard files faults desk end left clock clock' held held' first folder
-  shard_serves desk end left clock clock' held held' first began ended last folder begins ends serves start only lawful folder_is = record {
-    last = last;
-    serves = subst (λ (b : Book F). Serves desk SeesItsOwn end left clock clock' (sight_of first) (sight_of b) held held') (sym ends)
-        (subst (λ (b : Book F). Serves desk SeesItsOwn end left clock clock' (sight_of b) (sight_of ended) held held') begins serves);
-    start = ap (λ (b : Book F). b.start) ends ∙ start ∙ ap (λ (b : Book F). b.start) begins;
-    only = only;
-    lawful = lawful;
-    folder_is = folder_is;
-  }
+      → Serves desk SeesItsOwn end (m.left old.input) (m.moments clock) (m.moments clock') (sight_of began) (sight_of ended) (m.held old.output) (m.held new.output)
+      → ended.start ≡ began.start → last.only ≡ None
+      → IsLawful last (m.files last.start) (m.files last.folder) (m.folder_faults last.start) (m.folder_faults last.folder) → folder ≡ last.folder
+      → ServesShard m desk end first folder clock clock' old new
+  shard_serves desk end first began ended last folder clock clock' old new begins ends serves start only lawful folder_is =
+      let Served : Book F → Book F → Type 0 = λ a b. Serves desk SeesItsOwn end (m.left old.input) (m.moments clock) (m.moments clock') (sight_of a) (sight_of b)
+      (m.held old.output) (m.held new.output)
+      in
+      record {
+        last = last;
+        serves = subst (λ (b : Book F). Served first b) (sym ends) (subst (λ (b : Book F). Served b ended) begins serves);
+        start = ap (λ (b : Book F). b.start) ends ∙ start ∙ ap (λ (b : Book F). b.start) begins;
+        only = only;
+        lawful = lawful;
+        folder_is = folder_is;
+      }
 
   -- the entries of a connection over a fresh shard are legal by themselves
-  legal_alone : (desk : Desk) (end : ConnEnd) (left clock clock' held held' : Option (List ℕ)) (folder : F) (first : Book F) → first.made ≡ [] → first.ticked ≡ false
-      → (s : ServesShard files faults desk end left clock clock' held held' first folder) → Legal first.opening first.opened first.first (map Step (made s.serves.deeds))
-  legal_alone desk end left clock clock' held held' folder first none unticked s =
+  legal_alone : (desk : Desk) (end : ConnEnd) (first : Book F) (folder : F) (clock clock' : C) (old new : Outside S K F N D C) → first.made ≡ [] → first.ticked ≡ false
+      → (s : ServesShard m desk end first folder clock clock' old new) → Legal first.opening first.opened first.first (map Step (made s.serves.deeds))
+  legal_alone desk end first folder clock clock' old new none unticked s =
       let last = s.last in
       let does = s.serves.makes in
       let calm : last.ticked ≡ false = does.follows.ticked ∙ unticked in
-      let own : entries (items_of last.made) ≡ made s.serves.deeds = does.own ∙ ap (λ (m : List Made). entries (items_of m) ++ made s.serves.deeds) none in
+      let own : entries (items_of last.made) ≡ made s.serves.deeds = does.own ∙ ap (λ (l : List Made). entries (items_of l) ++ made s.serves.deeds) none in
       let items : untimed last.made ≡ map Step (made s.serves.deeds) =
       sym (ap (λ (b : Bool). happened_of b last.made last.time) calm) ∙ (sees_its_own last).alone calm ∙ ap (λ (es : List Entry). map Step es) own
       in
@@ -53,12 +53,12 @@ module _ {F : Type 0} (files : F → Option Files) (faults : F → ℕ) where
       let opened : last.opened ≡ first.opened = does.follows.opened in
       let begins : last.first ≡ first.first = does.follows.first in
       subst (λ (o : Opening). Legal o first.opened first.first (map Step (made s.serves.deeds))) opening
-      (subst (λ (m : ℕ). Legal last.opening m first.first (map Step (made s.serves.deeds))) opened
+      (subst (λ (n : ℕ). Legal last.opening n first.first (map Step (made s.serves.deeds))) opened
       (subst (λ (n : ℕ). Legal last.opening last.opened n (map Step (made s.serves.deeds))) begins
       (subst (λ (l : List Item). Legal last.opening last.opened last.first l) items (s.lawful.alone calm))))
 
-  pub opens_and_serves : (desk : Desk) (key base : List ℕ) (opened : ℕ) (end : ConnEnd) (left clock mid clock' held held' : Option (List ℕ)) (folder folder' : F)
-      (first : Book F) → desk.key ≡ key → desk.base ≡ base → desk.opened ≡ opened → Gives clock mid opened
+  pub opens_and_serves : (desk : Desk) (key base : List ℕ) (opened : ℕ) (end : ConnEnd) (folder folder' : F) (clock mid clock' : C) (old new : Outside S K F N D C)
+      (first : Book F) → desk.key ≡ key → desk.base ≡ base → desk.opened ≡ opened → Gives (m.moments clock) (m.moments mid) opened
       → first ≡ record {
         only = None;
         opening = first.opening;
@@ -71,22 +71,76 @@ module _ {F : Type 0} (files : F → Option Files) (faults : F → ℕ) where
         start = folder;
         folder = first.folder;
       }
-      → IsOpening None (files folder) first.opening → Fits first.opening
-      → ServesShard files faults desk end left mid clock' held held' first folder'
-      → OpensAndServes files faults key base end left clock clock' held held' folder folder'
-  opens_and_serves desk key base opened end left clock mid clock' held held' folder folder' first key_is base_is opened_is times book opening fits serves = record {
+      → IsOpening None (m.files folder) first.opening → Fits first.opening
+      → ServesShard m desk end first folder' mid clock' old new
+      → OpensAndServes m key base end folder folder' clock clock' old new
+  opens_and_serves desk key base opened end folder folder' clock mid clock' old new first key_is base_is opened_is times book opening fits serves = record {
     desk = desk;
     mid = mid;
     first = first;
     key_is = key_is;
     base_is = base_is;
-    times = subst (Gives clock mid) (sym opened_is) times;
-    opens = subst (λ m. IsFresh files folder m first) (sym opened_is) (record { book = book; opening = opening; fits = fits });
+    times = subst (Gives (m.moments clock) (m.moments mid)) (sym opened_is) times;
+    opens = subst (λ n. IsFresh m folder n first) (sym opened_is) (record { book = book; opening = opening; fits = fits });
     serves = serves;
-    legal = subst (λ (m : ℕ). Legal first.opening m 1 (map Step (made serves.serves.deeds))) (ap (λ (b : Book F). b.opened) book ∙ sym opened_is)
+    legal = subst (λ (n : ℕ). Legal first.opening n 1 (map Step (made serves.serves.deeds))) (ap (λ (b : Book F). b.opened) book ∙ sym opened_is)
         (subst (λ (n : ℕ). Legal first.opening first.opened n (map Step (made serves.serves.deeds))) (ap (λ (b : Book F). b.first) book)
-        (legal_alone desk end left mid clock' held held' folder' first (ap (λ (b : Book F). b.made) book) (ap (λ (b : Book F). b.ticked) book) serves));
+        (legal_alone desk end first folder' mid clock' old new (ap (λ (b : Book F). b.made) book) (ap (λ (b : Book F). b.ticked) book) serves));
   }
+
+  -- a run speaks of the streams alone, and of the folder and the clock that it was given
+  module _ (key base : List ℕ) (folder folder' : F) (clock clock' : C) (old new old' new' : Outside S K F N D C)
+      (input_is : old.input ≡ old'.input) (output_is : old.output ≡ old'.output) (output_then : new.output ≡ new'.output) where
+    moved : (end : ConnEnd) → OpensAndServes m key base end folder folder' clock clock' old new → OpensAndServes m key base end folder folder' clock clock' old' new'
+    moved end served =
+        let one = served.serves in
+        let At : S × K × K → Type 0 = λ z. OpensAndServes m key base end folder folder' clock clock' (record old' { input = z.0; output = z.1 }) (record new' { output = z.2 }) in
+        let streams : (old.input, old.output, new.output) ≡ (old'.input, old'.output, new'.output) = λ i. (input_is i, output_is i, output_then i) in
+        let here : At (old.input, old.output, new.output) = record {
+          desk = served.desk;
+          mid = served.mid;
+          first = served.first;
+          key_is = served.key_is;
+          base_is = served.base_is;
+          times = served.times;
+          opens = served.opens;
+          serves = record { last = one.last; serves = one.serves; start = one.start; only = one.only; lawful = one.lawful; folder_is = one.folder_is };
+          legal = served.legal;
+        }
+        in
+        subst At streams here
+
+    pub runs_moved : (end : OnceEnd) → OnceRuns m key base end folder folder' clock clock' old new → OnceRuns m key base end folder folder' clock clock' old' new'
+    runs_moved (Served end) served = moved end served
+    runs_moved FolderFault none = none
+    runs_moved (TooLarge name) none = none
+    runs_moved Memory none = none
+
+  -- nor does it speak of the notes
+  pub once_noted : (key base base' : List ℕ) (end : OnceEnd) (old new : Outside S K F N D C) (notes : K) → base ≡ base' → OnceRunsIn m key base end old new
+      → OnceRunsIn m key base' end old (record new { notes = notes })
+  once_noted key base base' end old new notes is ran =
+      let new' : Outside S K F N D C = record new { notes = notes } in
+      let noted : OnceRunsIn m key base end old new' = record {
+        folder = ran.folder;
+        folder' = ran.folder';
+        folders_are = ran.folders_are;
+        folders_then = ran.folders_then;
+        clock = ran.clock;
+        clock' = ran.clock';
+        clocks_are = ran.clocks_are;
+        clocks_then = ran.clocks_then;
+        runs = runs_moved key base ran.folder ran.folder' ran.clock ran.clock' old new old new' refl refl refl end ran.runs;
+      }
+      in
+      subst (λ b. OnceRunsIn m key b end old new') is noted
+
+pub untouched_noted : {S K F N D C : Type 0} (end : OnceEnd) (old new : Outside S K F N D C) (notes : K) → Untouched end old new
+    → Untouched end old (record new { notes = notes })
+untouched_noted (Served end) old new notes same = tt
+untouched_noted FolderFault old new notes same = same
+untouched_noted (TooLarge name) old new notes same = same
+untouched_noted Memory old new notes same = same
 
 -- status 3 comes only with a fault of reading
 pub by_read_fault : {K : Type 0} (R : Type 0) (held : K → Option (List ℕ)) (count : K → ℕ) (status : ℕ) (old new : K) (end : OnceEnd)

@@ -1,7 +1,7 @@
 -- The words of `replay`.
 use Rattle.std.proofs.Common.{◌≡◌, ℕ, ◌<◌, ◌≤◌, ◌^◌, List, [], ◌∷◌, None, Some, length, get_or, codes, decimal, sym, ap, ◌∙◌, arith}
 use Rattle.wopi_text.specs.Decimals.{decimal_of}
-use Rattle.wopi_text.proofs.Decimals.{decimal_of-some, decimal_of-decimal}
+use Rattle.wopi_text.proofs.Decimals.{decimal_of-decimal}
 use Rattle.wopi_program.specs.declared.replay_words.ReplayAsk.{ReplayAsk}
 use Rattle.wopi_program.specs.declared.replay_words.ReplayAsk.TheVariants.{Input, Generated}
 use Rattle.wopi_program.specs.ReplayWords.{IsGeneratedRow, IsReplay, IsReplayRow}

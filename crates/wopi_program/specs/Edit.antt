@@ -51,18 +51,6 @@ Tells held held' status wanted lines last =
     ((status ≡ wanted) × Appends held held' (lines ++ last))
     ⊎ ((0 < length last) × (IsCut held held' status lines last ⊎ ((status ≡ 6) × Appends held held' lines)))
 
--- An editor has run commands: what they did, the status of how they ended, and what went to the output and to the dialer.
-pub record HasRun (first : Editor) (commands : List script.Command) (status : ℕ) (held held' : Option (List ℕ)) (told told' : Option (List Exchange)) (faults faults' : ℕ)
-    : Type 0 where
-  pub last : Editor
-  pub result : Result Went EditFault
-  pub written : List ℕ
-  pub sent : List Exchange
-  pub runs : Runs first commands last result written sent
-  pub output : Tells held held' status (status_of result) written (last_line result)
-  pub exchanges : Grew told told' sent
-  pub lost : RoseBy faults (lost_in sent) faults'
-
 -- the words of an `edit`
 pub record EditRow : Type 0 where
   pub authority : List ℕ
@@ -79,32 +67,11 @@ pub record IsNewEditor (editor : Editor) (row : EditRow) : Type 0 where
   pub session_is : state_of (session_of editor) ≡ new_session
   pub sheet_is : sheet_of editor ≡ None
 
--- The script was run: its commands are those of the whole input, which was read to its end.
-pub record IsRun {K D : Type 0} (held : K → Option (List ℕ)) (exchanges : D → Option (List Exchange)) (faults : D → ℕ) (left left' : Option (List ℕ)) (first : Editor) (status : ℕ)
-    (output output' : K) (dialer dialer' : D) : Type 0 where
-  pub commands : List script.Command
-  pub script : IsScript left commands
-  pub whole : IsAtEnd left'
-  pub ran : HasRun first commands status (held output) (held output') (exchanges dialer) (exchanges dialer') (faults dialer) (faults dialer')
-
--- The script has a bad line: nothing was sent.
-pub record IsRefused {K D : Type 0} (held : K → Option (List ℕ)) (left : Option (List ℕ)) (status : ℕ) (output output' : K) (dialer dialer' : D) : Type 0 where
-  pub number : ℕ
-  pub bad : IsBadScript left number
-  pub told : Tells (held output) (held output') status 7 [] (bad_line number)
-  pub dialer_is : dialer' ≡ dialer
-
 -- The input could not be read, or there was no memory for its script: nothing was sent or written.
-pub record IsUnread {K D : Type 0} (status : ℕ) (output output' : K) (dialer dialer' : D) : Type 0 where
+pub record IsUnread {S K F N D C : Type 0} (status : ℕ) (old new : Outside S K F N D C) : Type 0 where
   pub statuses : (status ≡ 3) ⊎ (status ≡ 6)
-  pub output_is : output' ≡ output
-  pub dialer_is : dialer' ≡ dialer
-
--- what became of the script that an input is
-abbrev pub Edits : {K D : Type 0} → (K → Option (List ℕ)) → (D → Option (List Exchange)) → (D → ℕ) → Option (List ℕ) → Option (List ℕ) → Editor → ℕ → K → K → D → D → Type 0
-Edits held exchanges faults left left' first status output output' dialer dialer' =
-    IsUnread status output output' dialer dialer'
-    ⊎ (IsRefused held left status output output' dialer dialer' ⊎ IsRun held exchanges faults left left' first status output output' dialer dialer')
+  pub output_is : new.output ≡ old.output
+  pub dialer_is : new.dialer ≡ old.dialer
 
 -- only these statuses have a line on the notes
 abbrev pub has_note : ℕ → Bool
@@ -114,17 +81,47 @@ abbrev pub NotesForEdit : {K : Type 0} → (K → Option (List ℕ)) → (K → 
 NotesForEdit held count status old new =
     (has_note status ≡ false → new ≡ old) × (has_note status ≡ true → Notes (held old) (held new) (count old) (count new) (line_of status))
 
--- A run of the words: what it did, the causes of the faults, the notes; and all else stays.
-pub record EditRan {S K F N D C L : Type 0} (m : Meanings S K F N D C L) (words : List (List ℕ)) (status : ℕ) (old new : Outside S K F N D C) : Type 0 where
-  pub asked : EditRow
-  pub first : Editor
-  pub row : IsEditRow words asked.authority asked.file asked.token asked.nonce
-  pub editor : IsNewEditor first asked
-  pub edits : Edits m.held m.exchanges m.dialer_faults (m.left old.input) (m.left new.input) first status old.output new.output old.dialer new.dialer
-  pub read_cause : status ≡ 3 → Rose (m.read_faults old.input) (m.read_faults new.input)
-  pub write_cause : status ≡ 4 → Rose (m.write_faults old.output) (m.write_faults new.output)
-  pub notes : NotesForEdit m.held m.write_faults status old.notes new.notes
-  pub others : new ≡ record old { input = new.input; output = new.output; notes = new.notes; dialer = new.dialer }
+module _ {S K F N D C L : Type 0} (m : Meanings S K F N D C L) where
+  -- An editor has run commands: what they did, the status of how they ended, and what went to the output and to the dialer.
+  pub record HasRun (first : Editor) (commands : List script.Command) (status : ℕ) (old new : Outside S K F N D C) : Type 0 where
+    pub last : Editor
+    pub result : Result Went EditFault
+    pub written : List ℕ
+    pub sent : List Exchange
+    pub runs : Runs first commands last result written sent
+    pub output : Tells (m.held old.output) (m.held new.output) status (status_of result) written (last_line result)
+    pub exchanges : Grew (m.exchanges old.dialer) (m.exchanges new.dialer) sent
+    pub lost : RoseBy (m.dialer_faults old.dialer) (lost_in sent) (m.dialer_faults new.dialer)
 
-abbrev pub EditEnds : {S K F N D C L : Type 0} → Meanings S K F N D C L → List (List ℕ) → ℕ → Outside S K F N D C → Outside S K F N D C → Type 0
-EditEnds m words status old new = Wants m.held m.write_faults status old new ⊎ EditRan m words status old new
+  -- The script was run: its commands are those of the whole input, which was read to its end.
+  pub record IsRun (first : Editor) (status : ℕ) (old new : Outside S K F N D C) : Type 0 where
+    pub commands : List script.Command
+    pub script : IsScript (m.left old.input) commands
+    pub whole : IsAtEnd (m.left new.input)
+    pub ran : HasRun first commands status old new
+
+  -- The script has a bad line: nothing was sent.
+  pub record IsRefused (status : ℕ) (old new : Outside S K F N D C) : Type 0 where
+    pub number : ℕ
+    pub bad : IsBadScript (m.left old.input) number
+    pub told : Tells (m.held old.output) (m.held new.output) status 7 [] (bad_line number)
+    pub dialer_is : new.dialer ≡ old.dialer
+
+  -- what became of the script that the input is
+  abbrev pub Edits : Editor → ℕ → Outside S K F N D C → Outside S K F N D C → Type 0
+  Edits first status old new = IsUnread status old new ⊎ (IsRefused status old new ⊎ IsRun first status old new)
+
+  -- A run of the words: what it did, the causes of the faults, the notes; and all else stays.
+  pub record EditRan (words : List (List ℕ)) (status : ℕ) (old new : Outside S K F N D C) : Type 0 where
+    pub asked : EditRow
+    pub first : Editor
+    pub row : IsEditRow words asked.authority asked.file asked.token asked.nonce
+    pub editor : IsNewEditor first asked
+    pub edits : Edits first status old new
+    pub read_cause : status ≡ 3 → Rose (m.read_faults old.input) (m.read_faults new.input)
+    pub write_cause : status ≡ 4 → Rose (m.write_faults old.output) (m.write_faults new.output)
+    pub notes : NotesForEdit m.held m.write_faults status old.notes new.notes
+    pub others : new ≡ record old { input = new.input; output = new.output; notes = new.notes; dialer = new.dialer }
+
+  abbrev pub EditEnds : List (List ℕ) → ℕ → Outside S K F N D C → Outside S K F N D C → Type 0
+  EditEnds words status old new = Wants m status old new ⊎ EditRan words status old new

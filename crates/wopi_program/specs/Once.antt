@@ -2,7 +2,7 @@
 use Rattle.std.specs.Prelude.{◌≡◌, ◌⊎◌, ◌≤◌, ⊤, ℕ, false, List, [], ◌∷◌, ◌++◌, map, Option, None, codes}
 use Rattle.outside.specs.Faults.{Rose}
 use Rattle.outside.specs.Clock.{Gives}
-use Rattle.outside.specs.Folder.{Files, Keeps}
+use Rattle.outside.specs.Folder.{Keeps}
 use Rattle.wopi_text.specs.Ids.{id_of}
 use Rattle.wopi_model.specs.Shard.{Step, Legal}
 use Rattle.host_core.specs.declared.opening.StartFault.{StartFault}
@@ -51,98 +51,92 @@ Finishes held count status old new FolderFault = (status ≡ 5) × NotesFor held
 Finishes held count status old new (TooLarge name) = TooLargeEnds held count status old new name
 Finishes held count status old new Memory = (status ≡ 6) × NotesFor held count status old new
 
--- A shard that was opened over a folder at a moment: its files, at version 1, and no entry yet.
-pub record IsFresh {F : Type 0} (files : F → Option Files) (folder : F) (opened : ℕ) (first : Book F) : Type 0 where
-  pub book : first ≡ record {
-    only = None;
-    opening = first.opening;
-    opened = opened;
-    first = 1;
-    capacity = 4096;
-    made = [];
-    time = opened;
-    ticked = false;
-    start = folder;
-    folder = first.folder;
-  }
-  pub opening : IsOpening None (files folder) first.opening
-  pub fits : Fits first.opening
-
--- A connection was served over a shard that began as `first`. What was done is what the shard has come to; its history is legal, its folder
--- agrees with it, and each answer of a store fault has raised the folder's count.
-pub record ServesShard {F : Type 0} (files : F → Option Files) (faults : F → ℕ) (desk : Desk) (end : ConnEnd)
-    (left clock clock' held held' : Option (List ℕ)) (first : Book F) (folder : F) : Type 0 where
-  pub last : Book F
-  pub serves : Serves desk SeesItsOwn end left clock clock' (sight_of first) (sight_of last) held held'
-  pub start : last.start ≡ first.start
-  pub only : last.only ≡ None
-  pub lawful : IsLawful last (files last.start) (files last.folder) (faults last.start) (faults last.folder)
-  pub folder_is : folder ≡ last.folder
-
--- The clock's first moment opened the shard, and the connection was served by its later ones. The entries that were made are
--- legal by themselves, from the opening: nobody set the shard's time beside them.
-pub record OpensAndServes {F : Type 0} (files : F → Option Files) (faults : F → ℕ) (key base : List ℕ) (end : ConnEnd)
-    (left clock clock' held held' : Option (List ℕ)) (folder folder' : F) : Type 0 where
-  pub desk : Desk
-  pub mid : Option (List ℕ)
-  pub first : Book F
-  pub key_is : desk.key ≡ key
-  pub base_is : desk.base ≡ base
-  pub times : Gives clock mid desk.opened
-  pub opens : IsFresh files folder desk.opened first
-  pub serves : ServesShard files faults desk end left mid clock' held held' first folder'
-  pub legal : Legal first.opening desk.opened 1 (map Step (made serves.serves.deeds))
-
--- No shard was opened at the moment that the clock gave: the folder holds what it held, and its count hasn't fallen.
-pub record OpensNone {F : Type 0} (files : F → Option Files) (faults : F → ℕ) (clock clock' : Option (List ℕ)) (folder folder' : F) : Type 0 where
-  pub opened : ℕ
-  pub gives : Gives clock clock' opened
-  pub keeps : Keeps (files folder) (files folder')
-  pub counts : faults folder ≤ faults folder'
-
--- What a run did, by its end.
-abbrev pub OnceRuns : {F : Type 0} → (F → Option Files) → (F → ℕ) → List ℕ → List ℕ → OnceEnd
-    → Option (List ℕ) → Option (List ℕ) → Option (List ℕ) → Option (List ℕ) → Option (List ℕ) → F → F → Type 0
-OnceRuns files faults key base (Served end) left clock clock' held held' folder folder' =
-    OpensAndServes files faults key base end left clock clock' held held' folder folder'
-OnceRuns files faults key base FolderFault left clock clock' held held' folder folder' =
-    Rose (faults folder) (faults folder') × OpensNone files faults clock clock' folder folder'
-OnceRuns files faults key base (TooLarge name) left clock clock' held held' folder folder' =
-    IsTooLarge None (files folder) name × OpensNone files faults clock clock' folder folder'
-OnceRuns files faults key base Memory left clock clock' held held' folder folder' = OpensNone files faults clock clock' folder folder'
-
--- the same with the one folder and the one clock in their lists, in which they are again
-pub record OnceRunsIn {F C : Type 0} (files : F → Option Files) (faults : F → ℕ) (moments : C → Option (List ℕ)) (key base : List ℕ) (end : OnceEnd)
-    (left held held' : Option (List ℕ)) (folders folders' : List F) (clocks clocks' : List C) : Type 0 where
-  pub folder : F
-  pub folder' : F
-  pub folders_are : folders ≡ folder ∷ []
-  pub folders_then : folders' ≡ folder' ∷ []
-  pub clock : C
-  pub clock' : C
-  pub clocks_are : clocks ≡ clock ∷ []
-  pub clocks_then : clocks' ≡ clock' ∷ []
-  pub runs : OnceRuns files faults key base end left (moments clock) (moments clock') held held' folder folder'
-
 -- where no connection was served the streams stay as they were
-abbrev pub Untouched : {S K : Type 0} → OnceEnd → S → S → K → K → Type 0
-Untouched (Served end) source source' sink sink' = ⊤
-Untouched end source source' sink sink' = (source' ≡ source) × (sink' ≡ sink)
+abbrev pub Untouched : {S K F N D C : Type 0} → OnceEnd → Outside S K F N D C → Outside S K F N D C → Type 0
+Untouched (Served end) old new = ⊤
+Untouched end old new = (new.input ≡ old.input) × (new.output ≡ old.output)
 
--- A run under the key and the base of the words: what it did, the causes of the faults, the status's line on the notes; and all else stays.
-pub record OnceRan {S K F N D C L : Type 0} (m : Meanings S K F N D C L) (words : List (List ℕ)) (status : ℕ) (old new : Outside S K F N D C) : Type 0 where
-  pub end : OnceEnd
-  pub key : List ℕ
-  pub base : List ℕ
-  pub row : IsOnceRow words key base
-  pub runs : OnceRunsIn m.files m.folder_faults m.moments key base end (m.left old.input) (m.held old.output) (m.held new.output)
-      old.folders.items new.folders.items old.clocks.items new.clocks.items
-  pub untouched : Untouched end old.input new.input old.output new.output
-  pub nothing_read : end ≡ Served conn.Memory → m.left new.input ≡ m.left old.input
-  pub read_cause : status ≡ 3 → Rose (m.read_faults old.input) (m.read_faults new.input)
-  pub write_cause : status ≡ 4 → Rose (m.write_faults old.output) (m.write_faults new.output)
-  pub finishes : Finishes m.held m.write_faults status old.notes new.notes end
-  pub others : new ≡ record old { input = new.input; output = new.output; notes = new.notes; folders = new.folders; clocks = new.clocks }
+module _ {S K F N D C L : Type 0} (m : Meanings S K F N D C L) where
+  -- A shard that was opened over a folder at a moment: its files, at version 1, and no entry yet.
+  pub record IsFresh (folder : F) (opened : ℕ) (first : Book F) : Type 0 where
+    pub book : first ≡ record {
+      only = None;
+      opening = first.opening;
+      opened = opened;
+      first = 1;
+      capacity = 4096;
+      made = [];
+      time = opened;
+      ticked = false;
+      start = folder;
+      folder = first.folder;
+    }
+    pub opening : IsOpening None (m.files folder) first.opening
+    pub fits : Fits first.opening
 
-abbrev pub OnceEnds : {S K F N D C L : Type 0} → Meanings S K F N D C L → List (List ℕ) → ℕ → Outside S K F N D C → Outside S K F N D C → Type 0
-OnceEnds m words status old new = Wants m.held m.write_faults status old new ⊎ OnceRan m words status old new
+  -- A connection was served over a shard that began as `first`. What was done is what the shard has come to; its history is legal, its folder
+  -- agrees with it, and each answer of a store fault has raised the folder's count.
+  pub record ServesShard (desk : Desk) (end : ConnEnd) (first : Book F) (folder : F) (clock clock' : C) (old new : Outside S K F N D C) : Type 0 where
+    pub last : Book F
+    pub serves : Serves desk SeesItsOwn end (m.left old.input) (m.moments clock) (m.moments clock') (sight_of first) (sight_of last) (m.held old.output) (m.held new.output)
+    pub start : last.start ≡ first.start
+    pub only : last.only ≡ None
+    pub lawful : IsLawful last (m.files last.start) (m.files last.folder) (m.folder_faults last.start) (m.folder_faults last.folder)
+    pub folder_is : folder ≡ last.folder
+
+  -- The clock's first moment opened the shard, and the connection was served by its later ones. The entries that were made are
+  -- legal by themselves, from the opening: nobody set the shard's time beside them.
+  pub record OpensAndServes (key base : List ℕ) (end : ConnEnd) (folder folder' : F) (clock clock' : C) (old new : Outside S K F N D C) : Type 0 where
+    pub desk : Desk
+    pub mid : C
+    pub first : Book F
+    pub key_is : desk.key ≡ key
+    pub base_is : desk.base ≡ base
+    pub times : Gives (m.moments clock) (m.moments mid) desk.opened
+    pub opens : IsFresh folder desk.opened first
+    pub serves : ServesShard desk end first folder' mid clock' old new
+    pub legal : Legal first.opening desk.opened 1 (map Step (made serves.serves.deeds))
+
+  -- No shard was opened at the moment that the clock gave: the folder holds what it held, and its count hasn't fallen.
+  pub record OpensNone (folder folder' : F) (clock clock' : C) : Type 0 where
+    pub opened : ℕ
+    pub gives : Gives (m.moments clock) (m.moments clock') opened
+    pub keeps : Keeps (m.files folder) (m.files folder')
+    pub counts : m.folder_faults folder ≤ m.folder_faults folder'
+
+  -- What a run did with the folder and the clock, by its end.
+  abbrev pub OnceRuns : List ℕ → List ℕ → OnceEnd → F → F → C → C → Outside S K F N D C → Outside S K F N D C → Type 0
+  OnceRuns key base (Served end) folder folder' clock clock' old new = OpensAndServes key base end folder folder' clock clock' old new
+  OnceRuns key base FolderFault folder folder' clock clock' old new =
+      Rose (m.folder_faults folder) (m.folder_faults folder') × OpensNone folder folder' clock clock'
+  OnceRuns key base (TooLarge name) folder folder' clock clock' old new = IsTooLarge None (m.files folder) name × OpensNone folder folder' clock clock'
+  OnceRuns key base Memory folder folder' clock clock' old new = OpensNone folder folder' clock clock'
+
+  -- the same with the one folder and the one clock in their lists, in which they are again
+  pub record OnceRunsIn (key base : List ℕ) (end : OnceEnd) (old new : Outside S K F N D C) : Type 0 where
+    pub folder : F
+    pub folder' : F
+    pub folders_are : old.folders.items ≡ folder ∷ []
+    pub folders_then : new.folders.items ≡ folder' ∷ []
+    pub clock : C
+    pub clock' : C
+    pub clocks_are : old.clocks.items ≡ clock ∷ []
+    pub clocks_then : new.clocks.items ≡ clock' ∷ []
+    pub runs : OnceRuns key base end folder folder' clock clock' old new
+
+  -- A run under the key and the base of the words: what it did, the causes of the faults, the status's line on the notes; and all else stays.
+  pub record OnceRan (words : List (List ℕ)) (status : ℕ) (old new : Outside S K F N D C) : Type 0 where
+    pub end : OnceEnd
+    pub key : List ℕ
+    pub base : List ℕ
+    pub row : IsOnceRow words key base
+    pub runs : OnceRunsIn key base end old new
+    pub untouched : Untouched end old new
+    pub nothing_read : end ≡ Served conn.Memory → m.left new.input ≡ m.left old.input
+    pub read_cause : status ≡ 3 → Rose (m.read_faults old.input) (m.read_faults new.input)
+    pub write_cause : status ≡ 4 → Rose (m.write_faults old.output) (m.write_faults new.output)
+    pub finishes : Finishes m.held m.write_faults status old.notes new.notes end
+    pub others : new ≡ record old { input = new.input; output = new.output; notes = new.notes; folders = new.folders; clocks = new.clocks }
+
+  abbrev pub OnceEnds : List (List ℕ) → ℕ → Outside S K F N D C → Outside S K F N D C → Type 0
+  OnceEnds words status old new = Wants m status old new ⊎ OnceRan words status old new

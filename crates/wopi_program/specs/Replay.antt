@@ -25,45 +25,45 @@ pub record IsTold (text_of : List (List ℕ) → Lines → List ℕ) (lines : Li
   pub names_are : AreNames (world_of lines).shard names
   pub told : ((status ≡ 0) × Appends held held' (text_of names lines)) ⊎ ((status ≡ 4) × GrewByPrefix held held' (text_of names lines))
 
+-- The input could not be read, or memory was wanted: nothing was written.
+pub record IsNotRun {S K F N D C : Type 0} (status : ℕ) (old new : Outside S K F N D C) : Type 0 where
+  pub statuses : (status ≡ 3) ⊎ (status ≡ 6)
+  pub output_is : new.output ≡ old.output
+
 -- the text of the lines was told, or memory was wanted before anything was written
 abbrev pub Replays : {K : Type 0} → (K → Option (List ℕ)) → (List (List ℕ) → Lines → List ℕ) → Lines → ℕ → K → K → Type 0
 Replays held text_of lines status output output' = ((status ≡ 6) × (output' ≡ output)) ⊎ IsTold text_of lines status (held output) (held output')
 
--- The input, which was read to its end, is these lines, and their trace was told.
-pub record IsTraced {K : Type 0} (held : K → Option (List ℕ)) (left left' : Option (List ℕ)) (status : ℕ) (output output' : K) : Type 0 where
-  pub lines : Lines
-  pub read : IsWholeInput left lines
-  pub whole : IsAtEnd left'
-  pub told : IsTold trace_text lines status (held output) (held output')
+module _ {S K F N D C L : Type 0} (m : Meanings S K F N D C L) where
+  -- The input, which was read to its end, is these lines, and their trace was told.
+  pub record IsTraced (status : ℕ) (old new : Outside S K F N D C) : Type 0 where
+    pub lines : Lines
+    pub read : IsWholeInput (m.left old.input) lines
+    pub whole : IsAtEnd (m.left new.input)
+    pub told : IsTold trace_text lines status (m.held old.output) (m.held new.output)
 
--- The input has its first bad line here, whatever follows it.
-pub record IsBad {K : Type 0} (held : K → Option (List ℕ)) (left : Option (List ℕ)) (status : ℕ) (output output' : K) : Type 0 where
-  pub number : ℕ
-  pub bad : IsBadInput left number
-  pub told : Tells (held output) (held output') status 7 [] (bad_line number)
+  -- The input has its first bad line here, whatever follows it.
+  pub record IsBad (status : ℕ) (old new : Outside S K F N D C) : Type 0 where
+    pub number : ℕ
+    pub bad : IsBadInput (m.left old.input) number
+    pub told : Tells (m.held old.output) (m.held new.output) status 7 [] (bad_line number)
 
--- The input could not be read, or memory was wanted: nothing was written.
-pub record IsNotRun {K : Type 0} (status : ℕ) (output output' : K) : Type 0 where
-  pub statuses : (status ≡ 3) ⊎ (status ≡ 6)
-  pub output_is : output' ≡ output
+  -- what became of the schedule that the input is
+  abbrev pub InputReplays : ℕ → Outside S K F N D C → Outside S K F N D C → Type 0
+  InputReplays status old new = IsNotRun status old new ⊎ (IsBad status old new ⊎ IsTraced status old new)
 
--- what became of the schedule that an input is
-abbrev pub InputReplays : {K : Type 0} → (K → Option (List ℕ)) → Option (List ℕ) → Option (List ℕ) → ℕ → K → K → Type 0
-InputReplays held left left' status output output' =
-    IsNotRun status output output' ⊎ (IsBad held left status output output' ⊎ IsTraced held left left' status output output')
+  -- what became of the schedule that was asked for; one that is made from two numbers leaves the input as it is
+  abbrev pub AskReplays : ReplayAsk → ℕ → Outside S K F N D C → Outside S K F N D C → Type 0
+  AskReplays Input status old new = InputReplays status old new
+  AskReplays (Generated seed count) status old new =
+      (new.input ≡ old.input) × Replays m.held summary_text (generated seed count) status old.output new.output
 
--- what became of the schedule that was asked for; one that is made from two numbers leaves the input as it is
-abbrev pub AskReplays : {S K : Type 0} → (S → Option (List ℕ)) → (K → Option (List ℕ)) → ReplayAsk → ℕ → S → S → K → K → Type 0
-AskReplays left held Input status input input' output output' = InputReplays held (left input) (left input') status output output'
-AskReplays left held (Generated seed count) status input input' output output' =
-    (input' ≡ input) × Replays held summary_text (generated seed count) status output output'
-
--- A run of the words: what it did, the causes of the faults, the notes; and all else stays.
-pub record ReplayEnds {S K F N D C L : Type 0} (m : Meanings S K F N D C L) (words : List (List ℕ)) (status : ℕ) (old new : Outside S K F N D C) : Type 0 where
-  pub asked : ReplayAsk
-  pub row : IsReplayRow words asked
-  pub replays : AskReplays m.left m.held asked status old.input new.input old.output new.output
-  pub read_cause : status ≡ 3 → Rose (m.read_faults old.input) (m.read_faults new.input)
-  pub write_cause : status ≡ 4 → Rose (m.write_faults old.output) (m.write_faults new.output)
-  pub notes : NotesForEdit m.held m.write_faults status old.notes new.notes
-  pub others : new ≡ record old { input = new.input; output = new.output; notes = new.notes }
+  -- A run of the words: what it did, the causes of the faults, the notes; and all else stays.
+  pub record ReplayEnds (words : List (List ℕ)) (status : ℕ) (old new : Outside S K F N D C) : Type 0 where
+    pub asked : ReplayAsk
+    pub row : IsReplayRow words asked
+    pub replays : AskReplays asked status old new
+    pub read_cause : status ≡ 3 → Rose (m.read_faults old.input) (m.read_faults new.input)
+    pub write_cause : status ≡ 4 → Rose (m.write_faults old.output) (m.write_faults new.output)
+    pub notes : NotesForEdit m.held m.write_faults status old.notes new.notes
+    pub others : new ≡ record old { input = new.input; output = new.output; notes = new.notes }

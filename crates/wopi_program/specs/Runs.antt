@@ -13,8 +13,8 @@ use Rattle.wopi_program.specs.Token.{TokenEnds}
 
 -- how a run of a command ends, with which status and what it leaves
 abbrev pub RunEnds : {S K F N D C L : Type 0} → Meanings S K F N D C L → List (List ℕ) → ℕ → Outside S K F N D C → Outside S K F N D C → Command → Type 0
-RunEnds m words status old new command.Help = TextEnds m.held m.write_faults help_text status old new
-RunEnds m words status old new command.Version = TextEnds m.held m.write_faults version_text status old new
+RunEnds m words status old new command.Help = TextEnds m help_text status old new
+RunEnds m words status old new command.Version = TextEnds m version_text status old new
 RunEnds m words status old new command.Once = OnceEnds m words status old new
 RunEnds m words status old new command.Serve = ServeEnds m words status old new
 RunEnds m words status old new command.Edit = EditEnds m words status old new

@@ -21,20 +21,19 @@ ServeFinishes held count status old new end.FolderFault = (status ≡ 5) × Note
 ServeFinishes held count status old new (end.TooLarge name) = TooLargeEnds held count status old new name
 ServeFinishes held count status old new end.Memory = (status ≡ 6) × NotesFor held count status old new
 
--- A run under the key, the base and the numbers of the words: what it did, the cause of a write's fault, the status's line on the notes;
--- and all else stays.
-pub record ServeRan {S K F N D C L : Type 0} (m : Meanings S K F N D C L) (words : List (List ℕ)) (status : ℕ) (old new : Outside S K F N D C) : Type 0 where
-  pub end : ServeEnd
-  pub key : List ℕ
-  pub base : List ℕ
-  pub ask : ServeAsk
-  pub row : IsServeRow words key base ask
-  pub runs : ServeRuns m.links_left m.finished_links m.accepted m.finished m.listener_faults m.link_left m.link_held m.link_read_faults m.link_write_faults m.moments
-      m.files m.folder_faults key base ask.capacity end (m.held old.output) (m.held new.output) old.folders.items new.folders.items
-      old.listeners.items new.listeners.items old.clocks.items new.clocks.items
-  pub write_cause : status ≡ 4 → Rose (m.write_faults old.output) (m.write_faults new.output)
-  pub finishes : ServeFinishes m.held m.write_faults status old.notes new.notes end
-  pub others : new ≡ record old { output = new.output; notes = new.notes; folders = new.folders; listeners = new.listeners; clocks = new.clocks }
+module _ {S K F N D C L : Type 0} (m : Meanings S K F N D C L) where
+  -- A run under the key, the base and the numbers of the words: what it did, the cause of a write's fault, the status's line on the notes;
+  -- and all else stays.
+  pub record ServeRan (words : List (List ℕ)) (status : ℕ) (old new : Outside S K F N D C) : Type 0 where
+    pub end : ServeEnd
+    pub key : List ℕ
+    pub base : List ℕ
+    pub ask : ServeAsk
+    pub row : IsServeRow words key base ask
+    pub runs : ServeRuns m key base ask end old new
+    pub write_cause : status ≡ 4 → Rose (m.write_faults old.output) (m.write_faults new.output)
+    pub finishes : ServeFinishes m.held m.write_faults status old.notes new.notes end
+    pub others : new ≡ record old { output = new.output; notes = new.notes; folders = new.folders; listeners = new.listeners; clocks = new.clocks }
 
-abbrev pub ServeEnds : {S K F N D C L : Type 0} → Meanings S K F N D C L → List (List ℕ) → ℕ → Outside S K F N D C → Outside S K F N D C → Type 0
-ServeEnds m words status old new = Wants m.held m.write_faults status old new ⊎ ServeRan m words status old new
+  abbrev pub ServeEnds : List (List ℕ) → ℕ → Outside S K F N D C → Outside S K F N D C → Type 0
+  ServeEnds words status old new = Wants m status old new ⊎ ServeRan words status old new

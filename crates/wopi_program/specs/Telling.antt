@@ -1,9 +1,10 @@
 -- What commands that only write a text promise, and words that are no command. (Own.)
-use Rattle.std.specs.Prelude.{◌≡◌, ◌⊎◌, ℕ, List, Option, codes}
+use Rattle.std.specs.Prelude.{◌≡◌, ◌⊎◌, ℕ, List, codes}
 use Rattle.std.specs.Io.KnownBytes.{Appends}
 use Rattle.outside.specs.Faults.{Rose}
 use Rattle.outside.specs.Stream.{GrewByPrefix}
 use Rattle.wopi_program.specs.declared.outside_world.Outside.{Outside}
+use Rattle.wopi_program.specs.Meanings.{Meanings}
 use Rattle.wopi_program.specs.Notes.{NotesFor}
 
 unfoldable pub help_text : List ℕ
@@ -12,25 +13,24 @@ help_text = codes "mokdrai once FOLDER KEY BASE\n    answers the requests of the
 unfoldable pub version_text : List ℕ
 version_text = codes "mokdrai 0.1.0\n"
 
--- The output grew by the text, or, where its count rose, by a prefix of it; all else but the notes stays.
-pub record TextEnds {S K F N D C : Type 0} (held : K → Option (List ℕ)) (write_faults : K → ℕ) (text : List ℕ) (status : ℕ) (old new : Outside S K F N D C)
-    : Type 0 where
-  pub statuses : (status ≡ 0) ⊎ (status ≡ 4)
-  pub done : status ≡ 0 → Appends (held old.output) (held new.output) text
-  pub cut : status ≡ 4 → GrewByPrefix (held old.output) (held new.output) text
-  pub write_cause : status ≡ 4 → Rose (write_faults old.output) (write_faults new.output)
-  pub notes : NotesFor held write_faults status old.notes new.notes
-  pub others : new ≡ record old { output = new.output; notes = new.notes }
+module _ {S K F N D C L : Type 0} (m : Meanings S K F N D C L) where
+  -- The output grew by the text, or, where its count rose, by a prefix of it; all else but the notes stays.
+  pub record TextEnds (text : List ℕ) (status : ℕ) (old new : Outside S K F N D C) : Type 0 where
+    pub statuses : (status ≡ 0) ⊎ (status ≡ 4)
+    pub done : status ≡ 0 → Appends (m.held old.output) (m.held new.output) text
+    pub cut : status ≡ 4 → GrewByPrefix (m.held old.output) (m.held new.output) text
+    pub write_cause : status ≡ 4 → Rose (m.write_faults old.output) (m.write_faults new.output)
+    pub notes : NotesFor m.held m.write_faults status old.notes new.notes
+    pub others : new ≡ record old { output = new.output; notes = new.notes }
 
--- There was no memory to begin: all but the notes stays.
-pub record Wants {S K F N D C : Type 0} (held : K → Option (List ℕ)) (write_faults : K → ℕ) (status : ℕ) (old new : Outside S K F N D C) : Type 0 where
-  pub status_is : status ≡ 6
-  pub notes : NotesFor held write_faults 6 old.notes new.notes
-  pub others : new ≡ record old { notes = new.notes }
+  -- There was no memory to begin: all but the notes stays.
+  pub record Wants (status : ℕ) (old new : Outside S K F N D C) : Type 0 where
+    pub status_is : status ≡ 6
+    pub notes : NotesFor m.held m.write_faults 6 old.notes new.notes
+    pub others : new ≡ record old { notes = new.notes }
 
--- The words are none: all but the notes stays.
-pub record UsageEnds {S K F N D C : Type 0} (held : K → Option (List ℕ)) (write_faults : K → ℕ) (status : ℕ) (old new : Outside S K F N D C)
-    : Type 0 where
-  pub status_is : status ≡ 2
-  pub notes : NotesFor held write_faults status old.notes new.notes
-  pub others : new ≡ record old { notes = new.notes }
+  -- The words are none: all but the notes stays.
+  pub record UsageEnds (status : ℕ) (old new : Outside S K F N D C) : Type 0 where
+    pub status_is : status ≡ 2
+    pub notes : NotesFor m.held m.write_faults status old.notes new.notes
+    pub others : new ≡ record old { notes = new.notes }

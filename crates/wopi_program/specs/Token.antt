@@ -11,12 +11,13 @@ use Rattle.wopi_program.specs.Telling.{TextEnds, Wants}
 abbrev pub token_line : List ℕ → Token → List ℕ
 token_line key token = token_text key token ++ codes "\n"
 
--- The line of the words' token under their key was written, or a front of it where the output failed.
-pub record TokenTold {S K F N D C L : Type 0} (m : Meanings S K F N D C L) (words : List (List ℕ)) (status : ℕ) (old new : Outside S K F N D C) : Type 0 where
-  pub key : List ℕ
-  pub token : Token
-  pub row : IsTokenRow words key token
-  pub told : TextEnds m.held m.write_faults (token_line key token) status old new
+module _ {S K F N D C L : Type 0} (m : Meanings S K F N D C L) where
+  -- The line of the words' token under their key was written, or a front of it where the output failed.
+  pub record TokenTold (words : List (List ℕ)) (status : ℕ) (old new : Outside S K F N D C) : Type 0 where
+    pub key : List ℕ
+    pub token : Token
+    pub row : IsTokenRow words key token
+    pub told : TextEnds m (token_line key token) status old new
 
-abbrev pub TokenEnds : {S K F N D C L : Type 0} → Meanings S K F N D C L → List (List ℕ) → ℕ → Outside S K F N D C → Outside S K F N D C → Type 0
-TokenEnds m words status old new = Wants m.held m.write_faults status old new ⊎ TokenTold m words status old new
+  abbrev pub TokenEnds : List (List ℕ) → ℕ → Outside S K F N D C → Outside S K F N D C → Type 0
+  TokenEnds words status old new = Wants m status old new ⊎ TokenTold words status old new

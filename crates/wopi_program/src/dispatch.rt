@@ -32,7 +32,7 @@ pub fn run<
         → (length outside.old.folders.items ≡ 16) × (length outside.old.listeners.items ≡ ask.workers) × (length outside.old.clocks.items ≡ ask.workers) }
 
     ensures usage { result ≡ 2 ↔ (¬ IsCommand (map string_bytes words.now)) }
-    ensures usage_leaves { ¬ IsCommand (map string_bytes words.now) → UsageEnds K.held K.write_faults result outside.old outside.new }
+    ensures usage_leaves { ¬ IsCommand (map string_bytes words.now) → UsageEnds ⟦<Outside<S, K, F, N, D, C> as Meant<S, K, F, N, D, C, N::Link>>⟧.meanings result outside.old outside.new }
     ensures runs { (command : Command) → IsRow (map string_bytes words.now) command
         → RunEnds ⟦<Outside<S, K, F, N, D, C> as Meant<S, K, F, N, D, C, N::Link>>⟧.meanings (map string_bytes words.now) result outside.old outside.new command }
 {

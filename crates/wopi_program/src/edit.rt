@@ -102,18 +102,18 @@ fn finish<K: Sink>(alloc: Global, output: &mut K, ended: &Result<Went, EditFault
 }
 
 /// Runs the script, and gives the status.
-fn run_script<K: Sink, D: Dialer>(
+fn run_script<S: Source, K: Sink, F: Folder, N: Listener, D: Dialer, C: Clock>(
     alloc: Global,
     mut editor: Editor,
     script: &Script,
-    output: &mut K,
-    dialer: &mut D,
+    outside: &mut Outside<S, K, F, N, D, C>,
 ) -> u8
-    ensures ran { HasRun editor script.now result (K.held output.old) (K.held output.new) (D.exchanges dialer.old) (D.exchanges dialer.new) (D.faults dialer.old) (D.faults dialer.new) }
-    ensures cause { result ≡ 4 → Rose (K.write_faults output.old) (K.write_faults output.new) }
+    ensures ran { HasRun ⟦<Outside<S, K, F, N, D, C> as Meant<S, K, F, N, D, C, N::Link>>⟧.meanings editor script.now result outside.old outside.new }
+    ensures cause { result ≡ 4 → Rose (K.write_faults outside.old.output) (K.write_faults outside.new.output) }
+    ensures others { outside.new ≡ record outside.old { output = outside.new.output; dialer = outside.new.dialer } }
 {
-    let ended = editor.run(dialer, output, script);
-    finish(alloc, output, &ended)
+    let ended = editor.run(&mut outside.dialer, &mut outside.output, script);
+    finish(alloc, &mut outside.output, &ended)
 }
 
 /// Tells of a script's first bad line, and gives the status.
@@ -129,20 +129,21 @@ pub(crate) fn refuse_script<K: Sink>(alloc: Global, output: &mut K, number: u64)
 }
 
 /// Runs the script that the input is, and gives the status.
-fn edit<S: Source, K: Sink, D: Dialer>(
+fn edit<S: Source, K: Sink, F: Folder, N: Listener, D: Dialer, C: Clock>(
     alloc: Global,
     editor: Editor,
-    input: &mut S,
-    output: &mut K,
-    dialer: &mut D,
+    outside: &mut Outside<S, K, F, N, D, C>,
 ) -> u8
-    ensures edits { Edits K.held D.exchanges D.faults (S.left input.old) (S.left input.new) editor result output.old output.new dialer.old dialer.new }
-    ensures read_cause { result ≡ 3 → Rose (S.read_faults input.old) (S.read_faults input.new) }
-    ensures write_cause { result ≡ 4 → Rose (K.write_faults output.old) (K.write_faults output.new) }
+    ensures edits { Edits ⟦<Outside<S, K, F, N, D, C> as Meant<S, K, F, N, D, C, N::Link>>⟧.meanings editor result outside.old outside.new }
+    ensures read_cause { result ≡ 3 → Rose (S.read_faults outside.old.input) (S.read_faults outside.new.input) }
+    ensures write_cause { result ≡ 4 → Rose (K.write_faults outside.old.output) (K.write_faults outside.new.output) }
+    ensures others { outside.new ≡ record outside.old { input = outside.new.input; output = outside.new.output; dialer = outside.new.dialer } }
 {
-    match read_script(alloc, input) {
-        Ok(script) => return run_script(alloc, editor, &script, output, dialer),
-        Err(InputFault::BadCommand { line }) => return refuse_script(alloc, output, line),
+    match read_script(alloc, &mut outside.input) {
+        Ok(script) => return run_script(alloc, editor, &script, outside),
+        Err(InputFault::BadCommand { line }) => {
+            return refuse_script(alloc, &mut outside.output, line);
+        }
         Err(InputFault::Read) => return 3,
         Err(InputFault::Memory) => return 6,
     }
@@ -176,13 +177,7 @@ pub fn run_edit<S: Source, K: Sink, F: Folder, N: Listener, D: Dialer, C: Clock>
     let Ok(editor) = editor_of(alloc, ask.authority, ask.file, ask.token, ask.nonce) else {
         return want(outside);
     };
-    let status = edit(
-        alloc,
-        editor,
-        &mut outside.input,
-        &mut outside.output,
-        &mut outside.dialer,
-    );
+    let status = edit(alloc, editor, outside);
     note_edit(&mut outside.notes, status);
     status
 }

@@ -45,8 +45,6 @@ fn serve<S: Source, K: Sink, F: Folder, C: Clock>(
     ensures serves { Serves desk.now SeesItsOwn result (S.left source.old) (C.moments clock.old) (C.moments clock.new)
         (sight_of single.old.shard) (sight_of single.new.shard) (K.held sink.old) (K.held sink.new) }
     ensures start { single.new.shard.start ≡ single.old.shard.start }
-    ensures reads_count { S.read_faults source.old ≤ S.read_faults source.new }
-    ensures writes_count { K.write_faults sink.old ≤ K.write_faults sink.new }
     ensures read_fault { result ≡ ConnEnd.ReadFault → Rose (S.read_faults source.old) (S.read_faults source.new) }
     ensures write_fault { result ≡ ConnEnd.WriteFault → Rose (K.write_faults sink.old) (K.write_faults sink.new) }
     ensures nothing_read { result ≡ ConnEnd.Memory → S.left source.new ≡ S.left source.old }
@@ -56,25 +54,29 @@ fn serve<S: Source, K: Sink, F: Folder, C: Clock>(
 }
 
 /// Serves the connection over a shard, and gives the shard's folder back.
-fn serve_over<S: Source, K: Sink, F: Folder, C: Clock>(
+fn serve_over<S: Source, K: Sink, F: Folder, N: Listener, D: Dialer, C: Clock>(
     alloc: Global,
     desk: &Desk,
     shard: Shard<F>,
-    source: &mut S,
-    sink: &mut K,
     clock: &mut C,
+    outside: &mut Outside<S, K, F, N, D, C>,
 ) -> (F, ConnEnd)
     requires { shard.only ≡ None }
-    ensures serves { ServesShard F.files F.faults desk.now result.1 (S.left source.old) (C.moments clock.old) (C.moments clock.new)
-        (K.held sink.old) (K.held sink.new) shard result.0 }
-    ensures reads_count { S.read_faults source.old ≤ S.read_faults source.new }
-    ensures writes_count { K.write_faults sink.old ≤ K.write_faults sink.new }
-    ensures read_fault { result.1 ≡ ConnEnd.ReadFault → Rose (S.read_faults source.old) (S.read_faults source.new) }
-    ensures write_fault { result.1 ≡ ConnEnd.WriteFault → Rose (K.write_faults sink.old) (K.write_faults sink.new) }
-    ensures nothing_read { result.1 ≡ ConnEnd.Memory → S.left source.new ≡ S.left source.old }
+    ensures serves { ServesShard ⟦<Outside<S, K, F, N, D, C> as Meant<S, K, F, N, D, C, N::Link>>⟧.meanings desk.now result.1 shard result.0 clock.old clock.new outside.old outside.new }
+    ensures others { outside.new ≡ record outside.old { input = outside.new.input; output = outside.new.output } }
+    ensures read_fault { result.1 ≡ ConnEnd.ReadFault → Rose (S.read_faults outside.old.input) (S.read_faults outside.new.input) }
+    ensures write_fault { result.1 ≡ ConnEnd.WriteFault → Rose (K.write_faults outside.old.output) (K.write_faults outside.new.output) }
+    ensures nothing_read { result.1 ≡ ConnEnd.Memory → S.left outside.new.input ≡ S.left outside.old.input }
 {
     let mut single = Single::new(shard);
-    let end = serve(alloc, desk, &mut single, source, sink, clock);
+    let end = serve(
+        alloc,
+        desk,
+        &mut single,
+        &mut outside.input,
+        &mut outside.output,
+        clock,
+    );
     let shard = single.end();
     let (folder, _past) = shard.end();
     (folder, end)
@@ -92,28 +94,27 @@ fn end_of(fault: StartFault) -> OnceEnd
 }
 
 /// Opens a shard over the folder at the clock's first moment, and serves the connection over it.
-fn once_over<S: Source, K: Sink, F: Folder, C: Clock>(
+fn once_over<S: Source, K: Sink, F: Folder, N: Listener, D: Dialer, C: Clock>(
     alloc: Global,
     key: Key,
     base: Bytes,
     folder: F,
-    source: &mut S,
-    sink: &mut K,
     clock: &mut C,
+    outside: &mut Outside<S, K, F, N, D, C>,
 ) -> (F, OnceEnd)
     requires { is_base base ≡ true }
-    ensures runs { OnceRuns F.files F.faults key base result.1 (S.left source.old) (C.moments clock.old) (C.moments clock.new)
-        (K.held sink.old) (K.held sink.new) folder result.0 }
-    ensures untouched { Untouched result.1 source.old source.new sink.old sink.new }
-    ensures read_fault { result.1 ≡ OnceEnd.Served ConnEnd.ReadFault → Rose (S.read_faults source.old) (S.read_faults source.new) }
-    ensures write_fault { result.1 ≡ OnceEnd.Served ConnEnd.WriteFault → Rose (K.write_faults sink.old) (K.write_faults sink.new) }
-    ensures nothing_read { result.1 ≡ OnceEnd.Served ConnEnd.Memory → S.left source.new ≡ S.left source.old }
+    ensures runs { OnceRuns ⟦<Outside<S, K, F, N, D, C> as Meant<S, K, F, N, D, C, N::Link>>⟧.meanings key base result.1 folder result.0 clock.old clock.new outside.old outside.new }
+    ensures others { outside.new ≡ record outside.old { input = outside.new.input; output = outside.new.output } }
+    ensures untouched { Untouched result.1 outside.old outside.new }
+    ensures read_fault { result.1 ≡ OnceEnd.Served ConnEnd.ReadFault → Rose (S.read_faults outside.old.input) (S.read_faults outside.new.input) }
+    ensures write_fault { result.1 ≡ OnceEnd.Served ConnEnd.WriteFault → Rose (K.write_faults outside.old.output) (K.write_faults outside.new.output) }
+    ensures nothing_read { result.1 ≡ OnceEnd.Served ConnEnd.Memory → S.left outside.new.input ≡ S.left outside.old.input }
 {
     let opened = clock.now();
     let desk = Desk::new(key, base, opened);
     match Shard::start(alloc, folder, None, CAPACITY, opened, 1) {
         Ok(shard) => {
-            let (folder, end) = serve_over(alloc, &desk, shard, source, sink, clock);
+            let (folder, end) = serve_over(alloc, &desk, shard, clock, outside);
             (folder, OnceEnd::Served(end))
         }
         Err(refused) => {
@@ -124,33 +125,32 @@ fn once_over<S: Source, K: Sink, F: Folder, C: Clock>(
 }
 
 /// The same with the one folder and the one clock in their lists.
-fn once_in<S: Source, K: Sink, F: Folder, C: Clock>(
+fn once_in<S: Source, K: Sink, F: Folder, N: Listener, D: Dialer, C: Clock>(
     alloc: Global,
     key: Key,
     base: Bytes,
-    folders: &mut Vec<F>,
-    source: &mut S,
-    sink: &mut K,
-    clocks: &mut Vec<C>,
+    outside: &mut Outside<S, K, F, N, D, C>,
 ) -> OnceEnd
     requires base { is_base base ≡ true }
-    requires folders { length folders.old.items ≡ 1 }
-    requires clocks { length clocks.old.items ≡ 1 }
-    ensures runs { OnceRunsIn F.files F.faults C.moments key base result (S.left source.old) (K.held sink.old) (K.held sink.new)
-        folders.old.items folders.new.items clocks.old.items clocks.new.items }
-    ensures untouched { Untouched result source.old source.new sink.old sink.new }
-    ensures read_fault { result ≡ OnceEnd.Served ConnEnd.ReadFault → Rose (S.read_faults source.old) (S.read_faults source.new) }
-    ensures write_fault { result ≡ OnceEnd.Served ConnEnd.WriteFault → Rose (K.write_faults sink.old) (K.write_faults sink.new) }
-    ensures nothing_read { result ≡ OnceEnd.Served ConnEnd.Memory → S.left source.new ≡ S.left source.old }
+    requires folders { length outside.old.folders.items ≡ 1 }
+    requires clocks { length outside.old.clocks.items ≡ 1 }
+    ensures runs { OnceRunsIn ⟦<Outside<S, K, F, N, D, C> as Meant<S, K, F, N, D, C, N::Link>>⟧.meanings key base result outside.old outside.new }
+    ensures others { outside.new
+        ≡ record outside.old { input = outside.new.input; output = outside.new.output; folders = outside.new.folders; clocks = outside.new.clocks } }
+    ensures untouched { Untouched result outside.old outside.new }
+    ensures read_fault { result ≡ OnceEnd.Served ConnEnd.ReadFault → Rose (S.read_faults outside.old.input) (S.read_faults outside.new.input) }
+    ensures write_fault { result ≡ OnceEnd.Served ConnEnd.WriteFault → Rose (K.write_faults outside.old.output) (K.write_faults outside.new.output) }
+    ensures nothing_read { result ≡ OnceEnd.Served ConnEnd.Memory → S.left outside.new.input ≡ S.left outside.old.input }
 {
-    let Some(folder) = folders.pop() else {
+    let Some(folder) = outside.folders.pop() else {
         unreachable!()
     };
-    let (folder, end) = once_over(alloc, key, base, folder, source, sink, &mut clocks[0]);
-    match folders.push(folder) {
-        Ok(()) => {}
-        Err(_) => unreachable!(),
-    }
+    let Some(mut clock) = outside.clocks.pop() else {
+        unreachable!()
+    };
+    let (folder, end) = once_over(alloc, key, base, folder, &mut clock, outside);
+    outside.folders.push_reserved(folder);
+    outside.clocks.push_reserved(clock);
     end
 }
 
@@ -242,14 +242,6 @@ pub fn run_once<S: Source, K: Sink, F: Folder, N: Listener, D: Dialer, C: Clock>
     let Ok(base) = Bytes::from_slice(alloc, base.as_bytes()) else {
         return want(outside);
     };
-    let end = once_in(
-        alloc,
-        key,
-        base,
-        &mut outside.folders,
-        &mut outside.input,
-        &mut outside.output,
-        &mut outside.clocks,
-    );
+    let end = once_in(alloc, key, base, outside);
     finish(alloc, &mut outside.notes, &end)
 }

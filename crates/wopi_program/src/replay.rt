@@ -47,14 +47,20 @@ fn write_summary<K: Sink>(alloc: Global, schedule: &Schedule, output: &mut K) ->
 }
 
 /// Runs the schedule that the whole input is, or tells its first bad line, and gives the status.
-fn replay_input<S: Source, K: Sink>(alloc: Global, input: &mut S, output: &mut K) -> u8
-    ensures replays { InputReplays K.held (S.left input.old) (S.left input.new) result output.old output.new }
-    ensures read_cause { result ≡ 3 → Rose (S.read_faults input.old) (S.read_faults input.new) }
-    ensures write_cause { result ≡ 4 → Rose (K.write_faults output.old) (K.write_faults output.new) }
+fn replay_input<S: Source, K: Sink, F: Folder, N: Listener, D: Dialer, C: Clock>(
+    alloc: Global,
+    outside: &mut Outside<S, K, F, N, D, C>,
+) -> u8
+    ensures replays { InputReplays ⟦<Outside<S, K, F, N, D, C> as Meant<S, K, F, N, D, C, N::Link>>⟧.meanings result outside.old outside.new }
+    ensures read_cause { result ≡ 3 → Rose (S.read_faults outside.old.input) (S.read_faults outside.new.input) }
+    ensures write_cause { result ≡ 4 → Rose (K.write_faults outside.old.output) (K.write_faults outside.new.output) }
+    ensures others { outside.new ≡ record outside.old { input = outside.new.input; output = outside.new.output } }
 {
-    match read_schedule(alloc, input) {
-        Ok(schedule) => return write_trace(alloc, &schedule, output),
-        Err(InputFault::BadLine { line }) => return refuse_script(alloc, output, line),
+    match read_schedule(alloc, &mut outside.input) {
+        Ok(schedule) => return write_trace(alloc, &schedule, &mut outside.output),
+        Err(InputFault::BadLine { line }) => {
+            return refuse_script(alloc, &mut outside.output, line);
+        }
         Err(InputFault::Read) => return 3,
         Err(InputFault::Memory) => return 6,
     }
@@ -73,16 +79,21 @@ fn replay_generated<K: Sink>(alloc: Global, seed: u64, count: u32, output: &mut 
 }
 
 /// Runs the schedule that is asked for, and gives the status.
-fn replay<S: Source, K: Sink>(alloc: Global, ask: ReplayAsk, input: &mut S, output: &mut K) -> u8
+fn replay<S: Source, K: Sink, F: Folder, N: Listener, D: Dialer, C: Clock>(
+    alloc: Global,
+    ask: ReplayAsk,
+    outside: &mut Outside<S, K, F, N, D, C>,
+) -> u8
     requires { (seed : ℕ) (count : ℕ) → ask ≡ ReplayAsk.Generated seed count → count ≤ 10000 }
-    ensures replays { AskReplays S.left K.held ask result input.old input.new output.old output.new }
-    ensures read_cause { result ≡ 3 → Rose (S.read_faults input.old) (S.read_faults input.new) }
-    ensures write_cause { result ≡ 4 → Rose (K.write_faults output.old) (K.write_faults output.new) }
+    ensures replays { AskReplays ⟦<Outside<S, K, F, N, D, C> as Meant<S, K, F, N, D, C, N::Link>>⟧.meanings ask result outside.old outside.new }
+    ensures read_cause { result ≡ 3 → Rose (S.read_faults outside.old.input) (S.read_faults outside.new.input) }
+    ensures write_cause { result ≡ 4 → Rose (K.write_faults outside.old.output) (K.write_faults outside.new.output) }
+    ensures others { outside.new ≡ record outside.old { input = outside.new.input; output = outside.new.output } }
 {
     match ask {
-        ReplayAsk::Input => return replay_input(alloc, input, output),
+        ReplayAsk::Input => return replay_input(alloc, outside),
         ReplayAsk::Generated { seed, count } => {
-            return replay_generated(alloc, seed, count, output);
+            return replay_generated(alloc, seed, count, &mut outside.output);
         }
     }
 }
@@ -101,7 +112,7 @@ pub fn run_replay<S: Source, K: Sink, F: Folder, N: Listener, D: Dialer, C: Cloc
     let Some(ask) = replay_words(words) else {
         unreachable!()
     };
-    let status = replay(alloc, ask, &mut outside.input, &mut outside.output);
+    let status = replay(alloc, ask, outside);
     note_edit(&mut outside.notes, status);
     status
 }

@@ -63,16 +63,6 @@ pub fn run_serve<
     let Ok(base) = Bytes::from_slice(alloc, base.as_bytes()) else {
         return want(outside);
     };
-    let end = serve_in(
-        rt,
-        alloc,
-        key,
-        base,
-        ask.capacity,
-        &mut outside.folders,
-        &mut outside.listeners,
-        &mut outside.clocks,
-        &mut outside.output,
-    );
+    let end = serve_in(rt, alloc, key, base, ask, outside);
     finish(alloc, &mut outside.notes, &end)
 }

@@ -6,7 +6,7 @@ ghost use Rattle.outside.specs.Stream.{GrewByPrefix};
 ghost use Rattle.wopi_program.specs.Notes.{NotesFor};
 ghost use Rattle.wopi_program.specs.Telling.{TextEnds, UsageEnds, Wants, help_text, version_text};
 
-use crate::{Outside, note};
+use crate::{Meant, Outside, note};
 use outside::{Clock, Dialer, Failed, Folder, Listener, Sink, Source, write_whole};
 
 /// Writes a text to the output, and gives the status.
@@ -37,7 +37,7 @@ pub fn tell<S: Source, K: Sink, F: Folder, N: Listener, D: Dialer, C: Clock>(
     outside: &mut Outside<S, K, F, N, D, C>,
     text: &[u8],
 ) -> u8
-    ensures { TextEnds K.held K.write_faults text.now result outside.old outside.new }
+    ensures { TextEnds ⟦<Outside<S, K, F, N, D, C> as Meant<S, K, F, N, D, C, N::Link>>⟧.meanings text.now result outside.old outside.new }
 {
     let status = say(&mut outside.output, text);
     note_status(&mut outside.notes, status);
@@ -48,7 +48,7 @@ pub fn tell<S: Source, K: Sink, F: Folder, N: Listener, D: Dialer, C: Clock>(
 pub(crate) fn want<S: Source, K: Sink, F: Folder, N: Listener, D: Dialer, C: Clock>(
     outside: &mut Outside<S, K, F, N, D, C>,
 ) -> u8
-    ensures { Wants K.held K.write_faults result outside.old outside.new }
+    ensures { Wants ⟦<Outside<S, K, F, N, D, C> as Meant<S, K, F, N, D, C, N::Link>>⟧.meanings result outside.old outside.new }
 {
     note(&mut outside.notes, b"out of memory\n");
     6
@@ -74,7 +74,7 @@ pub fn version() -> &'static [u8]
 pub fn refuse<S: Source, K: Sink, F: Folder, N: Listener, D: Dialer, C: Clock>(
     outside: &mut Outside<S, K, F, N, D, C>,
 ) -> u8
-    ensures { UsageEnds K.held K.write_faults result outside.old outside.new }
+    ensures { UsageEnds ⟦<Outside<S, K, F, N, D, C> as Meant<S, K, F, N, D, C, N::Link>>⟧.meanings result outside.old outside.new }
 {
     note(&mut outside.notes, b"usage\n");
     2

@@ -9,7 +9,7 @@ returns-clause-ran g c =
       written = runs.written;
       sent = runs.made.exchanges;
       runs = runs.made.are;
-      output = c.finish.ensures.tells runs.written (g.K.Sink.held c.args.output.now) runs.grew;
+      output = c.finish.ensures.tells runs.written (g.K.Sink.held c.args.outside.now.output) runs.grew;
       exchanges = runs.made.grew;
       lost = runs.made.lost;
     }

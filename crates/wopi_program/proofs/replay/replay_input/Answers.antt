@@ -6,7 +6,7 @@ use Rattle.wopi_program.proofs.replay.replay_input.Goals as goal
 
 pub returns-in-Ok-clause-replays : goal.returns-in-Ok-clause-replays
 returns-in-Ok-clause-replays g c =
-    traced_of g.K.Sink.held _ _ c.in-Ok.schedule c.write_trace.result _ _ c.in-Ok.ensures.read c.in-Ok.ensures.whole c.write_trace.ensures.replays
+    traced_of _ c.in-Ok.schedule c.write_trace.result _ _ c.in-Ok.ensures.read c.in-Ok.ensures.whole c.write_trace.ensures.replays
 
 pub returns-in-Ok-clause-read_cause : goal.returns-in-Ok-clause-read_cause
 returns-in-Ok-clause-read_cause g c = λ three.
@@ -15,7 +15,7 @@ returns-in-Ok-clause-read_cause g c = λ three.
 pub returns-in-Err-BadLine-clause-replays : goal.returns-in-Err-BadLine-clause-replays
 returns-in-Err-BadLine-clause-replays g c = inr (inl (record {
   number = c.in-Err-BadLine.line;
-  bad = subst (λ (fault : InputFault). IsInputRead (g.S.Source.left c.args.input.now) (Err fault)) c.in-Err-BadLine.field-0-is c.in-Err-BadLine.ensures.read;
+  bad = subst (λ (fault : InputFault). IsInputRead (g.S.Source.left c.args.outside.now.input) (Err fault)) c.in-Err-BadLine.field-0-is c.in-Err-BadLine.ensures.read;
   told = c.refuse_script.ensures.told;
 }))
 
