@@ -1,9 +1,12 @@
 -- The row of `serve` in the table of words.
-use Rattle.std.proofs.Common.{◌≡◌, ◌≢◌, ◌↔◌, ℕ, suc, ◌<◌, List, [], ◌∷◌, None, Some, Option, true, length, map, get_or, drop, codes, refl, sym, ap, ◌∙◌, subst, arith}
+use Rattle.std.proofs.Common.{◌≡◌, ◌↔◌, ℕ, suc, ◌<◌, ◌≤◌, ◌+◌, ◌^◌, Bool, true, false, if◌then◌else◌, List, [], ◌∷◌, None, Some, Option, IfSome, length, map, get_or, drop, codes, refl, sym, ap, ◌∙◌, subst, arith}
+use Rattle.std.specs.Option.{option_len}
+use Rattle.std.specs.Str.{bytes_eq}
 use Rattle.access_tokens.specs.Key.{IsHexOf}
 use Rattle.host_server.specs.Bases.{is_base}
 use Rattle.wopi_program.specs.declared.serve_words.ServeAsk.{ServeAsk}
-use Rattle.wopi_program.specs.ServeWords.{IsServe, IsServeRow, asked_of, options_of}
+use Rattle.wopi_program.specs.declared.serve_words.ServeOptions.{ServeOptions}
+use Rattle.wopi_program.specs.ServeWords.{IsServe, IsServeRow, asked_of, before_others, number_in, option_before, options_of, unless_told, with_each, with_first, with_journal}
 
 -- a list with these six things at its front
 pub six_items : {A : Type 0} (xs : List A) (u v w x y z : A) → 5 < length xs
@@ -17,31 +20,81 @@ six_items (p ∷ q ∷ r ∷ s ∷ []) u v w x y z some a b c d e f = absurd (om
 six_items (p ∷ q ∷ r ∷ s ∷ t ∷ []) u v w x y z some a b c d e f = absurd (omega (arith, some))
 six_items (p ∷ q ∷ r ∷ s ∷ t ∷ o ∷ xs) u v w x y z some a b c d e f = cc
 
+-- how many options were told
+abbrev told_many : ServeOptions → ℕ
+told_many told = option_len told.journal + (option_len told.each + option_len told.first)
+
+few_len : (number : Option ℕ) → option_len number ≤ 1
+few_len None = omega arith
+few_len (Some number) = omega arith
+
+few_told : (told : ServeOptions) → told_many told ≤ 3
+few_told told = let a = few_len told.journal in let b = few_len told.each in let c = few_len told.first in omega (arith, a, b, c)
+
+-- what is told with one option more
+abbrev IsMore : ServeOptions → Option ServeOptions → Type 0
+IsMore options result = IfSome result (λ told. told_many told ≡ told_many options + 1)
+
+journal_more : (journal number : Option ℕ) (options : ServeOptions) → options.journal ≡ journal → IsMore options (with_journal options (unless_told journal number))
+journal_more (Some told) number options is = tt
+journal_more None None options is = tt
+journal_more None (Some number) options is = let none : option_len options.journal ≡ 0 = ap option_len is in omega (arith, none)
+
+each_more : (each number : Option ℕ) (options : ServeOptions) → options.each ≡ each → IsMore options (with_each options (unless_told each number))
+each_more (Some told) number options is = tt
+each_more None None options is = tt
+each_more None (Some number) options is = let none : option_len options.each ≡ 0 = ap option_len is in omega (arith, none)
+
+first_more : (first number : Option ℕ) (options : ServeOptions) → options.first ≡ first → IsMore options (with_first options (unless_told first number))
+first_more (Some told) number options is = tt
+first_more None None options is = tt
+first_more None (Some number) options is = let none : option_len options.first ≡ 0 = ap option_len is in omega (arith, none)
+
+either : {X : Type 0} (P : X → Type 0) (test : Bool) (x y : X) → P x → P y → P (if test then x else y)
+either P true x y p q = p
+either P false x y p q = q
+
+before_more : (name word : List ℕ) (options : ServeOptions) → IsMore options (option_before name word options)
+before_more name word options =
+    either (IsMore options) (bytes_eq name (codes "--journal")) _ _ (journal_more options.journal (number_in 32768 word) options refl)
+    (either (IsMore options) (bytes_eq name (codes "--each")) _ _ (each_more options.each (number_in 1000000 word) options refl)
+    (either (IsMore options) (bytes_eq name (codes "--first")) _ _ (first_more options.first (number_in (10 ^ 18) word) options refl) tt))
+
+-- each option has two words
+abbrev HaveTwo : ℕ → Option ServeOptions → Type 0
+HaveTwo words result = IfSome result (λ told. words ≡ told_many told + told_many told)
+
+two_more : (result : Option ServeOptions) (options : ServeOptions) (words : ℕ) → IsMore options result → words ≡ told_many options + told_many options
+    → HaveTwo (suc (suc words)) result
+two_more None options words more two = tt
+two_more (Some told) options words more two = omega (arith, more, two)
+
+two_before : (name word : List ℕ) (others : Option ServeOptions) (words : ℕ) → HaveTwo words others → HaveTwo (suc (suc words)) (before_others name word others)
+two_before name word None words two = tt
+two_before name word (Some options) words two = two_more (option_before name word options) options words (before_more name word options) two
+
+have_two : (words : List (List ℕ)) → HaveTwo (length words) (options_of words)
+have_two [] = refl
+have_two (name ∷ []) = tt
+have_two (name ∷ word ∷ words) = two_before name word (options_of words) (length words) (have_two words)
+
+none_told : (result : Option ServeOptions) (words : ℕ) → 6 < words → HaveTwo words result → None ≡ result
+none_told None words many two = refl
+none_told (Some told) words many two = let few = few_told told in absurd (omega (arith, many, two, few))
+
 module _ {A : Type 0} (f : A → List ℕ) where
   many_mapped : (xs : List A) → length (map f xs) ≡ length xs
   many_mapped [] = refl
   many_mapped (x ∷ xs) = ap suc (many_mapped xs)
 
-  -- words of another number than none, two and four are no options
+  -- more words than those of three options are no options, nor is one
+  pub many_words : (xs : List A) → 6 < length xs → None ≡ options_of (map f xs)
+  many_words xs many = none_told (options_of (map f xs)) (length (map f xs)) (subst (λ n. 6 < n) (sym (many_mapped xs)) many) (have_two (map f xs))
+
   pub one_word : (xs : List A) → 0 < length xs → length xs < 2 → None ≡ options_of (map f xs)
   one_word [] some few = absurd (omega (arith, some))
   one_word (p ∷ []) some few = refl
   one_word (p ∷ q ∷ xs) some few = absurd (omega (arith, few))
-
-  pub three_words : (xs : List A) → 2 < length xs → length xs < 4 → None ≡ options_of (map f xs)
-  three_words [] some few = absurd (omega (arith, some))
-  three_words (p ∷ []) some few = absurd (omega (arith, some))
-  three_words (p ∷ q ∷ []) some few = absurd (omega (arith, some))
-  three_words (p ∷ q ∷ r ∷ []) some few = refl
-  three_words (p ∷ q ∷ r ∷ s ∷ xs) some few = absurd (omega (arith, few))
-
-  pub five_words : (xs : List A) → 4 < length xs → None ≡ options_of (map f xs)
-  five_words [] some = absurd (omega (arith, some))
-  five_words (p ∷ []) some = absurd (omega (arith, some))
-  five_words (p ∷ q ∷ []) some = absurd (omega (arith, some))
-  five_words (p ∷ q ∷ r ∷ []) some = absurd (omega (arith, some))
-  five_words (p ∷ q ∷ r ∷ s ∷ []) some = absurd (omega (arith, some))
-  five_words (p ∷ q ∷ r ∷ s ∷ t ∷ xs) some = refl
 
   -- nor are fewer than six a row
   pub too_few : (xs : List A) → length xs < 6 → IsServe (map f xs) → ⊥

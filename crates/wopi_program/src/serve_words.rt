@@ -1,6 +1,6 @@
 //! The words of the command `serve`.
-ghost use Rattle.std.specs.Prelude.{◌≡◌, ◌≤◌, ◌↔◌, ℕ, List, map, string_bytes, IfSome, IfNone, Some};
-ghost use Rattle.wopi_program.specs.ServeWords.{IsServe, IsServeRow, asked, asked_of, number_in, one_option, options_of, pair_of, two_options};
+ghost use Rattle.std.specs.Prelude.{◌≡◌, ◌≤◌, ◌^◌, ◌↔◌, ℕ, List, map, string_bytes, IfSome, IfNone, Some};
+ghost use Rattle.wopi_program.specs.ServeWords.{AreBounded, IsServe, IsServeRow, asked, asked_of, number_in, option_before, options_of, unless_told, with_each, with_first, with_journal};
 
 use crate::once_words::is_base;
 use access_tokens::Key;
@@ -15,6 +15,12 @@ const ENTRIES: u32 = 4096;
 /// The most connections of a worker, and how many it serves where the words name no number.
 const LINKS: u32 = 1000000;
 
+/// The greatest version that a host can begin with.
+const MOST_FIRST: u64 = 1_000_000_000_000_000_000;
+
+/// The version that a host begins with where the words name no number.
+const FIRST: u64 = 1;
+
 /// The numbers in the words of `serve`.
 #[derive(Clone, Copy, Debug, PartialEq, Eq)]
 pub struct ServeAsk {
@@ -24,109 +30,157 @@ pub struct ServeAsk {
     pub capacity: u32,
     /// After how many connections a worker ends.
     pub each: u32,
+    /// The version of each file that stands in the folder at the opening.
+    pub first: u64,
 }
 
+/// The numbers of the options, each where its option stands there.
+#[derive(Clone, Copy, Debug, PartialEq, Eq)]
+pub(crate) struct ServeOptions {
+    pub(crate) journal: Option<u32>,
+    pub(crate) each: Option<u32>,
+    pub(crate) first: Option<u64>,
+}
+
+const NO_OPTIONS: ServeOptions = ServeOptions {
+    journal: None,
+    each: None,
+    first: None,
+};
+
 /// The number that the word writes, if it is from 1 to the most.
-fn number_in(word: &str, most: u32) -> Option<u32>
+fn number_in(word: &str, most: u64) -> Option<u64>
     ensures value { result ≡ number_in most word.now }
     ensures fits { IfSome result (λ number. (1 ≤ number) × (number ≤ most)) }
 {
     match decimal_read(word.as_bytes()) {
         None => None,
         Some(number) => {
-            if number == 0 || number > most as u64 {
+            if number == 0 || number > most {
                 None
             } else {
-                Some(number as u32)
+                Some(number)
             }
         }
     }
 }
 
-fn pair(capacity: Option<u32>, each: Option<u32>) -> Option<(u32, u32)>
-    ensures value { result ≡ pair_of capacity each }
-    ensures first { IfSome result (λ row. capacity ≡ Some row.0) }
+/// The same of a most that is small.
+fn small_in(word: &str, most: u32) -> Option<u32>
+    ensures value { result ≡ number_in most word.now }
+    ensures fits { IfSome result (λ number. (1 ≤ number) × (number ≤ most)) }
 {
-    match capacity {
+    match number_in(word, most as u64) {
         None => None,
-        Some(capacity) => match each {
+        Some(number) => Some(number as u32),
+    }
+}
+
+/// The options with `--journal` in front of them.
+fn with_journal(options: ServeOptions, word: &str) -> Option<ServeOptions>
+    ensures value { result ≡ with_journal options (unless_told options.journal (number_in 32768 word.now)) }
+    ensures fits { AreBounded options → IfSome result AreBounded }
+{
+    match options.journal {
+        Some(_) => None,
+        None => match small_in(word, MOST_ENTRIES) {
             None => None,
-            Some(each) => Some((capacity, each)),
+            Some(number) => Some(ServeOptions {
+                journal: Some(number),
+                ..options
+            }),
         },
     }
 }
 
-/// The numbers of one option.
-fn one_option(name: &str, word: &str) -> Option<(u32, u32)>
-    ensures value { result ≡ one_option name.now word.now }
-    ensures fits { IfSome result (λ row. (1 ≤ row.0) × (row.0 ≤ 32768)) }
+/// The options with `--each` in front of them.
+fn with_each(options: ServeOptions, word: &str) -> Option<ServeOptions>
+    ensures value { result ≡ with_each options (unless_told options.each (number_in 1000000 word.now)) }
+    ensures fits { AreBounded options → IfSome result AreBounded }
+{
+    match options.each {
+        Some(_) => None,
+        None => match small_in(word, LINKS) {
+            None => None,
+            Some(number) => Some(ServeOptions {
+                each: Some(number),
+                ..options
+            }),
+        },
+    }
+}
+
+/// The options with `--first` in front of them.
+fn with_first(options: ServeOptions, word: &str) -> Option<ServeOptions>
+    ensures value { result ≡ with_first options (unless_told options.first (number_in (10 ^ 18) word.now)) }
+    ensures fits { AreBounded options → IfSome result AreBounded }
+{
+    match options.first {
+        Some(_) => None,
+        None => match number_in(word, MOST_FIRST) {
+            None => None,
+            Some(number) => Some(ServeOptions {
+                first: Some(number),
+                ..options
+            }),
+        },
+    }
+}
+
+/// An option in front of others.
+fn option_before(name: &str, word: &str, options: ServeOptions) -> Option<ServeOptions>
+    ensures value { result ≡ option_before name.now word.now options }
+    ensures fits { AreBounded options → IfSome result AreBounded }
 {
     if name == "--journal" {
-        pair(number_in(word, MOST_ENTRIES), Some(LINKS))
+        with_journal(options, word)
     } else if name == "--each" {
-        pair(Some(ENTRIES), number_in(word, LINKS))
+        with_each(options, word)
+    } else if name == "--first" {
+        with_first(options, word)
     } else {
         None
     }
 }
 
-/// The numbers of two options, in either order.
-fn two_options(first: &str, one: &str, second: &str, other: &str) -> Option<(u32, u32)>
-    ensures value { result ≡ two_options first.now one.now second.now other.now }
-    ensures fits { IfSome result (λ row. (1 ≤ row.0) × (row.0 ≤ 32768)) }
-{
-    if first == "--journal" {
-        if second == "--each" {
-            pair(number_in(one, MOST_ENTRIES), number_in(other, LINKS))
-        } else {
-            None
-        }
-    } else if first == "--each" {
-        if second == "--journal" {
-            pair(number_in(other, MOST_ENTRIES), number_in(one, LINKS))
-        } else {
-            None
-        }
-    } else {
-        None
-    }
-}
-
-/// The numbers of the options, each of which may stand there once.
-fn options(words: &[String]) -> Option<(u32, u32)>
+/// The numbers of the options, each of which may stand there once, in any order.
+fn options(words: &[String]) -> Option<ServeOptions>
     ensures value { result ≡ options_of (map string_bytes words.now) }
-    ensures fits { IfSome result (λ row. (1 ≤ row.0) × (row.0 ≤ 32768)) }
+    ensures fits { IfSome result AreBounded }
 {
+    if words.len() > 6 {
+        return None;
+    }
     match words {
-        [] => Some((ENTRIES, LINKS)),
-        [name, word] => one_option(name.as_str(), word.as_str()),
-        [first, one, second, other] => two_options(
-            first.as_str(),
-            one.as_str(),
-            second.as_str(),
-            other.as_str(),
-        ),
+        [] => Some(NO_OPTIONS),
+        [name, word, rest @ ..] => match options(rest) {
+            None => None,
+            Some(others) => option_before(name.as_str(), word.as_str(), others),
+        },
         _ => None,
     }
 }
 
-/// The numbers together.
-fn asked(port: Option<u32>, workers: Option<u32>, limits: Option<(u32, u32)>) -> Option<ServeAsk>
-    ensures value { result ≡ asked port workers limits }
+/// The numbers together, each option's own or that which stands for it where it is missing.
+fn asked(port: Option<u32>, workers: Option<u32>, options: Option<ServeOptions>) -> Option<ServeAsk>
+    requires { IfSome options AreBounded }
+    ensures value { result ≡ asked port workers options }
     ensures workers { IfSome result (λ ask. workers ≡ Some ask.workers) }
-    ensures limits { IfSome result (λ ask. limits ≡ Some (ask.capacity, ask.each)) }
+    ensures capacity { IfSome result (λ ask. (1 ≤ ask.capacity) × (ask.capacity ≤ 32768)) }
+    ensures first { IfSome result (λ ask. (1 ≤ ask.first) × (ask.first ≤ 10 ^ 18)) }
 {
     match port {
         None => None,
         Some(port) => match workers {
             None => None,
-            Some(workers) => match limits {
+            Some(workers) => match options {
                 None => None,
-                Some((capacity, each)) => Some(ServeAsk {
+                Some(options) => Some(ServeAsk {
                     port,
                     workers,
-                    capacity,
-                    each,
+                    capacity: options.journal.unwrap_or(ENTRIES),
+                    each: options.each.unwrap_or(LINKS),
+                    first: options.first.unwrap_or(FIRST),
                 }),
             },
         },
@@ -138,12 +192,9 @@ fn asked_of(port: &str, workers: &str, rest: &[String]) -> Option<ServeAsk>
     ensures value { result ≡ asked_of port.now workers.now (map string_bytes rest.now) }
     ensures workers { IfSome result (λ ask. (1 ≤ ask.workers) × (ask.workers ≤ 16)) }
     ensures capacity { IfSome result (λ ask. (1 ≤ ask.capacity) × (ask.capacity ≤ 32768)) }
+    ensures first { IfSome result (λ ask. (1 ≤ ask.first) × (ask.first ≤ 10 ^ 18)) }
 {
-    asked(
-        number_in(port, 65535),
-        number_in(workers, 16),
-        options(rest),
-    )
+    asked(small_in(port, 65535), small_in(workers, 16), options(rest))
 }
 
 /// The key, the base and the numbers in the words of `serve`, if the words are that command's.
@@ -151,6 +202,7 @@ pub(crate) fn serve_words(words: &[String]) -> Option<(Key, &str, ServeAsk)>
     ensures some { IfSome result (λ row. IsServeRow (map string_bytes words.now) row.0 row.1.now row.2) }
     ensures workers { IfSome result (λ row. (1 ≤ row.2.workers) × (row.2.workers ≤ 16)) }
     ensures capacity { IfSome result (λ row. (1 ≤ row.2.capacity) × (row.2.capacity ≤ 32768)) }
+    ensures first { IfSome result (λ row. (1 ≤ row.2.first) × (row.2.first ≤ 10 ^ 18)) }
     ensures none { IfNone result (¬ IsServe (map string_bytes words.now)) }
 {
     match words {
