@@ -14,7 +14,7 @@ returns-in-Err-clause-runs g c =
 
 pub serve_opened-requires-clause-first : goal.serve_opened-requires-clause-first
 serve_opened-requires-clause-first g c κs within =
-    let fact = ready_at_start g.F.Folder.files g.F.Folder.faults c.replace-folders.result.items c.args.ask.capacity c.first_moment-opened.result 1 c.in-Ok-start.begun.0 c.in-Ok-start.begun.1 c.in-Ok-start.ensures.starts in
+    let fact = ready_at_start g.F.Folder.files g.F.Folder.faults c.replace-folders.result.items c.args.ask.capacity c.first_moment-opened.result c.args.ask.first c.in-Ok-start.begun.0 c.in-Ok-start.begun.1 c.in-Ok-start.ensures.starts in
     search (rules, fact)
 
 pub returns-in-Ok-start-clause-runs : goal.returns-in-Ok-start-clause-runs
