@@ -1,16 +1,19 @@
 -- What is read off a running world at its end is what the world's texts say.
 use Rattle.std.proofs.Common.{◌≡◌, ◌==◌, ℕ, zero, suc, ◌+◌, ◌≤◌, Bool, true, false, cond, List, [], ◌∷◌, ◌++◌, length, map, filter, take, Some, codes, refl, sym, ap, ◌∙◌, subst, arith}
 use Rattle.std.specs.Prelude.{sum_by}
-use Rattle.std.specs.List.{slice_get, flat_map}
+use Rattle.std.specs.List.{Contains, slice_get, flat_map}
 use Rattle.std.proofs.lemmas.List.{length-map, flat_map_more}
+use Rattle.std.proofs.lemmas.Option.{get_or_from_slice_get, slice_get_within}
 use Rattle.std.proofs.Math.Seq.{take-length}
 use Rattle.std.proofs.lemmas.List.Sums.{sum_by-cons, sum_by-append}
 use Rattle.wopi_model.specs.Shard as shard
-use Rattle.wopi_model.specs.Shard.{Shard, AreNames, at_moment}
+use Rattle.wopi_model.specs.Shard.{Shard, AreNames, at_moment, opened_shard}
 use Rattle.wopi_headers.specs.declared.answer.Answer.{Answer}
+use Rattle.wopi_world.specs.History as past
 use Rattle.wopi_world.specs.Requests.{Client}
 use Rattle.wopi_world.specs.World as in_world
 use Rattle.wopi_world.specs.World.{World, Setting}
+use Rattle.host_core.specs.Entries.{history_of}
 use Rattle.host_core.specs.Value.{Book, state_of}
 use Rattle.host_server.specs.declared.desk.Desk.{Desk}
 use Rattle.replay_cmd.specs.declared.history.Item.{Item}
@@ -39,13 +42,29 @@ pub ends_shown : {F : Type 0} (book : Book F) (world : World) → StandsFor book
     → (names : List (List ℕ)) × AreNames world.shard names × (new ≡ old ++ ends_text names world)
 ends_shown book world stands old new told =
     let names : List (List ℕ) = told.0 in
-    let state : Shard = state_of book.opening book.opened book.made book.time in
+    let state : Shard = state_of book.opening book.opened book.first book.made book.time in
     let at_time : AreNames (at_moment world.shard book.time) names = subst (λ (s : Shard). AreNames s names) (sym stands.shard) told.1 in
     let same : state ≡ at_moment world.shard world.shard.now = sym stands.shard ∙ ap (at_moment world.shard) (sym stands.time) in (
       names,
       record { ordered = at_time.ordered; exact = λ name. at_time.exact name },
       told.2 ∙ ap (λ (s : Shard). old ++ flat_map (λ name. line_text (file_shown name (s.files name))) names) same,
     )
+
+-- a name that stands at a place is among them
+pub found : (names : List (List ℕ)) (k : ℕ) (name : List ℕ) → Some name ≡ slice_get names k → Contains names name
+found names k name at = (k, slice_get_within names k name (sym at), get_or_from_slice_get names k name name (sym at))
+
+-- the names were met
+pub met_names : {F : Type 0} (book : Book F) (names : List (List ℕ)) → AreNames (state_of book.opening book.opened book.first book.made book.time) names
+    → (name : List ℕ) → Contains names name → book.first ≤ (file_in book name).version
+met_names book names are name there =
+    let met = (are.exact name).0 there in
+    subst (λ (n : ℕ). n ≤ (file_in book name).version) (after_first (opened_shard book.opening book.opened book.first) (history_of book.made book.time)) met
+  where
+    after_first : (begun : Shard) (items : List shard.Item) → (shard.after begun items).first ≡ begun.first
+    after_first begun [] = refl
+    after_first begun (shard.Tick moment ∷ items) = after_first (at_moment begun moment) items
+    after_first begun (shard.Step entry ∷ items) = after_first (shard.after_entry (at_moment begun entry.moment) entry) items
 
 length_either : {A B : Type 0} (test test' : Bool) (x : A) (xs : List A) (y : B) (ys : List B) → test ≡ test' → length xs ≡ length ys
     → length (cond test (x ∷ xs) xs) ≡ length (cond test' (y ∷ ys) ys)
@@ -55,7 +74,7 @@ length_either true false x xs y ys e h = cc
 length_either false true x xs y ys e h = cc
 
 -- as many conflicts
-same_conflicts : (desk : Desk) (history : List shard.Item) (requests : List in_world.Request) (kept : List Reply) (replies : List in_world.Reply) → AreReplies desk history requests kept replies
+same_conflicts : (desk : Desk) (history : List past.Item) (requests : List in_world.Request) (kept : List Reply) (replies : List in_world.Reply) → AreReplies desk history requests kept replies
     → conflicts_in kept ≡ length (filter (λ reply. reply.ruling.status == 409) replies)
 same_conflicts desk history requests [] [] h = refl
 same_conflicts desk history requests [] (r ∷ replies) h = absurd h

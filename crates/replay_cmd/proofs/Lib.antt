@@ -1,3 +1,4 @@
+pub mod LastRun
 pub mod Hosting
 pub mod Machines
 pub mod Watching

@@ -1,12 +1,12 @@
 -- The replies that are kept, and what they tell.
-use Rattle.std.proofs.Common.{◌≡◌, ◌==◌, ℕ, zero, suc, ◌+◌, ◌-◌, ◌<◌, Bool, false, cond, List, [], ◌∷◌, ◌++◌, length, Option, None, Some, refl, ap, ◌∙◌, subst, arith}
+use Rattle.std.proofs.Common.{◌≡◌, ◌==◌, ℕ, zero, suc, ◌-◌, ◌<◌, Bool, false, cond, List, [], ◌∷◌, ◌++◌, length, Option, None, Some, refl, ap, ◌∙◌, subst, arith}
 use Rattle.std.proofs.lemmas.Bool.{cond_both}
 use Rattle.std.proofs.lemmas.List.{append-nil, length-append}
 use Rattle.std.specs.List.{slice_get}
 use Rattle.wopi_model.specs.declared.token.Token.{Token}
 use Rattle.wopi_model.specs.declared.calls.Ruling.{Ruling}
 use Rattle.wopi_model.specs.Act.{is_create}
-use Rattle.wopi_model.specs.Shard.{Item, Step, Entry}
+use Rattle.wopi_model.specs.Shard.{Step, Entry}
 use Rattle.wopi_headers.specs.declared.answer.Answer.{Answer}
 use Rattle.wopi_headers.specs.declared.answer.BodyKind.TheVariants.{Json}
 use Rattle.wopi_acts.specs.Answers.{ruling_told}
@@ -14,6 +14,7 @@ use Rattle.file_info.specs.Relative.{relative_text}
 use Rattle.host_server.specs.declared.desk.Desk.{Desk}
 use Rattle.host_server.specs.Telling.{told_of}
 use Rattle.host_server.specs.Copies.{file_told, address}
+use Rattle.wopi_world.specs.History.{Item, Ran}
 use Rattle.wopi_world.specs.World as in_world
 use Rattle.wopi_world.proofs.Lists.{get_left, get_new}
 use Rattle.replay_cmd.specs.declared.replies.Reply.{Reply}
@@ -40,12 +41,12 @@ plain_answer desk entry ruling plain =
     ap (λ (b : Bool). cond b (file_told desk entry.call.name entry.call.token entry.moment ruling) (told_of entry.call ruling)) plain
 
 -- the entry at the end of a history
-pub last_made : (history : List Item) (entry : Entry) (request : Option ℕ) (before : ℕ) (ruling : Ruling) → before < length (history ++ Step entry ∷ []) →
-    IsLastOf (history ++ Step entry ∷ []) (record { request = request; before = before; after = length (history ++ Step entry ∷ []); ruling = ruling }) entry
+pub last_made : (history : List Item) (entry : Entry) (request : Option ℕ) (before : ℕ) (ruling : Ruling) → before < length (history ++ Ran (Step entry) ∷ []) →
+    IsLastOf (history ++ Ran (Step entry) ∷ []) (record { request = request; before = before; after = length (history ++ Ran (Step entry) ∷ []); ruling = ruling }) entry
 last_made history entry request before ruling some =
-    let long = length-append history (Step entry ∷ []) in
-    let at : length (history ++ Step entry ∷ []) - 1 ≡ length history = omega (arith, long) in
-    record { some = some; there = ap (slice_get (history ++ Step entry ∷ [])) at ∙ get_new history (Step entry) }
+    let long = length-append history (Ran (Step entry) ∷ []) in
+    let at : length (history ++ Ran (Step entry) ∷ []) - 1 ≡ length history = omega (arith, long) in
+    record { some = some; there = ap (slice_get (history ++ Ran (Step entry) ∷ [])) at ∙ get_new history (Ran (Step entry)) }
 
 pub AreReplies-push : (desk : Desk) (history : List Item) (requests : List in_world.Request) (kept : List Reply) (replies : List in_world.Reply) (one : Reply) (reply : in_world.Reply)
     → AreReplies desk history requests kept replies → IsReply desk history requests one reply → AreReplies desk history requests (kept ++ one ∷ []) (replies ++ reply ∷ [])
@@ -67,7 +68,7 @@ AreReplies-more desk history later requests more (k ∷ kept) (r ∷ replies) h 
         before = one.before;
         after = one.after;
         entry = one.entry;
-        last = record { some = one.last.some; there = get_left history later (r.after - 1) (Step one.entry) one.last.there };
+        last = record { some = one.last.some; there = get_left history later (r.after - 1) (Ran (Step one.entry)) one.last.there };
         answer = one.answer;
         looks = λ place e. let l = one.looks place e in (l.0, get_left requests more place l.0 l.1, l.2);
       },

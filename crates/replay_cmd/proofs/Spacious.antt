@@ -1,12 +1,12 @@
 -- A shard with space isn't full, so that no answer is 500.
-use Rattle.std.proofs.Common.{◌≡◌, ◌≢◌, ◌≤◌, ◌<◌, ◌⊎◌, ◌+◌, ◌-◌, ◌*◌, ◌^◌, ◌==◌, ℕ, Bool, true, false, List, [], ◌∷◌, ◌++◌, length, map, replicate, sum_by, max, Some, refl, sym, ap, ◌∙◌, subst, inl, inr, arith}
+use Rattle.std.proofs.Common.{◌≡◌, ◌≢◌, ◌≤◌, ◌<◌, ◌+◌, ◌-◌, ◌*◌, ◌^◌, ℕ, List, [], ◌∷◌, ◌++◌, length, map, replicate, sum_by, max, Some, refl, sym, ap, ◌∙◌, subst, inl, inr, arith}
 use Rattle.std.specs.List.{AllByRecursion}
 use Rattle.std.proofs.lemmas.List.{append-nil, map-append, length-append, length-map}
 use Rattle.std.proofs.lemmas.List.Sums.{sum_by_push}
 use Rattle.wopi_model.specs.declared.calls.Act.{Act}
 use Rattle.wopi_model.specs.declared.calls.Act.TheVariants as act
 use Rattle.wopi_model.specs.declared.calls.Call.{Call}
-use Rattle.wopi_model.specs.Host.{FullAt, new_bytes, brings_contents, most_kept}
+use Rattle.wopi_model.specs.Host.{FullAt, new_bytes, most_kept}
 use Rattle.wopi_model.specs.Shard.{Entry, entries, stamps, last_from}
 use Rattle.wopi_headers.specs.declared.answer.Answer.{Answer}
 use Rattle.wopi_headers.specs.declared.ask.Ask.{Ask}
@@ -16,6 +16,7 @@ use Rattle.wopi_headers.specs.declared.ask.Target.{Target}
 use Rattle.wopi_headers.specs.declared.ask.Target.TheVariants.{Suggested, Relative}
 use Rattle.wopi_acts.specs.Acts.{act_of}
 use Rattle.wopi_world.specs.Journals.{AreCounted}
+use Rattle.wopi_world.specs.History.{last_run}
 use Rattle.wopi_world.specs.World.{World}
 use Rattle.save_session.specs.declared.state.SessionOp.{SessionOp}
 use Rattle.save_session.specs.declared.state.SessionOp.TheVariants as session_op
@@ -29,7 +30,7 @@ use Rattle.host_server.specs.declared.copying.Copying.{Copying}
 use Rattle.host_server.specs.Answering.{Ruled, unauthorized, ruled, full, copied, call_of, copying_of}
 use Rattle.host_server.specs.Copies.{Copied, Tried, look, create, tries}
 use Rattle.host_server.specs.Copies as copies
-use Rattle.host_server.specs.Deeds.{Deed, Made as DeedMade, Blocked, made, IsFull, IsBetween, FindsRoom, AreMet, Does}
+use Rattle.host_server.specs.Deeds.{Deed, Made as DeedMade, Blocked, made, IsFull, IsBetween, FindsRoom, AreMet}
 use Rattle.replay_cmd.specs.declared.history.Item.{Item}
 use Rattle.replay_cmd.specs.declared.history.Item.TheVariants as item
 use Rattle.replay_cmd.specs.Exchanges.{Exchanges, IsStored}
@@ -61,10 +62,10 @@ no_block old new before after call moment between is_full few last small = by_ca
     seen : entries (after.seen 0) ≡ old.own
     seen = between.always_after.own ∙ between.own_after ∙ append-nil old.own
 
-    at : FullAt (before.openings 0) before.opened before.capacity (after.seen 0) before.floor call moment
-    at = subst (λ (n : ℕ). FullAt (before.openings n) before.opened before.capacity (after.seen n) before.floor call moment) home is_full
+    at : FullAt (before.openings 0) before.opened before.first before.capacity (after.seen 0) before.floor call moment
+    at = subst (λ (n : ℕ). FullAt (before.openings n) before.opened before.first before.capacity (after.seen n) before.floor call moment) home is_full
 
-    by_cause : FullAt (before.openings 0) before.opened before.capacity (after.seen 0) before.floor call moment → ⊥
+    by_cause : FullAt (before.openings 0) before.opened before.first before.capacity (after.seen 0) before.floor call moment → ⊥
     by_cause (inl place) =
         let capacity : before.capacity ≡ old.capacity = between.first.capacity in
         let count : length (entries (after.seen 0)) ≡ length old.own = ap (λ (l : List Entry). length l) seen in
@@ -116,22 +117,22 @@ module _ {F : Type 0} (desk : Desk) (book book' : Book F) (world : World) (set :
   few : length own < 32000
   few =
       let count = space.fewer in
-      let held : length (entries world.history) ≤ 2 * space.count = space.within.held.few in
-      let same : length (entries world.history) ≡ length own = ap (λ (l : List Entry). length l) stands.entries in
+      let held : length (entries (last_run world.history)) ≤ 2 * space.count = space.within.held.few in
+      let same : length (entries (last_run world.history)) ≡ length own = ap (λ (l : List Entry). length l) stands.entries in
       omega (arith, count, held, same)
 
   last : last_from 0 (stamps own) < 32000
   last =
       let count = space.fewer in
-      let held : last_from 0 (stamps (entries world.history)) ≤ 2 * space.count = space.within.held.last in
-      let same : last_from 0 (stamps (entries world.history)) ≡ last_from 0 (stamps own) = ap (λ (l : List Entry). last_from 0 (stamps l)) stands.entries in
+      let held : last_from 0 (stamps (entries (last_run world.history))) ≤ 2 * space.count = space.within.held.last in
+      let same : last_from 0 (stamps (entries (last_run world.history))) ≡ last_from 0 (stamps own) = ap (λ (l : List Entry). last_from 0 (stamps l)) stands.entries in
       omega (arith, count, held, same)
 
   small : (bytes : ℕ) → bytes ≤ most_contents → (opening_bytes + sum_by kept_by own) + bytes ≤ most_kept
   small bytes short =
       let count = space.fewer in
-      let held : sum_by kept_by (entries world.history) ≤ most_contents * space.count = space.within.held.small in
-      let same : sum_by kept_by (entries world.history) ≡ sum_by kept_by own = ap (λ (l : List Entry). sum_by kept_by l) stands.entries in
+      let held : sum_by kept_by (entries (last_run world.history)) ≤ most_contents * space.count = space.within.held.small in
+      let same : sum_by kept_by (entries (last_run world.history)) ≡ sum_by kept_by own = ap (λ (l : List Entry). sum_by kept_by l) stands.entries in
       let begun : opening_bytes ≤ most_contents * most_lines = set.opening in
       omega (arith, count, held, same, begun, short)
 

@@ -1,8 +1,8 @@
 -- What a line of a schedule adds to a world.
-use Rattle.std.proofs.Common.{◌≡◌, ◌≤◌, ◌⊎◌, ◌+◌, ◌*◌, ◌==◌, ℕ, Bool, true, false, cond, ◌||◌, ◌&&◌, List, [], ◌∷◌, ◌++◌, length, sum_by, Option, None, Some, unwrap_or, refl, sym, ap, ◌∙◌, subst, inl, inr, arith}
+use Rattle.std.proofs.Common.{◌≡◌, ◌≤◌, ◌⊎◌, ◌+◌, ◌*◌, ◌==◌, ℕ, Bool, cond, ◌||◌, ◌&&◌, List, [], ◌∷◌, ◌++◌, length, sum_by, Option, None, Some, unwrap_or, refl, sym, ap, ◌∙◌, subst, inl, inr, arith}
 use Rattle.std.specs.Prelude.{⊤, nat_lt}
 use Rattle.std.proofs.lemmas.Bool.{cond_both}
-use Rattle.std.proofs.lemmas.List.{map-append, length-append, append-nil}
+use Rattle.std.proofs.lemmas.List.{map-append, length-append}
 use Rattle.std.proofs.lemmas.List.Sums.{sum_by_push}
 use Rattle.std.specs.List.{slice_get}
 use Rattle.wopi_headers.specs.declared.answer.Answer.{Answer}
@@ -15,9 +15,8 @@ use Rattle.wopi_model.specs.declared.calls.Call.{Call}
 use Rattle.wopi_model.specs.declared.calls.Ruling.{Ruling}
 use Rattle.wopi_model.specs.Host.{new_bytes}
 use Rattle.wopi_model.specs.Step.{bare}
-use Rattle.wopi_model.specs.Shard.{Item, Entry, Tick, Step, entries, stamps, last_from}
-use Rattle.wopi_model.proofs.Histories.{entries-append}
-use Rattle.wopi_acts.specs.Acts.{act_of, act_with}
+use Rattle.wopi_model.specs.Shard.{Entry, Tick, entries, stamps, last_from}
+use Rattle.wopi_acts.specs.Acts.{act_with}
 use Rattle.wopi_acts.specs.Answers.{ruling_told}
 use Rattle.save_session.specs.declared.input.Input.{Input}
 use Rattle.save_session.specs.declared.input.Input.TheVariants as input
@@ -32,9 +31,9 @@ use Rattle.save_session.specs.declared.state.Effect.TheVariants.{Sends, Tells, I
 use Rattle.save_session.specs.declared.state.Turn.{Turn}
 use Rattle.save_session.specs.declared.state.Waiting.{Waiting}
 use Rattle.save_session.specs.LockIds.{lock_id}
-use Rattle.save_session.specs.Session.{stepped, op_of, saves, puts, relocks, settles_then, sends, tells, ends, loses, ignores, refused, was_read, continues, continues_with, with_next, has_next, names, says_spent, reply_to, answered_while, unanswered_while, is_new, is_free}
+use Rattle.save_session.specs.Session.{stepped, op_of, saves, puts, relocks, settles_then, sends, tells, ends, loses, ignores, refused, was_read, continues, continues_with, has_next, names, says_spent, reply_to, answered_while, unanswered_while, is_new, is_free}
 use Rattle.wopi_world.specs.Requests.{Client, Sent, operation, body, sent_with, call_of, input_of}
-use Rattle.wopi_world.specs.Requests as asks
+use Rattle.wopi_world.specs.History.{Item, Ran, last_run}
 use Rattle.wopi_world.specs.World as in_world
 use Rattle.wopi_world.specs.World.{Setting, World, Request, Member, comes, enters, entry_of, replied, delivered, delivered_by, asks_one, tries, foreign, takes, turns, for_client, is_asked, is_taken, answers, answers_place, answers_sender, ruling_in, with_item, first_world}
 use Rattle.wopi_world.proofs.Lists.{get_back}
@@ -46,6 +45,7 @@ use Rattle.replay_cmd.specs.declared.schedule.EventLine.TheVariants as line
 use Rattle.replay_cmd.specs.Schedules.{IsEventLine, IsShortWish, most_contents}
 use Rattle.replay_cmd.specs.Runs.{place_of, wish_of, foreign_token, foreign_call, creates_of, asked_by, event_in}
 use Rattle.replay_cmd.specs.Limits.{kept_by, HoldsAtMost, IsWithin}
+use Rattle.replay_cmd.proofs.LastRun.{entries_ticked, entries_stepped}
 
 -- ---- entries
 
@@ -62,9 +62,9 @@ holds_more : (world : World) (call : Call) (moment count bytes more : ℕ) → H
     → HoldsAtMost (count + 1) (bytes + more) (enters world call moment).history
 holds_more world call moment count bytes more h short =
     let entry : Entry = entry_of world call moment in
-    let old : List Entry = entries world.history in
-    let new : List Entry = entries (enters world call moment).history in
-    let same : new ≡ old ++ entry ∷ [] = entries-append world.history (Step entry ∷ []) in
+    let old : List Entry = entries (last_run world.history) in
+    let new : List Entry = entries (last_run (enters world call moment).history) in
+    let same : new ≡ old ++ entry ∷ [] = entries_stepped world.history entry in
     let long : length new ≡ length old + 1 = ap (λ (l : List Entry). length l) same ∙ length-append old (entry ∷ []) in
     let last : last_from 0 (stamps new) ≡ length old + 1 =
     ap (λ (l : List Entry). last_from 0 (stamps l)) same
@@ -78,9 +78,9 @@ holds_more world call moment count bytes more h short =
 
 holds_wider : (history : List Item) (count bytes count' bytes' : ℕ) → HoldsAtMost count bytes history → count ≤ count' → bytes ≤ bytes' → HoldsAtMost count' bytes' history
 holds_wider history count bytes count' bytes' h more wider =
-    let few : length (entries history) ≤ count = h.few in
-    let last : last_from 0 (stamps (entries history)) ≤ count = h.last in
-    let small : sum_by kept_by (entries history) ≤ bytes = h.small in
+    let few : length (entries (last_run history)) ≤ count = h.few in
+    let last : last_from 0 (stamps (entries (last_run history))) ≤ count = h.last in
+    let small : sum_by kept_by (entries (last_run history)) ≤ bytes = h.small in
     record { few = omega (arith, few, more); last = omega (arith, last, more); small = omega (arith, small, wider) }
 
 -- what a line may add to the entries
@@ -388,9 +388,9 @@ module _ (count : ℕ) (world : World) (h : IsWithin count world) where
   one_within setting (line.Answer reply) can = answered setting (slice_get world.replies (place_of reply (length world.replies)))
   one_within setting (line.Lose s) can = client_turned s input.NoAnswer tt (slice_get setting.clients s)
   one_within setting (line.Ticks moment) can =
-      let same : entries (world.history ++ Tick moment ∷ []) ≡ entries world.history = entries-append world.history (Tick moment ∷ []) ∙ append-nil (entries world.history) in
+      let same : entries (last_run (world.history ++ Ran (Tick moment) ∷ [])) ≡ entries (last_run world.history) = entries_ticked world.history moment in
       let held : Adds count world = adds_none count world h.held in
-      with_history (with_item world (Tick moment))
+      with_history (with_item world (Ran (Tick moment)))
       (record {
         few = subst (λ (l : List Entry). length l ≤ 2 * (count + 1)) (sym same) held.few;
         last = subst (λ (l : List Entry). last_from 0 (stamps l) ≤ 2 * (count + 1)) (sym same) held.last;

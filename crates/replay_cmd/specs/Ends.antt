@@ -14,10 +14,10 @@ use Rattle.replay_cmd.specs.Words.{file_shown, line_text}
 abbrev pub ends_in : {F : Type 0} → Book F → List (List ℕ) → List ℕ
 ends_in book names = flat_map (λ name. line_text (file_shown name (file_in book name))) names
 
--- the text grew by the files that have a version, by their bytes
+-- the text grew by the files that were met, by their bytes
 abbrev pub TellsEnds : {F : Type 0} → Book F → List ℕ → List ℕ → Type 0
 TellsEnds book old new =
-    (names : List (List ℕ)) × AreNames (state_of book.opening book.opened book.made book.time) names × (new ≡ old ++ ends_in book names)
+    (names : List (List ℕ)) × AreNames (state_of book.opening book.opened book.first book.made book.time) names × (new ≡ old ++ ends_in book names)
 
 abbrev pub count_text : List ℕ → ℕ → List ℕ
 count_text word count = line_text (word ∷ decimal count ∷ [])

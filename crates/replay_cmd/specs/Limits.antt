@@ -1,8 +1,9 @@
 -- How much there is in a world after some lines of a schedule. (Own.)
 use Rattle.std.specs.Prelude.{◌≡◌, ◌<◌, ◌≤◌, ◌*◌, ◌==◌, ℕ, [], List, length, sum_by, Some, unwrap_or, if◌then◌else◌}
 use Rattle.std.specs.List.{slice_get}
-use Rattle.wopi_model.specs.Shard.{Item, Entry, entries, stamps, last_from}
+use Rattle.wopi_model.specs.Shard.{Entry, entries, stamps, last_from}
 use Rattle.wopi_model.specs.Host.{new_bytes}
+use Rattle.wopi_world.specs.History.{Item, last_run}
 use Rattle.wopi_world.specs.Requests.{body}
 use Rattle.wopi_world.specs.World.{World, Request}
 use Rattle.replay_cmd.specs.Schedules.{most_contents, most_lines}
@@ -11,11 +12,11 @@ use Rattle.replay_cmd.specs.Schedules.{most_contents, most_lines}
 abbrev pub kept_by : Entry → ℕ
 kept_by entry = if entry.ruling.status == 200 then new_bytes entry.call.act else 0
 
--- there are so many entries at most, no stamp of them is greater, and they keep so many bytes at most
+-- since the last restart there are so many entries at most, no stamp of them is greater, and they keep so many bytes at most
 pub record HoldsAtMost (count bytes : ℕ) (history : List Item) : Type 0 where
-  pub few : length (entries history) ≤ count
-  pub last : last_from 0 (stamps (entries history)) ≤ count
-  pub small : sum_by kept_by (entries history) ≤ bytes
+  pub few : length (entries (last_run history)) ≤ count
+  pub last : last_from 0 (stamps (entries (last_run history))) ≤ count
+  pub small : sum_by kept_by (entries (last_run history)) ≤ bytes
 
 -- What so many lines leave at most: two entries and a line's contents for each of them. No request was sent with longer contents
 -- than a line's, nor has a session such contents to save.

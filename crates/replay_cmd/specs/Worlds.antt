@@ -13,6 +13,6 @@ pub record IsRunOf (lines : Lines) (kept : World) : Type 0 where
   pub stage : IsStageOf (setting_of lines) kept.stage (world_of lines)
   pub trace : kept.trace ≡ events_text (setting_of lines) (first_world (setting_of lines)) lines.events
 
--- The text over the names that have a version at the end: each once, by their bytes.
+-- The text over the names that were met at the end: each once, by their bytes.
 abbrev pub IsTextOf : (List (List ℕ) → Lines → List ℕ) → Lines → List ℕ → Type 0
 IsTextOf text_of lines text = (names : List (List ℕ)) × AreNames (world_of lines).shard names × (text ≡ text_of names lines)

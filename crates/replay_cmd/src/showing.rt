@@ -1,5 +1,5 @@
 //! What the lines of a trace say.
-ghost use Rattle.std.specs.Prelude.{◌≡◌, ◌<◌, ◌∷◌, [], ℕ, List, codes, decimal, length, option_map, unwrap_or, if◌then◌else◌, IfOk};
+ghost use Rattle.std.specs.Prelude.{◌≡◌, ◌≤◌, ◌∷◌, [], ℕ, List, codes, decimal, length, option_map, unwrap_or, if◌then◌else◌, IfOk};
 ghost use Rattle.wopi_model.specs.declared.calls.Ruling.{Ruling};
 ghost use Rattle.wopi_model.specs.Step.{lock_field};
 ghost use Rattle.replay_cmd.specs.Words.{operation_shown, outcome_shown, version_shown, lock_shown, reason_shown, hex_text, numbered_shown, ruling_shown, accepted_shown, file_shown};
@@ -221,7 +221,7 @@ fn state_words(alloc: Global, view: &FileView<'_>) -> Result<Vec<Bytes>, Memory>
 
 /// How a file is left.
 pub fn file_words(alloc: Global, host: &Watched, name: &FileName) -> Result<Vec<Bytes>, Memory>
-    requires { 0 < (file_in host.now.shard name.now).version }
+    requires { host.now.shard.first ≤ (file_in host.now.shard name.now).version }
     ensures { IfOk result (λ words. words.items ≡ file_shown name.now (file_in host.now.shard name.now)) }
 {
     let Some(view) = host.file(name) else {

@@ -1,5 +1,5 @@
 //! The texts that a run leaves: its trace, and its summary.
-ghost use Rattle.std.specs.Prelude.{◌≡◌, ◌++◌, ◌<◌, ℕ, List, IfOk, OnOk};
+ghost use Rattle.std.specs.Prelude.{◌≡◌, ◌++◌, ◌≤◌, ℕ, List, IfOk, OnOk};
 ghost use Rattle.std.specs.List.{Contains};
 ghost use Rattle.replay_cmd.specs.Ends.{ends_in, count_text, counts_in, TellsEnds};
 ghost use Rattle.replay_cmd.specs.Replying.{file_in};
@@ -25,7 +25,7 @@ fn push_files(
     names: &NameList,
     text: &mut Vec<u8>,
 ) -> Result<(), Memory>
-    requires { (name : List ℕ) → Contains names.now name → 0 < (file_in host.now.shard name).version }
+    requires { (name : List ℕ) → Contains names.now name → host.now.shard.first ≤ (file_in host.now.shard name).version }
     ensures { OnOk result (text.new.items ≡ text.old.items ++ ends_in host.now.shard names.now) }
 {
     for place in 0..names.len() {
@@ -38,7 +38,7 @@ fn push_files(
     Ok(())
 }
 
-/// Appends a line for each file that has a version, by the bytes of their names.
+/// Appends a line for each file that was met, by the bytes of their names.
 fn push_ends(alloc: Global, host: &Watched, text: &mut Vec<u8>) -> Result<(), Memory>
     ensures { OnOk result (TellsEnds host.now.shard text.old.items text.new.items) }
 {
