@@ -342,6 +342,46 @@ fn a_worker_leaves_its_replies_and_a_journal_with_a_line_for_each_call(
     Ok(())
 }
 
+const FROM_SEVEN: [&str; 8] = [
+    "serve",
+    ".",
+    "8880",
+    "4a656665",
+    "http://localhost:8880",
+    "1",
+    "--first",
+    "7",
+];
+
+const LOCK_AND_PUT: [[&str; 4]; 2] = [
+    ["POST", "", LOCK, ""],
+    [
+        "POST",
+        "/contents",
+        "X-WOPI-Override: PUT\r\nX-WOPI-Lock: L1\r\n",
+        "x",
+    ],
+];
+
+const SEVEN_AND_EIGHT: [&str; 5] = [
+    "wopi journal 2 opened 0 first 7",
+    "file 612e637376 312c320a",
+    "1 11 0 5 5 612e637376 lock 4c31 ann.612e637376.w.2.0.9000000 200 - - v7 -",
+    "2 11 0 5 5 612e637376 put 4c31 1 ann.612e637376.w.2.0.9000000 200 - - v8 78",
+    "end 2",
+];
+
+#[test]
+fn versions_begin_at_the_number_of_the_words(rt: HostRuntime) -> Result<(), Fail> {
+    let alloc = rt.alloc();
+    let mut outside = one_worker(alloc, requests(alloc, &LOCK_AND_PUT)?, 0)?;
+    let status = serve(&rt, alloc, &FROM_SEVEN, &mut outside)?;
+    let journal = lines(alloc, &SEVEN_AND_EIGHT)?;
+    assert_eq!(rt; status, 0);
+    assert_eq!(rt; outside.output.as_slice(), journal.as_slice());
+    Ok(())
+}
+
 /// Folders of which that of shard 11 has an empty `a.csv`, and that of shard 12 a `b.csv`; the former waits at the flags.
 fn gated(alloc: Global, first: &Flag, second: &Flag) -> Result<Vec<GateFolder<MemFolder>>, Fail> {
     let mut folders = Vec::new(alloc);
