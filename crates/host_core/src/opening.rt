@@ -47,8 +47,8 @@ pub struct ReadFile {
 pub enum StartFault {
     /// The folder failed.
     FolderFault,
-    /// The first file, in the order of the names' bytes, that has more than 16 MiB or with which all files
-    /// have more than 256 MiB.
+    /// The first file that the shard takes, in the order of the names' bytes, that has more than 16 MiB or
+    /// with which the shard's files up to it have more than 256 MiB.
     TooLarge { name: FileName },
     Memory,
 }
