@@ -1,5 +1,5 @@
 -- The fields of a token's text, which periods part.
-use Rattle.std.specs.Prelude.{ℕ, List, [], ◌∷◌, codes, decimal, ◌==◌}
+use Rattle.std.specs.Prelude.{ℕ, List, [], ◌∷◌, ◌++◌, Option, None, Some, codes, decimal, ◌==◌}
 use Rattle.std.specs.List.{slice_split}
 use Rattle.wopi_text.specs.Ids.{id_of}
 use Rattle.wopi_model.specs.declared.token.Token.{Token}
@@ -10,14 +10,23 @@ use Rattle.access_tokens.specs.TokenText.{period, rights_of}
 abbrev pub parts_of : List ℕ → List (List ℕ)
 parts_of text = slice_split (λ byte. byte == period) text
 
--- the fields in their order
+-- the fields that a text begins with: its version, and from version 2 on the number of its key
+abbrev pub head_fields : Option ℕ → List (List ℕ)
+head_fields None = codes "v1" ∷ []
+head_fields (Some number) = codes "v2" ∷ decimal number ∷ []
+
+-- the fields behind those, in their order
 abbrev pub list_of : Fields → List (List ℕ)
 list_of fields =
-    fields.version.now ∷ fields.user.now ∷ fields.id.now ∷ fields.rights.now
+    fields.user.now ∷ fields.id.now ∷ fields.rights.now
     ∷ fields.serial.now ∷ fields.issued.now ∷ fields.expires.now ∷ fields.mac.now ∷ []
 
--- the fields of a token's text with these digits of a code
-abbrev pub fields_of : Token → List ℕ → List (List ℕ)
-fields_of token mac =
-    codes "v1" ∷ token.user ∷ id_of token.file ∷ rights_of token.write
+-- the fields that tell a token, and these digits of a code
+abbrev pub token_fields : Token → List ℕ → List (List ℕ)
+token_fields token mac =
+    token.user ∷ id_of token.file ∷ rights_of token.write
     ∷ decimal token.serial ∷ decimal token.issued ∷ decimal token.expires ∷ mac ∷ []
+
+-- the fields of a token's text with these digits of a code
+abbrev pub fields_of : Option ℕ → Token → List ℕ → List (List ℕ)
+fields_of written token mac = head_fields written ++ token_fields token mac

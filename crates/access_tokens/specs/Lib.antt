@@ -1,4 +1,6 @@
 pub mod Fields
 pub mod Hmac
 pub mod Key
+pub mod Keys
+pub mod Marks
 pub mod TokenText

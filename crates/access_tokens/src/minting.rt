@@ -1,8 +1,8 @@
 //! How tokens are written.
-ghost use Rattle.std.specs.Prelude.{◌≡◌, ◌∷◌, ◌++◌, IfOk, OnOk, decimal};
+ghost use Rattle.std.specs.Prelude.{◌≡◌, ◌∷◌, ◌++◌, Some, IfOk, OnOk, decimal};
 ghost use Rattle.access_tokens.specs.TokenText.{period, rights_of, signed_text, token_text};
 
-use crate::Key;
+use crate::Keys;
 use crate::form::rights_of;
 use crate::mac::mac_of;
 use itoa::Buffer;
@@ -11,26 +11,27 @@ use wopi_model::Token;
 use wopi_text::{Bytes, Memory, id_text};
 
 /// The most bytes of the text of a token whose moments are moments.
-const MOST: usize = 444;
+const MOST: usize = 448;
 
-/// The text of the token under the key.
-pub fn mint(alloc: Global, key: &Key, token: &Token) -> Result<Bytes, Memory>
-    ensures { IfOk result (λ text. text ≡ token_text key.now token.now) }
+/// The text of the token under the current key, in version 2.
+pub fn mint(alloc: Global, keys: &Keys, token: &Token) -> Result<Bytes, Memory>
+    ensures { IfOk result (λ text. text ≡ token_text keys.now token.now) }
 {
-    let mut text = signed_text(alloc, token)?;
-    let mac = mac_of(key, &text);
+    let mut text = signed_text(alloc, keys.current.number, token)?;
+    let mac = mac_of(&keys.current.key, &text);
     push_field(&mut text, &mac)?;
     Ok(Bytes::from_vec(text))
 }
 
-/// What is signed of the token, with room for the code.
+/// What is signed of the token with the key of that number, with room for the code.
 #[tactic(auto, unfolding(crate::specs::TokenText::signed_text))]
-fn signed_text(alloc: Global, token: &Token) -> Result<Vec<u8>, Memory>
-    ensures { IfOk result (λ text. text.items ≡ signed_text token.now) }
+fn signed_text(alloc: Global, key_number: u8, token: &Token) -> Result<Vec<u8>, Memory>
+    ensures { IfOk result (λ text. text.items ≡ signed_text (Some key_number) token.now) }
 {
     let id = id_text(alloc, &token.file)?;
     let mut text = Vec::with_capacity(alloc, MOST)?;
-    text.extend_from_slice(b"v1")?;
+    text.extend_from_slice(b"v2")?;
+    push_number(&mut text, key_number as u64)?;
     push_field(&mut text, token.user.as_slice())?;
     push_field(&mut text, id.as_slice())?;
     push_field(&mut text, rights_of(token.write))?;

@@ -1,17 +1,18 @@
 //! How tokens are read.
-ghost use Rattle.std.specs.Prelude.{◌≡◌, ◌≢◌, ◌↔◌, ◌<◌, ◌≤◌, ◌-◌, ◌^◌, ℕ, List, Ok, Err, Some, IsTrue, IfSome, IfNone, length, take, decimal};
-ghost use Rattle.wopi_model.specs.Moment.{IsMoment};
+ghost use Rattle.std.specs.Prelude.{◌≡◌, ◌≢◌, ◌↔◌, ◌≤◌, ◌-◌, None, Some, Ok, Err, IsTrue, IfSome, IfNone, length, take};
 ghost use Rattle.wopi_model.specs.declared.token.Token.{Token};
-ghost use Rattle.access_tokens.specs.Fields.{fields_of, list_of};
-ghost use Rattle.access_tokens.specs.TokenText.{HasReading, IsForged, IsMac, IsSigned, IsWritable, mac_of};
+ghost use Rattle.access_tokens.specs.Fields.{list_of, token_fields};
+ghost use Rattle.access_tokens.specs.Keys.{key_of};
+ghost use Rattle.access_tokens.specs.TokenText.{HasReading, IsForged, IsMac, IsSigned, IsUnkeyed, IsWritable, ReadsAs, mac_of};
 
-use crate::Key;
-use crate::fields::{Fields, split};
+use crate::fields::{Fields, split, take_head};
 use crate::form::{MAC, is_mac, may_write};
 use crate::mac::mac_of;
+use crate::numbers::{moment_read, number_read};
+use crate::{Key, Keys};
 use thiserror::Error;
 use wopi_model::{Token, User};
-use wopi_text::{MOMENTS_END, decimal_read, id_read};
+use wopi_text::id_read;
 
 /// Why a text is no token.
 #[derive(Clone, Copy, Debug, PartialEq, Eq, Error)]
@@ -19,36 +20,78 @@ pub enum TokenFault {
     /// It isn't written as a token is.
     #[error("the text is no token")]
     BadForm,
-    /// It is, but its code is that of another text or under another key.
+    /// It is, but the key whose number it has isn't in force.
+    #[error("the key of the token is not in force")]
+    NoKey,
+    /// The key is in force, but the code is that of another text or under another key.
     #[error("the code of the token is wrong")]
     BadMac,
 }
 
-/// The token with this text under the key. It takes no memory.
-pub fn read(key: &Key, text: &[u8]) -> Result<Token, TokenFault>
-    ensures exact { (token : Token) → (result ≡ Ok token) ↔ IsSigned key.now text.now token }
+/// What a text reads as, whether its code is right or not.
+#[derive(Drop)]
+struct Reading<'a> {
+    /// The number of the key, where the version writes one.
+    written: Option<u8>,
+    token: Token,
+    mac: &'a [u8],
+}
+
+/// The token with this text under the keys. It takes no memory.
+pub fn read(keys: &Keys, text: &[u8]) -> Result<Token, TokenFault>
+    ensures exact { (token : Token) → (result ≡ Ok token) ↔ IsSigned keys.now text.now token }
     ensures bad_form { (result ≡ Err TokenFault.BadForm) ↔ (¬ HasReading text.now) }
-    ensures bad_mac { (result ≡ Err TokenFault.BadMac) ↔ IsForged key.now text.now }
+    ensures no_key { (result ≡ Err TokenFault.NoKey) ↔ IsUnkeyed keys.now text.now }
+    ensures bad_mac { (result ≡ Err TokenFault.BadMac) ↔ IsForged keys.now text.now }
 {
-    let Some(fields) = split(text) else {
+    let Some(reading) = reading_of(text) else {
         return Err(TokenFault::BadForm);
     };
-    let Some(token) = token_of(&fields) else {
-        return Err(TokenFault::BadForm);
+    let Some(key) = key_of(keys, reading.written.unwrap_or(0)) else {
+        return Err(TokenFault::NoKey);
     };
-    if is_right(key, text, fields.mac) {
-        Ok(token)
+    if is_right(key, text, reading.mac) {
+        Ok(reading.token)
     } else {
         Err(TokenFault::BadMac)
     }
 }
 
+/// The key of that number, where one is in force.
+fn key_of(keys: &Keys, number: u8) -> Option<&Key>
+    ensures some { IfSome result (λ key. key_of keys.now number ≡ Some key.now) }
+    ensures none { IfNone result (key_of keys.now number ≡ None) }
+{
+    if keys.current.number == number {
+        return Some(&keys.current.key);
+    }
+    match &keys.former {
+        Some(former) if former.number == number => Some(&former.key),
+        _ => None,
+    }
+}
+
+/// What the text reads as, if it is written as a token is.
+fn reading_of(text: &[u8]) -> Option<Reading<'_>>
+    ensures some { IfSome result (λ reading. ReadsAs text.now reading.written reading.token reading.mac.now) }
+    ensures none { IfNone result (¬ HasReading text.now) }
+{
+    let head = take_head(text)?;
+    let fields = split(head.rest)?;
+    let token = token_of(&fields)?;
+    Some(Reading {
+        written: head.written,
+        token,
+        mac: fields.mac,
+    })
+}
+
 /// The token that the fields tell, if each has its form.
 fn token_of(fields: &Fields) -> Option<Token>
-    ensures some { IfSome result (λ token. IsWritable token × IsMac fields.now.mac.now × (list_of fields.now ≡ fields_of token fields.now.mac.now)) }
-    ensures none { IfNone result ((token : Token) → IsWritable token → IsMac fields.now.mac.now → list_of fields.now ≢ fields_of token fields.now.mac.now) }
+    ensures some { IfSome result (λ token. IsWritable token × IsMac fields.now.mac.now × (list_of fields.now ≡ token_fields token fields.now.mac.now)) }
+    ensures none { IfNone result ((token : Token) → IsWritable token → IsMac fields.now.mac.now → list_of fields.now ≢ token_fields token fields.now.mac.now) }
 {
-    if fields.version != b"v1".as_slice() || !is_mac(fields.mac) {
+    if !is_mac(fields.mac) {
         return None;
     }
     let user = User::read(fields.user)?;
@@ -67,26 +110,6 @@ fn token_of(fields: &Fields) -> Option<Token>
         issued,
         expires,
     })
-}
-
-/// The number with these digits, if they are a canonical decimal.
-fn number_read(digits: &[u8]) -> Option<u64>
-    ensures { (number : ℕ) → (result ≡ Some number) ↔ ((number < 2 ^ 64) × (digits.now ≡ decimal number)) }
-{
-    decimal_read(digits)
-}
-
-/// The moment with these digits, if they are a canonical decimal below the end of moments, the
-/// year 10,000. It takes no memory.
-pub fn moment_read(digits: &[u8]) -> Option<u64>
-    ensures { (moment : ℕ) → (result ≡ Some moment) ↔ (IsMoment moment × (digits.now ≡ decimal moment)) }
-{
-    let moment = number_read(digits)?;
-    if moment < MOMENTS_END {
-        Some(moment)
-    } else {
-        None
-    }
 }
 
 /// Whether the code is that of what stands before it and its period.

@@ -1,19 +1,27 @@
-use crate::{Key, Token, TokenFault, User, hmac, live, mint, read};
+use crate::{Key, Keys, Token, TokenFault, User, hmac, live, mint, read};
 use std::test::Fail;
 use wopi_text::FileName;
 
 /// The key `Jefe`, in hex.
-const KEY: &[u8] = b"4a656665";
+const WORD: &[u8] = b"4a656665";
 
 /// What is signed of the token of the tests.
-const SIGNED: &str = "v1.ann.612e637376.w.1.253402300000000.253402300799999";
+const SIGNED: &str = "v2.0.ann.612e637376.w.1.253402300000000.253402300799999";
 
 /// Its text under that key.
 const TEXT: &str =
-    "v1.ann.612e637376.w.1.253402300000000.253402300799999.e4367dab632e0b350a8cebce225b4b3af9ddf3ae5a45f45b85a6abd4ffe2d92a";
+    "v2.0.ann.612e637376.w.1.253402300000000.253402300799999.d3b4214de337cbf0652f67ed52815e0780b10913047024cbdc4448712c891e48";
 
-fn key(hex: &[u8]) -> Result<Key, Fail> {
-    Ok(Key::read(hex).ok_or("no key")?)
+/// The same token as version 1 wrote it under the key `k`.
+const FIRST_TEXT: &str =
+    "v1.ann.612e637376.w.1.253402300000000.253402300799999.cc2a63af1977455f07844c926dffa4b64cbdc55115b559283b5df65b09d8289a";
+
+/// The same token under the key `k` of the number 255.
+const LAST_TEXT: &str =
+    "v2.255.ann.612e637376.w.1.253402300000000.253402300799999.a96718801cf482dc424a8dd48954743bca9360d631424f68e7c684c156047639";
+
+fn keys(word: &[u8]) -> Result<Keys, Fail> {
+    Ok(Keys::read(word).ok_or("no keys")?)
 }
 
 /// The token of the tests, with the right to write or without.
@@ -65,16 +73,19 @@ fn a_key_longer_than_a_block_is_hashed_as_in_rfc_4231(rt: HostRuntime) -> Result
 
 #[test]
 fn a_token_is_written_to_the_letter(rt: HostRuntime) -> Result<(), Fail> {
-    let text = mint(rt.alloc(), &key(KEY)?, &token(true)?)?;
+    let text = mint(rt.alloc(), &keys(WORD)?, &token(true)?)?;
     assert_eq!(rt; text.as_slice(), TEXT.as_bytes());
+    let keys = keys(b"255:6b,0:4a656665")?;
+    let text = mint(rt.alloc(), &keys, &token(true)?)?;
+    assert_eq!(rt; text.as_slice(), LAST_TEXT.as_bytes());
     Ok(())
 }
 
 #[test]
 fn a_token_that_may_only_read_reads_back(rt: HostRuntime) -> Result<(), Fail> {
-    let key = key(KEY)?;
-    let text = mint(rt.alloc(), &key, &token(false)?)?;
-    let token = read(&key, text.as_slice())?;
+    let keys = keys(WORD)?;
+    let text = mint(rt.alloc(), &keys, &token(false)?)?;
+    let token = read(&keys, text.as_slice())?;
     assert!(rt; !token.write);
     assert_eq!(rt; token.user.as_slice(), b"ann".as_slice());
     assert_eq!(rt; token.file.as_str(), "a.csv");
@@ -86,45 +97,100 @@ fn a_token_that_may_only_read_reads_back(rt: HostRuntime) -> Result<(), Fail> {
 }
 
 #[test]
+fn a_token_is_read_under_the_key_whose_number_it_has(rt: HostRuntime) -> Result<(), Fail> {
+    let exchanged = keys(b"1:4a656665,0:6b")?;
+    assert!(rt; read(&exchanged, FIRST_TEXT.as_bytes()).is_ok());
+    assert_eq!(rt;
+        read(&exchanged, TEXT.as_bytes()).err(),
+        Some(TokenFault::BadMac)
+    );
+    let alone = keys(b"1:4a656665")?;
+    for text in [FIRST_TEXT, TEXT, LAST_TEXT] {
+        assert_eq!(rt;
+            read(&alone, text.as_bytes()).err(),
+            Some(TokenFault::NoKey)
+        );
+    }
+    assert!(rt; read(&keys(b"6b")?, FIRST_TEXT.as_bytes()).is_ok());
+    assert!(rt; read(&keys(b"1:4a656665,255:6b")?, LAST_TEXT.as_bytes()).is_ok());
+    Ok(())
+}
+
+#[test]
 fn a_code_of_another_key_or_text_is_told_from_a_bad_form(rt: HostRuntime) -> Result<(), Fail> {
     let alloc = rt.alloc();
     assert_eq!(rt;
-        read(&key(b"4A6566")?, TEXT.as_bytes()).err(),
+        read(&keys(b"4A6566")?, TEXT.as_bytes()).err(),
         Some(TokenFault::BadMac)
     );
-    let key = key(KEY)?;
+    let keys = keys(WORD)?;
     let other = TEXT.replace(alloc, ".w.", ".r.")?;
     assert_eq!(rt;
-        read(&key, other.as_bytes()).err(),
+        read(&keys, other.as_bytes()).err(),
         Some(TokenFault::BadMac)
     );
     for (old, new) in [
-        ("v1.", "v2."),
+        ("v2.", "v1."),
+        ("v2.", "v3."),
+        ("v2.0.", "v2.256."),
+        ("v2.0.", "v2.00."),
+        ("v2.0.", "v2."),
         ("ann", "a.n"),
         ("612e", "612E"),
         (".w.", ".x."),
         (".1.", ".01."),
         ("253402300799999", "253402300800000"),
-        ("e4367dab", "E4367DAB"),
-        ("e4367dab", "e4367da"),
+        ("d3b4214d", "D3B4214D"),
+        ("d3b4214d", "d3b4214"),
     ] {
         let text = TEXT.replace(alloc, old, new)?;
         assert_eq!(rt;
-            read(&key, text.as_bytes()).err(),
+            read(&keys, text.as_bytes()).err(),
             Some(TokenFault::BadForm),
             "{text}"
         );
     }
     assert_eq!(rt;
-        read(&key, SIGNED.as_bytes()).err(),
+        read(&keys, SIGNED.as_bytes()).err(),
         Some(TokenFault::BadForm)
     );
     Ok(())
 }
 
 #[test]
+fn keys_are_one_or_two_with_different_numbers(rt: HostRuntime) -> Result<(), Fail> {
+    let bare = keys(WORD)?;
+    assert_eq!(rt; bare.current.number, 0);
+    assert_eq!(rt; bare.current.key.as_slice(), b"Jefe".as_slice());
+    assert!(rt; bare.former.is_none());
+    let exchanged = keys(b"12:4A656665,255:6b")?;
+    assert_eq!(rt; exchanged.current.number, 12);
+    let former = exchanged.former.ok_or("no former key")?;
+    assert_eq!(rt; former.number, 255);
+    assert_eq!(rt; former.key.as_slice(), b"k".as_slice());
+    for word in [
+        "",
+        "4a6",
+        "4a656665,6b",
+        "0:4a656665,6b",
+        "1:4a656665,1:6b",
+        "1:4a656665,0:6b,2:6c",
+        "256:4a656665",
+        "01:4a656665",
+        ":4a656665",
+        "1:",
+        "1:4a656665,",
+        "1:4a656665, 0:6b",
+        "-1:4a656665",
+    ] {
+        assert!(rt; Keys::read(word.as_bytes()).is_none(), "{word}");
+    }
+    Ok(())
+}
+
+#[test]
 fn a_key_is_1_to_64_bytes_of_hex_in_either_case(rt: HostRuntime) -> Result<(), Fail> {
-    let key = key(b"4A6566fF")?;
+    let key = Key::read(b"4A6566fF").ok_or("no key")?;
     assert_eq!(rt; key.copy().as_slice(), [0x4a, 0x65, 0x66, 0xff].as_slice());
     assert!(rt; Key::read(&[b'0'; 128]).is_some());
     assert!(rt; Key::read(&[b'0'; 130]).is_none());

@@ -1,10 +1,7 @@
-use Rattle.std.proofs.Common.{◌≡◌, ◌∷◌, [], refl, sym, subst, rules}
+use Rattle.std.proofs.Common.{refl, sym, subst, rules}
 use Rattle.wopi_model.specs.User.{IsUser}
 use Rattle.access_tokens.proofs.Readings.{same_fields}
 use Rattle.access_tokens.proofs.reading.token_of.Goals as goal
-
-version : (c : goal.In_ok-expires) → c.args.fields.now.version.now ≡ 118 ∷ 49 ∷ []
-version c = search rules
 
 pub returns-clause-some : goal.returns-clause-some
 returns-clause-some c =
@@ -20,5 +17,5 @@ returns-clause-some c =
         expires = expires.0;
       },
       search rules,
-      same_fields _ _ _ _ _ _ _ _ _ _ _ _ _ _ _ (version c) (sym c.in_ok-user.ensures.value) c.in-Ok.ensures.value rights serial.1 issued.1 expires.1,
+      same_fields _ _ _ _ _ _ _ _ _ _ _ _ _ (sym c.in_ok-user.ensures.value) c.in-Ok.ensures.value rights serial.1 issued.1 expires.1,
     )

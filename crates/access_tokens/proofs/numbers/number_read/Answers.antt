@@ -1,7 +1,7 @@
 use Rattle.std.proofs.Common.{sym, ap, ◌∙◌}
 use Rattle.wopi_text.specs.Decimals.{decimal_of}
 use Rattle.wopi_text.proofs.Decimals.{decimal_of-some, decimal_of-decimal}
-use Rattle.access_tokens.proofs.reading.number_read.Goals as goal
+use Rattle.access_tokens.proofs.numbers.number_read.Goals as goal
 
 pub returns : goal.returns
 returns c = λ number. (
