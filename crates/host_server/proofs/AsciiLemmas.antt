@@ -1,5 +1,5 @@
 -- Texts of ASCII alone.
-use Rattle.std.proofs.Common.{◌≡◌, ◌<◌, ◌^◌, ◌-◌, ℕ, zero, suc, Bool, true, false, nat_lt, List, [], ◌∷◌, ◌++◌, length, slice_index, codes, decimal, refl, arith}
+use Rattle.std.proofs.Common.{◌≡◌, ◌<◌, ◌^◌, ◌-◌, ℕ, zero, suc, Bool, true, false, nat_lt, List, [], ◌∷◌, ◌++◌, length, slice_index, codes, decimal, Some, refl, arith}
 use Rattle.std.specs.Prelude.{nat_le, not, ◌==◌}
 use Rattle.std.specs.List.{list_all}
 use Rattle.std.specs.Str.{IsUtf8, IsAscii}
@@ -14,7 +14,9 @@ use Rattle.wopi_model.specs.Moment.{IsMoment}
 use Rattle.wopi_model.specs.declared.token.Token.{Token}
 use Rattle.wopi_model.specs.User.{IsUser, is_user_byte}
 use Rattle.wopi_headers.specs.Replies.{version_text}
-use Rattle.access_tokens.specs.TokenText.{IsWritable, period, rights_of, signed_text, mac_of, token_text}
+use Rattle.access_tokens.specs.Keys.{IsKeyNumber}
+use Rattle.access_tokens.specs.declared.keys.Keys.{Keys}
+use Rattle.access_tokens.specs.TokenText.{IsWritable, head_text, period, rights_of, signed_text, mac_of, token_text}
 use Rattle.host_server.specs.Bases.{is_base, is_visible}
 use Rattle.host_server.specs.Copies.{address_text, token_for}
 
@@ -71,23 +73,28 @@ rights_are_ascii false = literal (codes "r") refl
 moment_fits : (moment : ℕ) → IsMoment moment → moment < 2 ^ 64
 moment_fits moment is = grind (arith, is)
 
-signed_is_ascii : (token : Token) → IsWritable token → IsAscii (signed_text token)
+head_is_ascii : (number : ℕ) → IsKeyNumber number → IsAscii (head_text (Some number))
+head_is_ascii number can = field_is_ascii (codes "v2") (decimal number) (literal (codes "v2") refl) (IsAscii-decimal number (omega (arith, can)))
+
+signed_is_ascii : (number : ℕ) (token : Token) → IsKeyNumber number → IsWritable token → IsAscii (signed_text (Some number) token)
 unfolding signed_text
-signed_is_ascii token form =
-    let to_user = codes "v1" ++ period ∷ token.user in
+signed_is_ascii number token can form =
+    let to_user = head_text (Some number) ++ period ∷ token.user in
     let to_id = to_user ++ period ∷ id_of token.file in
     let to_rights = to_id ++ period ∷ rights_of token.write in
     let to_serial = to_rights ++ period ∷ decimal token.serial in
     let to_issued = to_serial ++ period ∷ decimal token.issued in
-    let user = field_is_ascii (codes "v1") token.user (literal (codes "v1") refl) (user_is_ascii token.user form.user) in
+    let user = field_is_ascii (head_text (Some number)) token.user (head_is_ascii number can) (user_is_ascii token.user form.user) in
     let id = field_is_ascii to_user (id_of token.file) user (hex_is_ascii token.file) in
     let rights = field_is_ascii to_id (rights_of token.write) id (rights_are_ascii token.write) in
     let serial = field_is_ascii to_rights (decimal token.serial) rights (IsAscii-decimal token.serial form.serial) in
     let issued = field_is_ascii to_serial (decimal token.issued) serial (IsAscii-decimal token.issued (moment_fits token.issued form.issued)) in
     field_is_ascii to_issued (decimal token.expires) issued (IsAscii-decimal token.expires (moment_fits token.expires form.expires))
 
-token_is_ascii : (key : List ℕ) (token : Token) → IsWritable token → IsAscii (token_text key token)
-token_is_ascii key token form = field_is_ascii (signed_text token) (mac_of key (signed_text token)) (signed_is_ascii token form) (hex_is_ascii _)
+token_is_ascii : (keys : Keys) (token : Token) → IsWritable token → IsAscii (token_text keys token)
+token_is_ascii keys token form =
+    field_is_ascii (signed_text (Some keys.current.number) token) (mac_of keys.current.key (signed_text (Some keys.current.number) token))
+    (signed_is_ascii keys.current.number token keys.current.range form) (hex_is_ascii _)
 
 -- a token for a file stays one that can be written
 writable_for : (name : List ℕ) (asking : Token) (moment : ℕ) → IsWritable asking → IsFileName name → IsMoment moment → IsWritable (token_for name asking moment)
@@ -99,15 +106,15 @@ writable_for name asking moment form named timed = record {
   expires = form.expires;
 }
 
-pub address_is_text : (base key name : List ℕ) (asking : Token) (moment : ℕ) → is_base base ≡ true → IsWritable asking → IsFileName name → IsMoment moment
-    → IsUtf8 (address_text base (id_of name) (token_text key (token_for name asking moment)))
+pub address_is_text : (base : List ℕ) (keys : Keys) (name : List ℕ) (asking : Token) (moment : ℕ) → is_base base ≡ true → IsWritable asking → IsFileName name → IsMoment moment
+    → IsUtf8 (address_text base (id_of name) (token_text keys (token_for name asking moment)))
 unfolding address_text
-address_is_text base key name asking moment form can named timed =
-    let token = token_is_ascii key (token_for name asking moment) (writable_for name asking moment can named timed) in
+address_is_text base keys name asking moment form can named timed =
+    let token = token_is_ascii keys (token_for name asking moment) (writable_for name asking moment can named timed) in
     let to_path = base ++ codes "/wopi/files/" in
     let to_id = to_path ++ id_of name in
     let to_query = to_id ++ codes "?access_token=" in
     let path = IsAscii-append base (codes "/wopi/files/") (base_is_ascii base form) (literal (codes "/wopi/files/") refl) in
     let id = IsAscii-append to_path (id_of name) path (hex_is_ascii name) in
     let query = IsAscii-append to_id (codes "?access_token=") id (literal (codes "?access_token=") refl) in
-    IsUtf8-from_ascii _ (IsAscii-append to_query (token_text key (token_for name asking moment)) query token)
+    IsUtf8-from_ascii _ (IsAscii-append to_query (token_text keys (token_for name asking moment)) query token)

@@ -67,11 +67,11 @@ module _ (always : Sight → Type 0) (old new : Sight) where
         tells_whole (TellsCall call moment) (Blocked call moment old new ∷ []) journal_full r does (calls.full old new full refl refl) said
 
 module _ (desk : Desk) (ask : Ask) (body : List ℕ) (moment : ℕ) (always : Sight → Type 0) where
-  pub dead_tells : (s : Sight) (a : Answer) → ((token : Token) → ¬ (IsSigned desk.key ask.token token)) → a ≡ status_only 401
+  pub dead_tells : (s : Sight) (a : Answer) → ((token : Token) → ¬ (IsSigned desk.keys ask.token token)) → a ≡ status_only 401
       → Tells (Ruled desk ask body moment) always s s (Ok a)
   dead_tells s a none said = ([], Does-nil always s, answering.unauthorized none refl said)
 
-  pub call_tells : (token : Token) (asked : Act) → IsSigned desk.key ask.token token → act_of ask.op body ≡ Some asked → (old new : Sight) (r : Result Answer Memory)
+  pub call_tells : (token : Token) (asked : Act) → IsSigned desk.keys ask.token token → act_of ask.op body ≡ Some asked → (old new : Sight) (r : Result Answer Memory)
       → Tells (TellsCall (call_of ask token asked) moment) always old new r → Tells (Ruled desk ask body moment) always old new r
   call_tells token asked signed act old new r =
       tells_wider always old new (TellsCall (call_of ask token asked) moment) (Ruled desk ask body moment) is_ruled r
@@ -80,7 +80,7 @@ module _ (desk : Desk) (ask : Ask) (body : List ℕ) (moment : ℕ) (always : Si
       is_ruled deeds a (calls.ruled entry of is said) = answering.ruled token asked entry signed act of is said
       is_ruled deeds a (calls.full before after full is said) = answering.full token asked before after signed act full is said
 
-  pub copy_tells : (token : Token) (target : Target) → IsSigned desk.key ask.token token → ask.op ≡ op.PutRelative target → (contents : List ℕ) → contents ≡ body
+  pub copy_tells : (token : Token) (target : Target) → IsSigned desk.keys ask.token token → ask.op ≡ op.PutRelative target → (contents : List ℕ) → contents ≡ body
       → (old new : Sight) (r : Result Answer Memory) → Tells (Copied desk (copying_of ask token target contents moment)) always old new r
       → Tells (Ruled desk ask body moment) always old new r
   copy_tells token target signed is contents same old new r told =

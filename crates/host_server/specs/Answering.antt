@@ -30,13 +30,13 @@ copying_of ask token target body moment =
 
 -- What an ask with this body is answered at this moment, and what is done for it.
 pub data Ruled (desk : Desk) (ask : Ask) (body : List ℕ) (moment : ℕ) (deeds : List Deed) (a : Answer) : Type 0 where
-  unauthorized : ((token : Token) → ¬ (IsSigned desk.key ask.token token)) → deeds ≡ [] → a ≡ status_only 401 → Ruled desk ask body moment deeds a
-  ruled : (token : Token) (asked : Act) (entry : Entry) → IsSigned desk.key ask.token token → act_of ask.op body ≡ Some asked
+  unauthorized : ((token : Token) → ¬ (IsSigned desk.keys ask.token token)) → deeds ≡ [] → a ≡ status_only 401 → Ruled desk ask body moment deeds a
+  ruled : (token : Token) (asked : Act) (entry : Entry) → IsSigned desk.keys ask.token token → act_of ask.op body ≡ Some asked
       → IsOf (call_of ask token asked) moment entry → deeds ≡ Made entry ∷ [] → a ≡ told entry → Ruled desk ask body moment deeds a
-  full : (token : Token) (asked : Act) (before after : Sight) → IsSigned desk.key ask.token token → act_of ask.op body ≡ Some asked
+  full : (token : Token) (asked : Act) (before after : Sight) → IsSigned desk.keys ask.token token → act_of ask.op body ≡ Some asked
       → IsFull (call_of ask token asked) moment before after
       → deeds ≡ Blocked (call_of ask token asked) moment before after ∷ [] → a ≡ journal_full → Ruled desk ask body moment deeds a
-  copied : (token : Token) (target : Target) → IsSigned desk.key ask.token token → ask.op ≡ op.PutRelative target
+  copied : (token : Token) (target : Target) → IsSigned desk.keys ask.token token → ask.op ≡ op.PutRelative target
       → Copied desk (copying_of ask token target body moment) deeds a → Ruled desk ask body moment deeds a
 
 -- What a request is answered at this moment, and what is done for it.

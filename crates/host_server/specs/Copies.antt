@@ -78,7 +78,7 @@ address_text base id token = base ++ codes "/wopi/files/" ++ id ++ codes "?acces
 
 -- the address of the file of that name, with a token for it
 abbrev pub address : Desk → List ℕ → Token → ℕ → List ℕ
-address desk name asking moment = address_text desk.base (id_of name) (token_text desk.key (token_for name asking moment))
+address desk name asking moment = address_text desk.base (id_of name) (token_text desk.keys (token_for name asking moment))
 
 -- the answer that tells the ruling on the making of the file of that name: where it was made, its name and its address
 abbrev pub file_told : Desk → List ℕ → Token → ℕ → Ruling → Answer

@@ -61,7 +61,7 @@ fn address(
     ensures { IfOk result (λ text. text.items ≡ address desk.now name.now asking.now moment) }
 {
     let id = id_text(alloc, name)?;
-    let token = mint(alloc, &desk.key, &token_for(name, asking, moment))?;
+    let token = mint(alloc, &desk.keys, &token_for(name, asking, moment))?;
     address_text(alloc, desk.base.as_slice(), id.as_slice(), token.as_slice())
 }
 

@@ -118,7 +118,7 @@ fn answer_call<C: Caller>(
     }
 }
 
-/// Answers what was asked, with the request's body: its token is read under the desk's key, and then the call is made.
+/// Answers what was asked, with the request's body: its token is read under the desk's keys, and then the call is made.
 pub fn answer_ask<C: Caller>(
     alloc: Global,
     caller: &mut C,
@@ -132,7 +132,7 @@ pub fn answer_ask<C: Caller>(
     ensures basis { C.basis caller.new ≡ C.basis caller.old }
     ensures references { C.references caller.new ≡ C.references caller.old }
 {
-    let Ok(token) = read(&desk.key, ask.token.as_slice()) else {
+    let Ok(token) = read(&desk.keys, ask.token.as_slice()) else {
         return Ok(status_only(alloc, 401));
     };
     let Ask { file, token: _, op } = ask;
@@ -158,7 +158,7 @@ pub fn answer_ask<C: Caller>(
     }
 }
 
-/// Answers a request: what it asks for is read from its head, its token is read under the desk's key,
+/// Answers a request: what it asks for is read from its head, its token is read under the desk's keys,
 /// and then the call is made. Contents go from the request into the call without a copy.
 pub fn answer<C: Caller>(
     alloc: Global,

@@ -3,14 +3,14 @@ ghost use Rattle.std.specs.Prelude.{◌≡◌, true};
 ghost use Rattle.wopi_model.specs.Moment.{IsMoment};
 ghost use Rattle.host_server.specs.Bases.{is_base};
 
-use access_tokens::Key;
+use access_tokens::Keys;
 use wopi_text::Bytes;
 
-/// What a host knows beside its files: the key of its tokens, the beginning of its addresses, and
+/// What a host knows beside its files: the keys of its tokens, the beginning of its addresses, and
 /// the moment at which it was opened, in milliseconds.
 #[derive(Drop)]
 pub struct Desk {
-    pub key: Key,
+    pub keys: Keys,
     pub base: Bytes,
     pub opened: u64,
     pub ghost form: { is_base base ≡ true },
@@ -19,13 +19,13 @@ pub struct Desk {
 
 impl Desk {
     /// The base is 1 to 200 bytes of 0x21 to 0x7E without a closing slash.
-    pub fn new(key: Key, base: Bytes, opened: u64) -> Desk
+    pub fn new(keys: Keys, base: Bytes, opened: u64) -> Desk
         requires form { is_base base ≡ true }
         requires moment { IsMoment opened }
-        ensures key { result.key ≡ key }
+        ensures keys { result.keys ≡ keys }
         ensures base { result.base ≡ base }
         ensures opened { result.opened ≡ opened }
     {
-        Desk { key, base, opened }
+        Desk { keys, base, opened }
     }
 }

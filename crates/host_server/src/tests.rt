@@ -5,7 +5,7 @@ ghost use Rattle.access_tokens.specs.TokenText.{IsWritable};
 
 use crate::copying::{Copying, put_beside};
 use crate::desk::Desk;
-use access_tokens::{Key, Token, read};
+use access_tokens::{Keys, Token, read};
 use host_core::{Act, Call, Caller, Shard, Single};
 use outside::{Folder, MemFolder};
 use std::alloc::Global;
@@ -13,7 +13,7 @@ use std::test::Fail;
 use wopi_headers::{Answer, BodyKind, Target};
 use wopi_text::{Bytes, FileName, LockField, LockId, Reason};
 
-/// A token for `a.csv` that may write, under the desk's key.
+/// A token for `a.csv` that may write, under the desk's keys.
 const FOR_A: &[u8] =
     b"v1.ann.612e637376.w.1.253402300000000.253402300799999.e4367dab632e0b350a8cebce225b4b3af9ddf3ae5a45f45b85a6abd4ffe2d92a";
 
@@ -22,15 +22,15 @@ const FOR_E: &[u8] =
     b"v1.ann.652e637376.w.2.0.9000000.9656829e31843856497e1c8fc65763bf6e0f8c232e0fdab239c8df7ef9fce927";
 
 fn desk(alloc: Global) -> Result<Desk, Fail> {
-    let key = Key::read(b"4a656665").ok_or("a key")?;
+    let keys = Keys::read(b"4a656665").ok_or("keys")?;
     let base = Bytes::from_slice(alloc, b"http://localhost:8880")?;
-    Ok(Desk::new(key, base, 0))
+    Ok(Desk::new(keys, base, 0))
 }
 
 fn token(desk: &Desk, text: &[u8]) -> Result<Token, Fail>
     ensures { IfOk result IsWritable }
 {
-    match read(&desk.key, text) {
+    match read(&desk.keys, text) {
         Ok(token) => Ok(token),
         Err(_) => Err("a token".into()),
     }
@@ -105,7 +105,7 @@ fn an_ending_makes_a_file_beside_the_source(rt: HostRuntime) -> Result<(), Fail>
     let mut single = open(alloc, 4096, &["a.csv"])?;
     let answer = put(alloc, &mut single, FOR_A, suggested(alloc, b".txt")?, 5)?;
     let told =
-        "{\"Name\":\"a.txt\",\"Url\":\"http://localhost:8880/wopi/files/612e747874?access_token=v1.ann.612e747874.w.1.5.253402300799999.5426c3edc71442a7fc458ed8dd412410bdc4b32936df44f5e5201b8d82678a19\"}";
+        "{\"Name\":\"a.txt\",\"Url\":\"http://localhost:8880/wopi/files/612e747874?access_token=v2.0.ann.612e747874.w.1.5.253402300799999.7b2ec53d2d5e39a87f4f57e35afc32a842b40e4532dccc2bdfce371a42ffbb9b\"}";
     assert_eq!(rt; answer.status, 200);
     assert_eq!(rt; answer.version, None);
     assert_eq!(rt; answer.kind, BodyKind::Json);

@@ -7,4 +7,4 @@ pub text_of-requires : goal.text_of-requires
 text_of-requires c =
     let desk = c.args.desk.now in
     subst IsUtf8 (sym (c.deref.ensures.value ∙ c.in_ok-address.ensures))
-    (address_is_text desk.base desk.key c.args.name.now c.args.asking.now c.args.moment desk.form c.requires.asking c.as_str.ensures.form c.requires.moment)
+    (address_is_text desk.base desk.keys c.args.name.now c.args.asking.now c.args.moment desk.form c.requires.asking c.as_str.ensures.form c.requires.moment)
