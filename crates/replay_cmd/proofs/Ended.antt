@@ -36,6 +36,7 @@ use Rattle.replay_cmd.specs.Worlds.{IsRunOf, IsTextOf}
 use Rattle.replay_cmd.specs.Ends.{ends_in, TellsEnds, count_text, conflicts_in, saved_by_one, counts_in}
 use Rattle.replay_cmd.proofs.ReplyLemmas.{AreReplies-length, answer_status}
 use Rattle.replay_cmd.proofs.Delivered.{get_within}
+use Rattle.access_tokens.specs.declared.keys.Keys.{Keys}
 
 -- the names and the files are those of the world
 pub ends_shown : {F : Type 0} (book : Book F) (world : World) → StandsFor book world → (old new : List ℕ) → TellsEnds book old new
@@ -108,17 +109,17 @@ ends_more book names k name old text text' at so_far grew =
     ∙ ap (λ (l : List (List ℕ)). old ++ ends_in book l) (sym (take_next names k name (sym at)))
     ∙ ap (λ (n : ℕ). old ++ ends_in book (take n names)) (sym next)
 
-saved_upto : (key : List ℕ) (clients : List Client) (members : List Member) (requests : List Request) (world : World) → ShowsSessions key clients members requests world
+saved_upto : (keys : Keys) (clients : List Client) (members : List Member) (requests : List Request) (world : World) → ShowsSessions keys clients members requests world
     → (n : ℕ) → n ≤ length clients → saved_by world n ≡ sum_by saved_by_one (take n members)
-saved_upto key clients members requests world shows zero few = refl
-saved_upto key clients members requests world shows (suc n) few =
+saved_upto keys clients members requests world shows zero few = refl
+saved_upto keys clients members requests world shows (suc n) few =
     let client = get_within clients n (omega (arith, few)) in
     let place = shows.each n client.0 client.1 in
     let one : Member = place.0 in
     let own : saved_by_one one ≡ length (filter (λ told. is_saved told.outcome) (world.members n).told) =
     ap (λ (l : List Told). length (filter (λ told. is_saved told.outcome) l)) place.2.told ∙ same_saved (world.members n).told in
     let single : sum_by saved_by_one (one ∷ []) ≡ saved_by_one one = let e = sum_by-cons saved_by_one one [] in e ∙ omega arith in
-    let rest = saved_upto key clients members requests world shows n (omega (arith, few)) in
+    let rest = saved_upto keys clients members requests world shows n (omega (arith, few)) in
     ap (λ (m : ℕ). m + length (filter (λ told. is_saved told.outcome) (world.members n).told)) rest
     ∙ ap (λ (m : ℕ). sum_by saved_by_one (take n members) + m) (sym own ∙ sym single)
     ∙ sym (sum_by-append saved_by_one (take n members) (one ∷ []))
@@ -140,7 +141,7 @@ counts_shown setting desk book history requests replies members world shows sess
     let count : length members ≡ length sessions = shows.sessions.count ∙ clients in
     let saved : sum_by saved_by_one members ≡ saved_by world (length sessions) =
     ap (sum_by saved_by_one) (sym (take-length members)) ∙ ap (λ (n : ℕ). sum_by saved_by_one (take n members)) count
-    ∙ sym (saved_upto desk.key setting.clients members requests world shows.sessions (length sessions) (omega (arith, clients))) in
+    ∙ sym (saved_upto desk.keys setting.clients members requests world shows.sessions (length sessions) (omega (arith, clients))) in
     let text : ℕ → ℕ → ℕ → ℕ → List ℕ = λ a b c d.
     count_text (codes "requests") a ++ count_text (codes "replies") b ++ count_text (codes "conflicts") c ++ count_text (codes "saved") d in
     ap (λ (n : ℕ). text n (length replies) (conflicts_in replies) (sum_by saved_by_one members)) sent

@@ -18,6 +18,7 @@ use Rattle.replay_cmd.specs.Sessions.{IsSameTurn, IsSameEffect}
 use Rattle.replay_cmd.specs.Members.{StepsTo, StepsIn, IsMember, ShowsSessions, request_kept}
 use Rattle.replay_cmd.specs.Words.{operation_shown, outcome_shown, output_shown}
 use Rattle.replay_cmd.specs.Trace.{turn_shown, client_shown}
+use Rattle.access_tokens.specs.declared.keys.Keys.{Keys}
 
 -- of a session that took an input
 pub steps_shown : (old new : Member) (requests requests' : List Request) (s : ℕ) (given : Input) (words : List (List ℕ)) → StepsTo old new requests requests' s given words
@@ -47,16 +48,16 @@ same_shown nonce s count one other h =
     ∙ same_effect nonce s count (body_of other.session) one.effect other.effect h.effect
 
 -- of a session of the world, whose member this is
-pub client_steps : (key : List ℕ) (clients : List Client) (members members' : List Member) (requests requests' : List Request) (world : World)
-    → ShowsSessions key clients members requests world → (s : ℕ) (client : Client) → slice_get clients s ≡ Some client
+pub client_steps : (keys : Keys) (clients : List Client) (members members' : List Member) (requests requests' : List Request) (world : World)
+    → ShowsSessions keys clients members requests world → (s : ℕ) (client : Client) → slice_get clients s ≡ Some client
     → (given given' : Input) (words : List (List ℕ)) → StepsIn members members' requests requests' s given words
     → IsSameTurn (stepped client.nonce (world.members s).session given) (stepped client.nonce (world.members s).session given')
     → words ≡ client_shown world s given' (Some client)
-client_steps key clients members members' requests requests' world shows s client there given given' words in_place same =
+client_steps keys clients members members' requests requests' world shows s client there given given' words in_place same =
     let place = shows.each s client there in
     let found : Some in_place.old ≡ Some place.0 = sym in_place.at ∙ place.1 in
     let one : in_place.old ≡ place.0 = cc in
-    let is : IsMember key client in_place.old (world.members s) = subst (λ (m : Member). IsMember key client m (world.members s)) (sym one) place.2 in
+    let is : IsMember keys client in_place.old (world.members s) = subst (λ (m : Member). IsMember keys client m (world.members s)) (sym one) place.2 in
     let count : length requests ≡ length world.requests = ap length shows.sent ∙ length-map world.requests (request_kept clients) in
     steps_shown in_place.old in_place.new requests requests' s given words in_place.steps
     ∙ ap (λ (n : List ℕ). turn_shown n s (length requests) (stepped n in_place.old.session.state given)) is.nonce
