@@ -4,5 +4,6 @@ mod Heads
 mod MarkLemmas
 mod Parts
 mod Readings
+mod Remembered
 mod Verdicts
 mod WordLemmas

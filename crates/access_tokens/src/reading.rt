@@ -114,19 +114,20 @@ fn token_of(fields: &Fields) -> Option<Token>
 
 /// Whether the code is that of what stands before it and its period.
 fn is_right(key: &Key, text: &[u8], mac: &[u8]) -> bool
-    requires sized { length mac.now ≡ 64 }
-    requires within { 65 ≤ length text.now }
+    requires { 65 ≤ length text.now }
     ensures { IsTrue result ↔ (mac.now ≡ mac_of key.now (take (length text.now - 65) text.now)) }
 {
     let signed = &text[..text.len() - MAC - 1];
     are_equal(mac, &mac_of(key, signed))
 }
 
-/// Whether two texts of one length are equal. It looks at every byte, whatever it finds.
-fn are_equal(first: &[u8], second: &[u8]) -> bool
-    requires { length first.now ≡ length second.now }
+/// Whether two texts are equal. Where their lengths are, it looks at every byte, whatever it finds.
+pub(crate) fn are_equal(first: &[u8], second: &[u8]) -> bool
     ensures { IsTrue result ↔ (first.now ≡ second.now) }
 {
+    if first.len() != second.len() {
+        return false;
+    }
     let mut differences = 0u8;
     for i in 0..first.len() {
         differences |= first[i] ^ second[i];

@@ -1,6 +1,9 @@
-use crate::{Key, Keys, Token, TokenFault, User, hmac, live, mint, read};
+ghost use Rattle.access_tokens.specs.Remembering.{Remembers};
+
+use crate::{Key, Keys, LastToken, Token, TokenFault, User, hmac, live, mint, read};
+use std::alloc::Global;
 use std::test::Fail;
-use wopi_text::FileName;
+use wopi_text::{Bytes, FileName};
 
 /// The key `Jefe`, in hex.
 const WORD: &[u8] = b"4a656665";
@@ -208,5 +211,31 @@ fn a_token_is_live_from_the_opening_until_it_expires(rt: HostRuntime) -> Result<
     assert!(rt; live(&token, issued, expires - 1));
     assert!(rt; !live(&token, issued, expires));
     assert!(rt; !live(&token, issued + 1, issued));
+    Ok(())
+}
+
+/// Whether a text has a token, read by one who remembers the last.
+fn is_read(alloc: Global, last: &mut LastToken, keys: &Keys, text: &str) -> Result<bool, Fail>
+    requires { Remembers keys.now last.old }
+    ensures { Remembers keys.now last.new }
+{
+    let text = Bytes::from_slice(alloc, text.as_bytes())?;
+    Ok(last.read(keys, text).is_some())
+}
+
+#[test]
+fn a_text_shown_again_is_read_again_and_no_other_for_it(rt: HostRuntime) -> Result<(), Fail> {
+    let alloc = rt.alloc();
+    let keys = keys(b"0:4a656665,255:6b")?;
+    let mut last = LastToken::new(&keys);
+    assert!(rt; is_read(alloc, &mut last, &keys, TEXT)?);
+    assert!(rt; is_read(alloc, &mut last, &keys, TEXT)?);
+    let other = TEXT.replace(alloc, ".w.", ".r.")?;
+    assert!(rt; !is_read(alloc, &mut last, &keys, &other)?);
+    let forged = TEXT.replace(alloc, "1e48", "1e49")?;
+    assert!(rt; !is_read(alloc, &mut last, &keys, &forged)?);
+    assert!(rt; !is_read(alloc, &mut last, &keys, SIGNED)?);
+    assert!(rt; is_read(alloc, &mut last, &keys, LAST_TEXT)?);
+    assert!(rt; is_read(alloc, &mut last, &keys, TEXT)?);
     Ok(())
 }

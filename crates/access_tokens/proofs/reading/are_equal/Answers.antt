@@ -15,6 +15,6 @@ loop-i-preserved c = (
 
 pub returns : goal.returns
 returns c = (
-  λ none. same_number_lists _ _ c.requires (λ k h. c.loop-i.invariant.0 (eqb-true _ _ none) k (omega arith)),
+  λ none. same_number_lists _ _ c.if-first-second.false (λ k h. c.loop-i.invariant.0 (eqb-true _ _ none) k (omega arith)),
   λ same. eq-eqb _ _ (c.loop-i.invariant.1 (λ k h. ap (λ xs. get_or xs k 0) same)),
 )

@@ -24,8 +24,8 @@ returns-in_default-key_of-clause-no_key c = (unkeyed c).no_key
 pub returns-in_default-key_of-clause-bad_mac : goal.returns-in_default-key_of-clause-bad_mac
 returns-in_default-key_of-clause-bad_mac c = (unkeyed c).bad_mac
 
-pub is_right-requires-clause-within : goal.is_right-requires-clause-within
-is_right-requires-clause-within c = (signed_part _ _ _ _ c.in-Some.ensures.some).0
+pub is_right-requires : goal.is_right-requires
+is_right-requires c = (signed_part _ _ _ _ c.in-Some.ensures.some).0
 
 -- the code is right
 signed : (c : goal.Then-is_right) → IsAnswer c.args.keys.now c.args.text.now (Ok c.in-Some.reading.token)

@@ -1,0 +1,30 @@
+use Rattle.std.proofs.Common.{◌≡◌, List, ℕ, Ok, Err, refl, sym, ◌∙◌, subst}
+use Rattle.std.specs.Prelude.{◌↔◌}
+use Rattle.access_tokens.specs.TokenText.{IsSigned}
+use Rattle.access_tokens.proofs.Remembered.{known_is, signed_never, signed_only}
+use Rattle.access_tokens.proofs.remembering.LastToken.read.Goals as goal
+
+pub returns-then-are_equal-clause-exact : goal.returns-then-are_equal-clause-exact
+returns-then-are_equal-clause-exact c =
+    let keys = c.args.keys.now in
+    let known = known_is keys _ c.in-Some.known c.in-Some.is c.requires in
+    let same = sym c.as_slice.ensures ∙ c.if-are_equal.ensures.0 refl ∙ c.as_slice-in-Some.ensures in
+    signed_only keys c.args.text c.copy.result
+    (subst (IsSigned keys c.args.text) (sym c.copy.ensures) (subst (λ (text : List ℕ). IsSigned keys text c.in-Some.known.token) same known))
+
+pub returns-in_default-read-clause-exact : goal.returns-in_default-read-clause-exact
+returns-in_default-read-clause-exact c =
+    signed_never c.args.keys.now c.args.text c.in_default-read.field-0
+    (λ token. subst (λ (text : List ℕ). (Err c.in_default-read.field-0 ≡ Ok token) ↔ IsSigned c.args.keys.now text token) c.as_slice-2.ensures (c.in_default-read.ensures.exact token))
+
+pub returns-clause-exact : goal.returns-clause-exact
+returns-clause-exact c =
+    let keys = c.args.keys.now in
+    signed_only keys c.args.text c.in-Ok.token
+    (subst (λ (text : List ℕ). IsSigned keys text c.in-Ok.token) c.as_slice-2.ensures ((c.in-Ok.ensures.exact c.in-Ok.token).0 refl))
+
+pub returns-clause-remembers : goal.returns-clause-remembers
+returns-clause-remembers c =
+    let keys = c.args.keys.now in
+    subst (IsSigned keys c.args.text) (sym c.copy-kept.ensures)
+    (subst (λ (text : List ℕ). IsSigned keys text c.in-Ok.token) c.as_slice-2.ensures ((c.in-Ok.ensures.exact c.in-Ok.token).0 refl))
