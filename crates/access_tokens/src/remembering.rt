@@ -5,8 +5,8 @@ ghost use Rattle.access_tokens.specs.Remembering.{Remembers};
 ghost use Rattle.access_tokens.specs.TokenText.{IsSigned};
 ghost use Rattle.access_tokens.specs.declared.keys.Keys.{Keys};
 
-use crate::reading::{are_equal, read};
 use crate::Keys;
+use crate::reading::{are_equal, read};
 use wopi_model::Token;
 use wopi_text::Bytes;
 

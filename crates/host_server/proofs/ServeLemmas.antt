@@ -1,6 +1,6 @@
 -- From the messages so far to a whole connection.
 use Rattle.std.proofs.Common.{◌≡◌, ◌<◌, ◌+◌, ℕ, false, List, [], ◌∷◌, ◌++◌, Option, None, Some, refl, sym, ap, ◌∙◌, subst, arith, length-append}
-use Rattle.std.specs.Io.KnownBytes.{Consumes, Appends}
+use Rattle.std.specs.Io.KnownBytes.{Consumes, Appends, prepend_known}
 use Rattle.std.proofs.KnownBytes.{Appends-trans, Appends-nil, Consumes-trans}
 use Rattle.outside.specs.Clock.{GivesAll}
 use Rattle.outside.specs.Stream.{Are}
@@ -26,6 +26,22 @@ pub has_room : (count : ℕ) (q : Request) → is_last count q ≡ false → cou
 has_room count q stays few = grind (arith, stays, few)
 
 module _ (desk : Desk) (always : Sight → Type 0) (left clock : Option (List ℕ)) (sight : Sight) (held : Option (List ℕ)) where
+  -- before the first message
+  pub runs_nothing : (buffer : List ℕ) → buffer ≡ [] → Running desk always 0 left (prepend_known buffer left) clock clock sight sight held held
+  runs_nothing buffer empty = record {
+    turns = [];
+    go_on = tt;
+    count_is = refl;
+    reads = subst (λ (b : List ℕ). Consumes left (prepend_known b left) []) (sym empty) (nothing left);
+    times = GivesAll-nil clock;
+    makes = Does-nil always sight;
+    writes = Appends-nil held;
+  }
+    where
+      nothing : (a : Option (List ℕ)) → Consumes a (prepend_known [] a) []
+      nothing None = tt
+      nothing (Some bytes) = refl
+
   module _ (count : ℕ) (left' clock' : Option (List ℕ)) (sight' : Sight) (held' : Option (List ℕ))
       (running : Running desk always count left left' clock clock' sight sight' held held') where
     pub runs_on : (left'' clock'' : Option (List ℕ)) (sight'' : Sight) (held'' : Option (List ℕ))

@@ -1,6 +1,7 @@
 //! Requests answered by calls on files.
 ghost use Rattle.std.specs.Prelude.{◌≡◌, true, false};
 ghost use Rattle.wopi_model.specs.Moment.{IsMoment};
+ghost use Rattle.access_tokens.specs.Remembering.{Remembers};
 ghost use Rattle.host_server.specs.Telling.{is_info};
 ghost use Rattle.host_server.specs.Answering.{Ruled};
 ghost use Rattle.host_server.specs.Calls.{TellsCall, Tells};
@@ -11,7 +12,7 @@ use crate::calling::{Called, make};
 use crate::copying::{Copying, put_beside};
 use crate::desk::Desk;
 use crate::telling::{info_told, journal_full, ruling_told, status_only};
-use access_tokens::read;
+use access_tokens::LastToken;
 use host_core::{Act, Call, Caller};
 use std::alloc::Global;
 use wopi_headers::{Answer, Ask, AskFault, Op, Target, ask_of};
@@ -119,23 +120,26 @@ fn answer_call<C: Caller>(
 }
 
 /// Answers what was asked, with the request's body: its token is read under the desk's keys, and then the call is made.
-pub fn answer_ask<C: Caller>(
+fn answer_ask<C: Caller>(
     alloc: Global,
     caller: &mut C,
     desk: &Desk,
+    last: &mut LastToken,
     ask: Ask,
     body: Bytes,
     moment: u64,
 ) -> Result<Answer, Memory>
-    requires { IsMoment moment }
+    requires moment { IsMoment moment }
+    requires remembers { Remembers desk.now.keys last.old }
     ensures tells { Tells (Ruled desk.now ask body moment) C.always (C.sight caller.old) (C.sight caller.new) result }
     ensures basis { C.basis caller.new ≡ C.basis caller.old }
     ensures references { C.references caller.new ≡ C.references caller.old }
+    ensures remembers { Remembers desk.now.keys last.new }
 {
-    let Ok(token) = read(&desk.keys, ask.token.as_slice()) else {
+    let Ask { file, token, op } = ask;
+    let Some(token) = last.read(&desk.keys, token) else {
         return Ok(status_only(alloc, 401));
     };
-    let Ask { file, token: _, op } = ask;
     match task_of(op, body) {
         Task::One(act) => {
             let call = Call {
@@ -158,6 +162,29 @@ pub fn answer_ask<C: Caller>(
     }
 }
 
+/// Answers a request as [`answer`] does. A token that was read last isn't read again.
+pub(crate) fn answer_again<C: Caller>(
+    alloc: Global,
+    caller: &mut C,
+    desk: &Desk,
+    last: &mut LastToken,
+    request: Request,
+    moment: u64,
+) -> Result<Answer, Memory>
+    requires moment { IsMoment moment }
+    requires remembers { Remembers desk.now.keys last.old }
+    ensures answers { Answers desk.now request moment C.always (C.sight caller.old) (C.sight caller.new) result }
+    ensures basis { C.basis caller.new ≡ C.basis caller.old }
+    ensures references { C.references caller.new ≡ C.references caller.old }
+    ensures remembers { Remembers desk.now.keys last.new }
+{
+    match ask_of(alloc, &request) {
+        Ok(ask) => answer_ask(alloc, caller, desk, last, ask, request.body, moment),
+        Err(AskFault::Refused { status }) => Ok(status_only(alloc, status)),
+        Err(AskFault::Memory) => Err(Memory),
+    }
+}
+
 /// Answers a request: what it asks for is read from its head, its token is read under the desk's keys,
 /// and then the call is made. Contents go from the request into the call without a copy.
 pub fn answer<C: Caller>(
@@ -172,9 +199,12 @@ pub fn answer<C: Caller>(
     ensures basis { C.basis caller.new ≡ C.basis caller.old }
     ensures references { C.references caller.new ≡ C.references caller.old }
 {
-    match ask_of(alloc, &request) {
-        Ok(ask) => answer_ask(alloc, caller, desk, ask, request.body, moment),
-        Err(AskFault::Refused { status }) => Ok(status_only(alloc, status)),
-        Err(AskFault::Memory) => Err(Memory),
-    }
+    answer_again(
+        alloc,
+        caller,
+        desk,
+        &mut LastToken::new(&desk.keys),
+        request,
+        moment,
+    )
 }

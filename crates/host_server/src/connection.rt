@@ -3,12 +3,14 @@ ghost use Rattle.std.specs.Prelude.{◌≡◌, ◌≤◌, ◌<◌, ◌+◌, ◌=
 ghost use Rattle.std.specs.Io.KnownBytes.{prepend_known};
 ghost use Rattle.outside.specs.Faults.{Rose};
 ghost use Rattle.wopi_model.specs.Moment.{IsMoment};
+ghost use Rattle.access_tokens.specs.Remembering.{Remembers};
 ghost use Rattle.host_server.specs.Connection.{message_limit, is_last, Serves};
 ghost use Rattle.host_server.specs.Steps.{Prepares, Replies, Steps};
 
-use crate::answering::answer;
+use crate::answering::answer_again;
 use crate::desk::Desk;
 use crate::sending::{send, send_bare};
+use access_tokens::LastToken;
 use host_core::Caller;
 use outside::{Clock, Failed, Link};
 use std::alloc::Global;
@@ -50,16 +52,19 @@ fn reply_to<C: Caller>(
     alloc: Global,
     caller: &mut C,
     desk: &Desk,
+    last: &mut LastToken,
     request: Request,
     moment: u64,
     close: bool,
 ) -> Option<Reply>
-    requires { IsMoment moment }
+    requires moment { IsMoment moment }
+    requires remembers { Remembers desk.now.keys last.old }
     ensures basis { C.basis caller.new ≡ C.basis caller.old }
     ensures lent { C.references caller.new ≡ C.references caller.old }
     ensures makes { Prepares desk.now C.always request moment close (C.sight caller.old) (C.sight caller.new) result }
+    ensures remembers { Remembers desk.now.keys last.new }
 {
-    match answer(alloc, caller, desk, request, moment) {
+    match answer_again(alloc, caller, desk, last, request, moment) {
         Ok(answer) => match reply_of(alloc, answer, close) {
             Ok(reply) => Some(reply),
             Err(Memory) => None,
@@ -73,11 +78,13 @@ fn answer_message<C: Caller, L: Link, K: Clock>(
     alloc: Global,
     caller: &mut C,
     desk: &Desk,
+    last: &mut LastToken,
     link: &mut L,
     clock: &mut K,
     request: Request,
     close: bool,
 ) -> Result<(), Failed>
+    requires { Remembers desk.now.keys last.old }
     ensures basis { C.basis caller.new ≡ C.basis caller.old }
     ensures lent { C.references caller.new ≡ C.references caller.old }
     ensures replies { Replies desk.now C.always request close (K.moments clock.old) (K.moments clock.new)
@@ -87,9 +94,10 @@ fn answer_message<C: Caller, L: Link, K: Clock>(
     ensures references { L.references link.new ≡ L.references link.old }
     ensures never_falls { L.write_faults link.old ≤ L.write_faults link.new }
     ensures failed { OnErr result (Rose (L.write_faults link.old) (L.write_faults link.new)) }
+    ensures remembers { Remembers desk.now.keys last.new }
 {
     let moment = clock.now();
-    let reply = reply_to(alloc, caller, desk, request, moment, close);
+    let reply = reply_to(alloc, caller, desk, last, request, moment, close);
     send(link, reply, close)
 }
 
@@ -98,12 +106,14 @@ fn serve_one<C: Caller, L: Link, K: Clock>(
     alloc: Global,
     caller: &mut C,
     desk: &Desk,
+    last: &mut LastToken,
     link: &mut L,
     clock: &mut K,
     buffer: &mut Buffer,
     count: usize,
 ) -> Progress
-    requires { count < message_limit }
+    requires count { count < message_limit }
+    requires remembers { Remembers desk.now.keys last.old }
     ensures basis { C.basis caller.new ≡ C.basis caller.old }
     ensures lent { C.references caller.new ≡ C.references caller.old }
     ensures steps { Steps desk.now C.always count (prepend_known buffer.old (L.left link.old)) (prepend_known buffer.new (L.left link.new))
@@ -113,11 +123,12 @@ fn serve_one<C: Caller, L: Link, K: Clock>(
     ensures writes_count { L.write_faults link.old ≤ L.write_faults link.new }
     ensures read_fault { result ≡ Progress.Over ConnEnd.ReadFault → Rose (L.read_faults link.old) (L.read_faults link.new) }
     ensures write_fault { result ≡ Progress.Over ConnEnd.WriteFault → Rose (L.write_faults link.old) (L.write_faults link.new) }
+    ensures remembers { Remembers desk.now.keys last.new }
 {
     match read_request(link, buffer) {
         Got::Message(request) => {
             let close = is_last(count, &request);
-            match answer_message(alloc, caller, desk, link, clock, request, close) {
+            match answer_message(alloc, caller, desk, last, link, clock, request, close) {
                 Ok(()) => {
                     if close {
                         Progress::Over(ConnEnd::Done)
@@ -142,7 +153,8 @@ fn serve_one<C: Caller, L: Link, K: Clock>(
     }
 }
 
-/// Answers the messages of a link in their order.
+/// Answers the messages of a link in their order. A client that shows one token with all of them has its
+/// code computed once.
 pub fn serve_connection<C: Caller, L: Link, K: Clock>(
     alloc: Global,
     caller: &mut C,
@@ -167,8 +179,18 @@ pub fn serve_connection<C: Caller, L: Link, K: Clock>(
     let Ok(mut buffer) = Buffer::new(alloc) else {
         return ConnEnd::Memory;
     };
+    let mut last = LastToken::new(&desk.keys);
     'messages: for count in 0..MESSAGE_LIMIT {
-        match serve_one(alloc, caller, desk, link, clock, &mut buffer, count) {
+        match serve_one(
+            alloc,
+            caller,
+            desk,
+            &mut last,
+            link,
+            clock,
+            &mut buffer,
+            count,
+        ) {
             Progress::On => {}
             Progress::Over(end) => return end,
         }

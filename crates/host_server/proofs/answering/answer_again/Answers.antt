@@ -1,5 +1,5 @@
 use Rattle.host_server.proofs.TellLemmas.{asked_answers, refused_answers}
-use Rattle.host_server.proofs.answering.answer.Goals as goal
+use Rattle.host_server.proofs.answering.answer_again.Goals as goal
 
 pub returns-in-Ok-clause-answers : goal.returns-in-Ok-clause-answers
 returns-in-Ok-clause-answers g c =
