@@ -1,5 +1,5 @@
 -- What is known of a text that was read before.
-use Rattle.std.proofs.Common.{◌≡◌, List, ℕ, Option, None, Some, Ok, Err, refl, sym, ap, subst, ◌∙◌}
+use Rattle.std.proofs.Common.{◌≡◌, List, ℕ, Option, None, Some, Ok, Err, ap, subst}
 use Rattle.std.specs.Prelude.{◌↔◌}
 use Rattle.wopi_model.specs.declared.token.Token.{Token}
 use Rattle.access_tokens.specs.Remembering.{IsKnown, MayBeKnown}

@@ -92,7 +92,7 @@ same_saved (one ∷ told) =
     length_either (is_saved one.outcome) (is_saved one.outcome) (told_kept one) (filter (λ one. is_saved one.outcome) (map told_kept told)) one (filter (λ one. is_saved one.outcome) told)
     refl (same_saved told)
 
-take_next : {T : Type 0} (xs : List T) (n : ℕ) (x : T) → slice_get xs n ≡ Some x → take (suc n) xs ≡ take n xs ++ x ∷ []
+pub take_next : {T : Type 0} (xs : List T) (n : ℕ) (x : T) → slice_get xs n ≡ Some x → take (suc n) xs ≡ take n xs ++ x ∷ []
 take_next [] n x e = cc
 take_next (y ∷ xs) zero x e = let same : y ≡ x = cc in ap (λ z. z ∷ []) same
 take_next (y ∷ xs) (suc n) x e = ap (λ l. y ∷ l) (take_next xs n x e)

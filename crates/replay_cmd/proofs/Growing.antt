@@ -15,8 +15,9 @@ use Rattle.replay_cmd.specs.declared.schedule.EventLine.{EventLine}
 use Rattle.replay_cmd.specs.declared.schedule.EventLine.TheVariants as line
 use Rattle.replay_cmd.specs.declared.one_line.AnyLine.{AnyLine}
 use Rattle.replay_cmd.specs.declared.one_line.AnyLine.TheVariants.{File, Session, Event}
-use Rattle.replay_cmd.specs.Schedules.{IsEvent, IsSchedule, Lines, most_contents}
-use Rattle.replay_cmd.specs.Grammar.{AreRows, Each, IsEventRow, IsFileRow, IsSessionRow, most_bytes, most_rows, says}
+use Rattle.wopi_model.specs.Moment.{IsMoment}
+use Rattle.replay_cmd.specs.Schedules.{AreRestarts, IsEvent, IsRestart, IsSchedule, Lines, most_contents}
+use Rattle.replay_cmd.specs.Grammar.{AreIssued, AreRows, Each, IsEventRow, IsFileRow, IsSessionRow, most_bytes, most_rows, says}
 use Rattle.replay_cmd.specs.Readings.{Fits, IsInOrder, IsLine, Suits, is_among, names_of, with_line}
 use Rattle.replay_cmd.proofs.FittingLines.{among_none, none_among, nonces_of}
 
@@ -52,6 +53,10 @@ each_length R (a ∷ rows) (x ∷ xs) h = let later = each_length R rows xs h.1 
 each_length R [] (x ∷ xs) h = elim h [ ]
 each_length R (a ∷ rows) [] h = elim h [ ]
 
+pub no_items : {T : Type 0} (xs : List T) → length xs ≤ 0 → [] ≡ xs
+no_items [] h = refl
+no_items (x ∷ xs) h = absurd (omega (arith, h))
+
 -- ---- lists and their last
 
 pub last_of : {T : Type 0} (xs : List T) → (xs ≡ []) ⊎ ((front : List T) × (x : T) × (xs ≡ front ++ x ∷ []))
@@ -74,7 +79,7 @@ same_last (c ∷ a) (d ∷ b) x y h =
 pub not_empty_end : {T : Type 0} (a : List T) (x : T) → a ++ x ∷ [] ≡ [] → ⊥
 not_empty_end a x h = omega (arith, ap length h, length-append a (x ∷ []))
 
-all_more : {T : Type 0} (P : T → Type 0) (xs : List T) (x : T) → AllByRecursion P xs → P x → AllByRecursion P (xs ++ x ∷ [])
+pub all_more : {T : Type 0} (P : T → Type 0) (xs : List T) (x : T) → AllByRecursion P xs → P x → AllByRecursion P (xs ++ x ∷ [])
 all_more P [] x h p = (p, tt)
 all_more P (y ∷ xs) x h p = (h.0, all_more P xs x h.1 p)
 
@@ -121,27 +126,60 @@ count_of rows lines are =
 
 -- ---- schedules
 
-pub event_of : (sessions : List SessionLine) (row : List ℕ) (event : EventLine) → IsEventRow row event → Suits sessions event → IsEvent sessions event
-event_of sessions row (line.Asks s wish.Start) is suits = (suits, tt)
-event_of sessions row (line.Asks s wish.Read) is suits = (suits, tt)
-event_of sessions row (line.Asks s (wish.Save contents)) is suits = (suits, is.1.0.short)
-event_of sessions row (line.Asks s wish.Refresh) is suits = (suits, tt)
-event_of sessions row (line.Asks s wish.Close) is suits = (suits, tt)
-event_of sessions row (line.Deliver request moment) is suits = is.1
-event_of sessions row (line.Answer reply) is suits = tt
-event_of sessions row (line.Lose s) is suits = suits
-event_of sessions row (line.Ticks moment) is suits = is.0
-event_of sessions row (line.Foreign moment ask) is suits =
+pub event_of : (sessions : List SessionLine) (events : List EventLine) (row : List ℕ) (event : EventLine) → IsEventRow row event → Suits sessions events event
+    → IsEvent sessions event
+event_of sessions events row (line.Asks s wish.Start) is suits = (suits, tt)
+event_of sessions events row (line.Asks s wish.Read) is suits = (suits, tt)
+event_of sessions events row (line.Asks s (wish.Save contents)) is suits = (suits, is.1.0.short)
+event_of sessions events row (line.Asks s wish.Refresh) is suits = (suits, tt)
+event_of sessions events row (line.Asks s wish.Close) is suits = (suits, tt)
+event_of sessions events row (line.Deliver request moment) is suits = is.1
+event_of sessions events row (line.Answer reply) is suits = tt
+event_of sessions events row (line.Lose s) is suits = suits
+event_of sessions events row (line.Ticks moment) is suits = is.0
+event_of sessions events row (line.Foreign moment ask) is suits =
     let contents = is.asked.contents in
     (is.moment_is, record { expires = is.expires; short = contents.short; target = is.asked.target; bodies = is.asked.bodies; others = suits })
+event_of sessions events row (line.Restarts moment) is suits = is.0
 
-suits_of : (sessions : List SessionLine) (event : EventLine) → IsEvent sessions event → Suits sessions event
-suits_of sessions (line.Asks s wish) is = is.0
-suits_of sessions (line.Deliver request moment) is = tt
-suits_of sessions (line.Answer reply) is = tt
-suits_of sessions (line.Lose s) is = is
-suits_of sessions (line.Ticks moment) is = tt
-suits_of sessions (line.Foreign moment ask) is = is.1.others
+suits_of : (sessions : List SessionLine) (events : List EventLine) (event : EventLine) → IsEvent sessions event → AreRestarts sessions (events ++ event ∷ [])
+    → Suits sessions events event
+suits_of sessions events (line.Asks s wish) is restarts = is.0
+suits_of sessions events (line.Deliver request moment) is restarts = tt
+suits_of sessions events (line.Answer reply) is restarts = tt
+suits_of sessions events (line.Lose s) is restarts = is
+suits_of sessions events (line.Ticks moment) is restarts = tt
+suits_of sessions events (line.Foreign moment ask) is restarts = is.1.others
+suits_of sessions events (line.Restarts moment) is restarts = restarts events [] moment refl
+
+-- restarts come behind nothing, behind one event less, and behind one more
+pub no_restart : (sessions : List SessionLine) → AreRestarts sessions []
+no_restart sessions front behind moment is = absurd (omega (arith, ap length is, length-append front (line.Restarts moment ∷ behind)))
+
+restarts_less : (sessions : List SessionLine) (events : List EventLine) (event : EventLine) → AreRestarts sessions (events ++ event ∷ []) → AreRestarts sessions events
+restarts_less sessions events event restarts front behind moment is =
+    restarts front (behind ++ event ∷ []) moment
+    (ap (λ (l : List EventLine). l ++ event ∷ []) is ∙ append_assoc front (line.Restarts moment ∷ behind) (event ∷ []))
+
+restarts_more : (sessions : List SessionLine) (events : List EventLine) (event : EventLine) → AreRestarts sessions events → Suits sessions events event
+    → AreRestarts sessions (events ++ event ∷ [])
+restarts_more sessions events event restarts suits front behind moment is = elim (last_of behind) [
+  | inl none ↦
+      let whole : events ++ event ∷ [] ≡ front ++ line.Restarts moment ∷ [] = is ∙ ap (λ (l : List EventLine). front ++ (line.Restarts moment ∷ l)) none in
+      let same = same_last events front event (line.Restarts moment) whole in
+      subst (λ (l : List EventLine). IsRestart sessions l moment) same.0 (subst (Suits sessions events) same.1 suits)
+  | inr more ↦
+      let whole : events ++ event ∷ [] ≡ (front ++ line.Restarts moment ∷ more.0) ++ more.1 ∷ [] =
+      is ∙ ap (λ (l : List EventLine). front ++ (line.Restarts moment ∷ l)) more.2 ∙ sym (append_assoc front (line.Restarts moment ∷ more.0) (more.1 ∷ [])) in
+      let same = same_last events (front ++ line.Restarts moment ∷ more.0) event more.1 whole in
+      restarts front more.0 moment same.0
+]
+
+-- the moment at which a token was issued is one
+issued_moment : (words : List (List ℕ)) (issued : ℕ) → AreIssued words issued → IsMoment issued
+issued_moment [] issued is = omega (arith, is)
+issued_moment (word ∷ []) issued is = is.0
+issued_moment (word ∷ other ∷ words) issued is = elim is [ ]
 
 pub grown : (lines : Lines) (row : List ℕ) (one : AnyLine) → IsLine row one → Fits lines one → IsSchedule lines
     → length lines.files + length lines.sessions + length lines.events < 16000 → IsSchedule (with_line lines one)
@@ -157,6 +195,7 @@ grown lines row (File file) is fits old few =
       few_lines = omega (arith, n, few);
       tokens = old.tokens;
       each = old.each;
+      restarts = old.restarts;
     }
 grown lines row (Session session) is fits old few =
     let n = length-append lines.sessions (session ∷ []) in
@@ -170,8 +209,9 @@ grown lines row (Session session) is fits old few =
       nonces = all_more _ lines.sessions session old.nonces is.nonce;
       few_sessions = omega (arith, n, room);
       few_lines = omega (arith, n, few);
-      tokens = all_more _ lines.sessions session old.tokens is.expires;
+      tokens = all_more _ lines.sessions session old.tokens (is.expires, issued_moment is.last session.issued is.issued);
       each = subst (λ (events : List EventLine). AllByRecursion (IsEvent (lines.sessions ++ session ∷ [])) events) (sym fits.0) tt;
+      restarts = subst (λ (events : List EventLine). AreRestarts (lines.sessions ++ session ∷ []) events) (sym fits.0) (no_restart (lines.sessions ++ session ∷ []));
     }
 grown lines row (Event event) is fits old few =
     let n = length-append lines.events (event ∷ []) in
@@ -184,7 +224,8 @@ grown lines row (Event event) is fits old few =
       few_sessions = old.few_sessions;
       few_lines = omega (arith, n, few);
       tokens = old.tokens;
-      each = all_more (IsEvent lines.sessions) lines.events event old.each (event_of lines.sessions row event is fits);
+      each = all_more (IsEvent lines.sessions) lines.events event old.each (event_of lines.sessions lines.events row event is fits);
+      restarts = restarts_more lines.sessions lines.events event old.restarts fits;
     }
 
 -- without its last line it is a schedule too
@@ -202,6 +243,7 @@ shrunk lines (File file) order new =
       few_lines = omega (arith, n, few);
       tokens = new.tokens;
       each = new.each;
+      restarts = new.restarts;
     }
 shrunk lines (Session session) order new =
     let n = length-append lines.sessions (session ∷ []) in
@@ -218,6 +260,7 @@ shrunk lines (Session session) order new =
       few_lines = omega (arith, n, few);
       tokens = (all_front _ lines.sessions session new.tokens).0;
       each = subst (λ (events : List EventLine). AllByRecursion (IsEvent lines.sessions) events) (sym order) tt;
+      restarts = subst (λ (events : List EventLine). AreRestarts lines.sessions events) (sym order) (no_restart lines.sessions);
     }
 shrunk lines (Event event) order new =
     let n = length-append lines.events (event ∷ []) in
@@ -232,6 +275,7 @@ shrunk lines (Event event) order new =
       few_lines = omega (arith, n, few);
       tokens = new.tokens;
       each = (all_front (IsEvent lines.sessions) lines.events event new.each).0;
+      restarts = restarts_less lines.sessions lines.events event new.restarts;
     }
 
 -- texts of which the last differs from the first
@@ -258,7 +302,8 @@ fits_there lines (Session session) order new =
       among_none lines.sessions session.nonce
           (new_at_end (nonces_of lines.sessions) session.nonce (ap all_differ (sym (map-append (λ (s : SessionLine). s.nonce) lines.sessions (session ∷ []))) ∙ new.nonces_differ)),
     )
-fits_there lines (Event event) order new = suits_of lines.sessions event (all_front (IsEvent lines.sessions) lines.events event new.each).1
+fits_there lines (Event event) order new =
+    suits_of lines.sessions lines.events event (all_front (IsEvent lines.sessions) lines.events event new.each).1 new.restarts
 
 -- ---- rows
 

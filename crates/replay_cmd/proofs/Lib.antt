@@ -6,6 +6,7 @@ pub mod Faults
 pub mod AskLemmas
 pub mod Turning
 pub mod Calling
+pub mod Low
 pub mod Within
 pub mod Spacious
 pub mod Rulings
@@ -17,11 +18,18 @@ pub mod Taken
 pub mod Counted
 pub mod Ended
 pub mod Copying
+pub mod Whose
+pub mod Ahead
 pub mod Validity
 pub mod Lines
 pub mod Joining
 pub mod FirstWorld
 pub mod Opened
+pub mod Sizes
+pub mod Greatest
+pub mod Anew
+pub mod Roomy
+pub mod Chosen
 pub mod WorkedRows
 pub mod Generated
 mod CarriedLemmas
@@ -38,3 +46,5 @@ mod OneReading
 mod PieceLemmas
 mod InputLemmas
 mod OneSchedule
+mod SessionRows
+mod Latest

@@ -29,9 +29,8 @@ use Rattle.replay_cmd.specs.Grammar.{AreAsked, AreRows, IsContents, IsCounted, I
 use Rattle.replay_cmd.specs.Readings.{IsLine, with_line}
 use Rattle.replay_cmd.specs.Words.{hex_text}
 use Rattle.replay_cmd.proofs.RowForms.{three_same}
-use Rattle.replay_cmd.proofs.Growing.{count_of, last_of}
+use Rattle.replay_cmd.proofs.Growing.{count_of, last_of, no_items}
 use Rattle.replay_cmd.proofs.LastRow.{last_row, silent_last}
-use Rattle.replay_cmd.proofs.ReadSteps.{no_items}
 use Rattle.replay_cmd.proofs.SameRows.{first_word, second_word, third_word, behind_three, kind_is, no_bytes, session_same}
 
 -- ---- names and contents
@@ -202,6 +201,7 @@ event_by word words =
     else if bytes_eq word (codes "deliver") then line.Deliver (reference_in (second_word words)) (count_in (third_word words))
     else if bytes_eq word (codes "answer") then line.Answer (reference_in (second_word words))
     else if bytes_eq word (codes "tick") then line.Ticks (count_in (second_word words))
+    else if bytes_eq word (codes "restart") then line.Restarts (count_in (second_word words))
     else foreign_in words (behind_three words)
 
 abbrev event_in : List (List ℕ) → EventLine
@@ -214,6 +214,7 @@ bare (line.Deliver request moment) = line.Deliver request moment
 bare (line.Answer reply) = line.Answer reply
 bare (line.Lose s) = line.Lose s
 bare (line.Ticks moment) = line.Ticks moment
+bare (line.Restarts moment) = line.Restarts moment
 
 event_back : (row : List ℕ) (event : EventLine) → IsEventRow row event → event_in (words_of row) ≡ bare event
 event_back row (line.Asks s wish.Start) is = ap event_in is.1 ∙ ap (λ (n : ℕ). line.Asks n wish.Start) (place_back s is.0)
@@ -229,6 +230,7 @@ event_back row (line.Deliver request moment) is =
     ∙ ap (λ (m : ℕ). line.Deliver request m) (moment_back moment is.1)
 event_back row (line.Answer reply) is = ap event_in is.1 ∙ ap (λ (r : Reference). line.Answer r) (reference_back reply is.0)
 event_back row (line.Ticks moment) is = ap event_in is.1 ∙ ap (λ (m : ℕ). line.Ticks m) (moment_back moment is.0)
+event_back row (line.Restarts moment) is = ap event_in is.1 ∙ ap (λ (m : ℕ). line.Restarts m) (moment_back moment is.0)
 event_back row (line.Foreign moment ask) is =
     let asked = is.asked in
     let words = is.op in
@@ -260,6 +262,7 @@ rebuilt (line.Deliver request moment) = refl
 rebuilt (line.Answer reply) = refl
 rebuilt (line.Lose s) = refl
 rebuilt (line.Ticks moment) = refl
+rebuilt (line.Restarts moment) = refl
 
 bare_asks : (event : EventLine) → asked_in (bare event) ≡ asked_in event
 bare_asks (line.Foreign moment ask) = refl
@@ -268,6 +271,7 @@ bare_asks (line.Deliver request moment) = refl
 bare_asks (line.Answer reply) = refl
 bare_asks (line.Lose s) = refl
 bare_asks (line.Ticks moment) = refl
+bare_asks (line.Restarts moment) = refl
 
 has_target : (row : List ℕ) (event : EventLine) → IsEventRow row event → HasTarget (asked_in event) (target_in event)
 has_target row (line.Foreign moment ask) is = is.asked.target
@@ -276,6 +280,7 @@ has_target row (line.Deliver request moment) is = refl
 has_target row (line.Answer reply) is = refl
 has_target row (line.Lose s) is = refl
 has_target row (line.Ticks moment) is = refl
+has_target row (line.Restarts moment) is = refl
 
 target_same : (o : Op) (one other : Option (List ℕ)) → HasTarget o one → HasTarget o other → one ≡ other
 target_same (op.PutRelative (Relative name overwrite)) None None h k = refl
@@ -310,7 +315,7 @@ file_same row one other is too =
     let contents : one.contents ≡ other.contents = sym (contents_back one.contents is.contents) ∙ ap contents_in words.2 ∙ contents_back other.contents too.contents in
     λ i. record { name = name i; contents = contents i }
 
-line_same : (row : List ℕ) (one other : AnyLine) → IsLine row one → IsLine row other → one ≡ other
+pub line_same : (row : List ℕ) (one other : AnyLine) → IsLine row one → IsLine row other → one ≡ other
 line_same row (File one) (File other) is too = ap (λ (f : FileLine). File f) (file_same row one other is too)
 line_same row (Session one) (Session other) is too = ap (λ s. Session s) (session_same row one other is too)
 line_same row (Event one) (Event other) is too = ap (λ (e : EventLine). Event e) (event_same row one other is too)
@@ -344,7 +349,7 @@ one_more front row lines other so_far are too = go (says row) refl
         ∙ ap (with_line two.old) (line_same row one.one two.one one.tells two.tells) ∙ sym two.with_it
     go false silent = so_far lines other (silent_last front row lines are silent) (silent_last front row other too silent)
 
-rows_same : (n : ℕ) (rows : List (List ℕ)) → length rows ≡ n → (lines other : Lines) → AreRows rows lines → AreRows rows other → lines ≡ other
+pub rows_same : (n : ℕ) (rows : List (List ℕ)) → length rows ≡ n → (lines other : Lines) → AreRows rows lines → AreRows rows other → lines ≡ other
 rows_same zero [] count lines other are too = no_lines lines are ∙ sym (no_lines other too)
 rows_same zero (row ∷ rows) count lines other are too = absurd (omega (arith, count))
 rows_same (suc n) rows count lines other are too = elim (last_of rows) [

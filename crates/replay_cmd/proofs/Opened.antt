@@ -1,10 +1,11 @@
 -- The shard of a schedule begins with no more bytes than its lines have.
-use Rattle.std.proofs.Common.{◌≡◌, ◌≤◌, ◌*◌, ◌||◌, ℕ, Bool, true, false, cond, List, [], ◌∷◌, length, map, sum_by, None, Some, refl, sym, ap, ◌∙◌, subst, arith}
+use Rattle.std.proofs.Common.{◌≡◌, ◌≤◌, ◌*◌, ◌||◌, ℕ, Bool, true, false, cond, List, [], ◌∷◌, length, map, sum_by, None, Some, inl, inr, refl, sym, ap, ◌∙◌, subst, arith}
 use Rattle.std.specs.Prelude.{IsSome}
 use Rattle.std.specs.Str.{bytes_eq}
 use Rattle.std.specs.List.{AllByRecursion, IsDistinct, list_any}
 use Rattle.std.specs.Map.{lookup}
 use Rattle.std.specs.Ordering.{nat_cmp}
+use Rattle.std.specs.declared.cmp.Ordering.TheVariants.{Less}
 use Rattle.std.specs.Cmp.Lexicographic.{slice_cmp, nat_list_eq_equiv}
 use Rattle.std.proofs.lemmas.List.{length-map}
 use Rattle.std.proofs.lemmas.List.Sums.{sum_by-cons}
@@ -12,17 +13,17 @@ use Rattle.std.proofs.lemmas.Map.Keys.{IsDistinct-from_sorted}
 use Rattle.std.proofs.lemmas.Map.Steps.{length-le_from_keys}
 use Rattle.std.proofs.lemmas.Map.Text.{is_eq-slice_cmp}
 use Rattle.wopi_model.specs.Shard.{Opening}
-use Rattle.host_core.specs.Opening.{IsByName, MayKeep, opened_contents}
+use Rattle.host_core.specs.Opening.{IsByName, IsTooLarge, MayKeep, opened_contents}
 use Rattle.host_core.specs.Value.{Book}
 use Rattle.replay_cmd.specs.declared.schedule.FileLine.{FileLine}
 use Rattle.replay_cmd.specs.Schedules.{most_contents, most_lines}
 use Rattle.replay_cmd.specs.Starts.{Opens}
 use Rattle.replay_cmd.proofs.FirstWorld.{has_form}
 
-abbrev OneFile : Type 0
+abbrev pub OneFile : Type 0
 OneFile = List ℕ × List ℕ
 
-abbrev names_in : Opening → List (List ℕ)
+abbrev pub names_in : Opening → List (List ℕ)
 names_in opening = map (λ (file : OneFile). file.0) opening
 
 -- a file that is there
@@ -57,7 +58,7 @@ looked_up (file ∷ opening) name contents h = by_test (bytes_eq file.0 name) re
         let rest : opened_contents opening name ≡ Some contents = sym (ap (λ (b : Bool). cond b (Some file.1) (opened_contents opening name)) e) ∙ h in
         subst (λ (b : Bool). IsSome (cond b (Some file.1) (lookup (bytes_eq name) opening))) (sym other) (go rest)
 
-distinct : (opening : Opening) → IsByName opening → IsDistinct bytes_eq (names_in opening)
+pub distinct : (opening : Opening) → IsByName opening → IsDistinct bytes_eq (names_in opening)
 distinct opening ordered =
     subst (λ (e : List ℕ → List ℕ → Bool). IsDistinct e (names_in opening)) (λ i x y. is_eq-slice_cmp x y i) (IsDistinct-from_sorted (slice_cmp nat_cmp) (names_in opening) ordered)
 
@@ -72,7 +73,7 @@ few_files given opening ordered among =
     omega (arith, short, same)
 
 -- a name that stands behind another isn't that one
-alone : (first : List ℕ) (others : Opening) (name contents : List ℕ) → AllByRecursion (λ y. bytes_eq first y ≡ false) (names_in others)
+pub alone : (first : List ℕ) (others : Opening) (name contents : List ℕ) → AllByRecursion (λ y. bytes_eq first y ≡ false) (names_in others)
     → opened_contents others name ≡ Some contents → bytes_eq first name ≡ true → ⊥
 alone first [] name contents all e here = cc
 alone first (other ∷ others) name contents all e here = by_other (bytes_eq other.0 name) refl (λ rest. alone first others name contents all.1 rest here)
@@ -126,7 +127,7 @@ sum_short (file ∷ opening) h =
     let here : length file.1 ≤ most_contents = h.0 in
     omega (arith, parts, rest, here)
 
-pub opening_small : {F : Type 0} (files : List FileLine) (book : Book F) → Opens (map (λ (f : FileLine). (f.name, f.contents)) files) book
+pub opening_small : {F : Type 0} (files : List FileLine) (book : Book F) → Opens (opened_contents (map (λ (f : FileLine). (f.name, f.contents)) files)) 0 1 book
     → AllByRecursion (λ (f : FileLine). length f.contents ≤ most_contents) files → length files ≤ most_lines
     → sum_by (λ (file : OneFile). length file.1) book.opening ≤ most_contents * most_lines
 opening_small files book opens short few =
@@ -139,3 +140,23 @@ opening_small files book opens short few =
     (λ name contents e. short_found files name contents short (among name contents e)) in
     let sum = sum_short book.opening each in
     omega (arith, count, same, sum, few)
+
+-- nor is any of them too large
+pub opening_fits : (files : List FileLine) (name : List ℕ) → AllByRecursion (λ (f : FileLine). length f.contents ≤ most_contents) files → length files ≤ most_lines
+    → IsTooLarge None (Some (opened_contents (map (λ (f : FileLine). (f.name, f.contents)) files))) name → ⊥
+opening_fits files name short few large =
+    let given : Opening = map (λ (f : FileLine). (f.name, f.contents)) files in
+    let before : Opening = large.before in
+    let among : (other contents : List ℕ) → opened_contents before other ≡ Some contents → opened_contents given other ≡ Some contents =
+    λ other contents e. sym (large.whole other (has_form (MayKeep None) before other contents large.own e, has_form (λ (n : List ℕ). slice_cmp nat_cmp n name ≡ Less) before other contents large.smaller e)) ∙ e in
+    let count : length before ≤ length given = few_files given before large.ordered among in
+    let same : length given ≡ length files = length-map files (λ (f : FileLine). (f.name, f.contents)) in
+    let each = each_file (λ contents. length contents ≤ most_contents) before (distinct before large.ordered)
+    (λ other contents e. short_found files other contents short (among other contents e)) in
+    let sum = sum_short before each in
+    let passes = large.passes in
+    let own : length passes.0 ≤ most_contents = short_found files name passes.0 short passes.1 in
+    elim passes.2 [
+      | inl long ↦ omega (arith, own, long)
+      | inr many ↦ omega (arith, own, many, count, same, sum, few)
+    ]

@@ -9,7 +9,7 @@ use Rattle.replay_cmd.specs.declared.reading.ScheduleFault.TheVariants.{BadLine,
 use Rattle.replay_cmd.specs.declared.pieces.PieceReader.{PieceReader}
 use Rattle.replay_cmd.specs.Schedules.{IsSchedule, Lines}
 use Rattle.replay_cmd.specs.Grammar.{IsBadLine, IsText, most_bytes, most_rows, rows_of}
-use Rattle.replay_cmd.specs.Readings.{HasNames, IsRefused, IsSoFar, TakesLine, lines_in}
+use Rattle.replay_cmd.specs.Readings.{IsKept, IsRefused, IsSoFar, TakesLine, lines_in}
 use Rattle.replay_cmd.specs.Pieces.{HasCome, IsFault, IsOver, IsRead, MayTakeLine, IsRowFault, IsTakenIn, LacksFeed, Lengthens, room_of}
 use Rattle.replay_cmd.proofs.Endings.{begins, fed, is_feed, lone}
 use Rattle.replay_cmd.proofs.ReadSteps.{begun, ended, refused, taken}
@@ -20,9 +20,9 @@ abbrev row_in : PieceReader → List ℕ
 row_in pieces = pieces.row.items
 
 pub come_begun : (pieces : PieceReader) → (pieces.reader.files.items ≡ []) × (pieces.reader.sessions.items ≡ []) × (pieces.reader.events.items ≡ [])
-    → HasNames pieces.reader.names pieces.reader.files.items → pieces.reader.rows ≡ 0 → row_in pieces ≡ [] → HasCome [] [] pieces
-come_begun pieces none names rows empty = record {
-  lines = λ more. subst (λ (l : List ℕ). IsSoFar more (l ++ more) pieces.reader) (sym empty) (begun more pieces.reader none names rows);
+    → IsKept pieces.reader → pieces.reader.rows ≡ 0 → row_in pieces ≡ [] → HasCome [] [] pieces
+come_begun pieces none kept rows empty = record {
+  lines = λ more. subst (λ (l : List ℕ). IsSoFar more (l ++ more) pieces.reader) (sym empty) (begun more pieces.reader none kept rows);
   row_is = subst LacksFeed (sym empty) (λ i d below. absurd (omega (arith, below)));
 }
 
@@ -42,13 +42,13 @@ ready_so_far : (text rest : List ℕ) (reader : Reader) → IsSoFar text rest re
 ready_so_far text rest reader so =
     let few = so.good.few in
     let count = so.count in
-    record { few = omega (arith, few, count); names = so.names }
+    record { few = omega (arith, few, count); kept = so.kept }
 
 pub come_ready : (text : List ℕ) (pieces : PieceReader) → HasCome text [] pieces → MayTakeLine pieces.reader
 come_ready text pieces come = ready_so_far text (row_in pieces) pieces.reader (so_far text pieces come)
 
 pub taken_ready : (row : List ℕ) (old new : Reader) → TakesLine row old new → MayTakeLine new
-taken_ready row old new is = let within = is.within in let rows = is.rows in record { few = omega (arith, within, rows); names = is.names }
+taken_ready row old new is = let within = is.within in let rows = is.rows in record { few = omega (arith, within, rows); kept = is.kept }
 
 -- a piece more has come, and nothing of it was taken
 pub piece_ahead : (text piece : List ℕ) (pieces : PieceReader) → HasCome text [] pieces → HasCome (text ++ piece) piece pieces

@@ -22,10 +22,6 @@ two_same words a b c d h k = let same = sym h ∙ k in (cc same, cc same)
 pub three_same : (words : List (List ℕ)) (a b c d e f : List ℕ) → words ≡ a ∷ b ∷ c ∷ [] → words ≡ d ∷ e ∷ f ∷ [] → (a ≡ d) × (b ≡ e) × (c ≡ f)
 three_same words a b c d e f h k = let same = sym h ∙ k in (cc same, cc same, cc same)
 
-pub four_same : (words : List (List ℕ)) (a b c d e f g i : List ℕ) → words ≡ a ∷ b ∷ c ∷ d ∷ [] → words ≡ e ∷ f ∷ g ∷ i ∷ []
-    → (a ≡ e) × (b ≡ f) × (c ≡ g) × (d ≡ i)
-four_same words a b c d e f g i h k = let same = sym h ∙ k in (cc same, cc same, cc same, cc same)
-
 pub five_same : (words : List (List ℕ)) (a b c d e f g i j l : List ℕ) → words ≡ a ∷ b ∷ c ∷ d ∷ e ∷ [] → words ≡ f ∷ g ∷ i ∷ j ∷ l ∷ []
     → (a ≡ f) × (b ≡ g) × (c ≡ i) × (d ≡ j) × (e ≡ l)
 five_same words a b c d e f g i j l h k = let same = sym h ∙ k in (cc same, cc same, cc same, cc same, cc same)

@@ -36,7 +36,7 @@ use Rattle.replay_cmd.specs.declared.history.Item.TheVariants as item
 use Rattle.replay_cmd.specs.Exchanges.{Exchanges, IsStored}
 use Rattle.replay_cmd.specs.Histories.{Asked}
 use Rattle.replay_cmd.specs.Hosts.{IsSetUp, StandsFor}
-use Rattle.replay_cmd.specs.Limits.{kept_by, HasSpace}
+use Rattle.replay_cmd.specs.Limits.{kept_by, kept_in, HasSpace}
 use Rattle.replay_cmd.specs.Schedules.{most_contents, most_lines}
 use Rattle.replay_cmd.proofs.AskLemmas.{entries_made}
 use Rattle.replay_cmd.proofs.Calling.{told_status}
@@ -131,10 +131,9 @@ module _ {F : Type 0} (desk : Desk) (book book' : Book F) (world : World) (set :
   small : (bytes : ℕ) → bytes ≤ most_contents → (opening_bytes + sum_by kept_by own) + bytes ≤ most_kept
   small bytes short =
       let count = space.fewer in
-      let held : sum_by kept_by (entries (last_run world.history)) ≤ most_contents * space.count = space.within.held.small in
-      let same : sum_by kept_by (entries (last_run world.history)) ≡ sum_by kept_by own = ap (λ (l : List Entry). sum_by kept_by l) stands.entries in
-      let begun : opening_bytes ≤ most_contents * most_lines = set.opening in
-      omega (arith, count, held, same, begun, short)
+      let held : kept_in world.history ≤ most_contents * space.count = space.within.held.small in
+      let all : opening_bytes + sum_by kept_by own ≤ most_contents * most_lines + kept_in world.history = stands.small in
+      omega (arith, count, held, all, short)
 
   -- the first call
   first_room : (call : Call) (moment : ℕ) (before after : Sight) (deeds : List Deed) → AreMet SeesItsOwn (sight_of book) (sight_of book') deeds

@@ -1,9 +1,8 @@
 -- What a line of a schedule adds to a world.
-use Rattle.std.proofs.Common.{◌≡◌, ◌≤◌, ◌⊎◌, ◌+◌, ◌*◌, ◌==◌, ℕ, Bool, cond, ◌||◌, ◌&&◌, List, [], ◌∷◌, ◌++◌, length, sum_by, Option, None, Some, unwrap_or, refl, sym, ap, ◌∙◌, subst, inl, inr, arith}
+use Rattle.std.proofs.Common.{◌≡◌, ◌≤◌, ◌⊎◌, ◌+◌, ◌*◌, ◌==◌, ℕ, Bool, cond, ◌||◌, ◌&&◌, List, [], ◌∷◌, ◌++◌, length, Option, None, Some, unwrap_or, refl, sym, ap, ◌∙◌, subst, inl, inr, arith}
 use Rattle.std.specs.Prelude.{⊤, nat_lt}
 use Rattle.std.proofs.lemmas.Bool.{cond_both}
 use Rattle.std.proofs.lemmas.List.{map-append, length-append}
-use Rattle.std.proofs.lemmas.List.Sums.{sum_by_push}
 use Rattle.std.specs.List.{slice_get}
 use Rattle.wopi_headers.specs.declared.answer.Answer.{Answer}
 use Rattle.wopi_headers.specs.declared.ask.Op.{Op}
@@ -15,7 +14,7 @@ use Rattle.wopi_model.specs.declared.calls.Call.{Call}
 use Rattle.wopi_model.specs.declared.calls.Ruling.{Ruling}
 use Rattle.wopi_model.specs.Host.{new_bytes}
 use Rattle.wopi_model.specs.Step.{bare}
-use Rattle.wopi_model.specs.Shard.{Entry, Tick, entries, stamps, last_from}
+use Rattle.wopi_model.specs.Shard.{Entry, Tick, Step, entries, stamps, last_from}
 use Rattle.wopi_acts.specs.Acts.{act_with}
 use Rattle.wopi_acts.specs.Answers.{ruling_told}
 use Rattle.save_session.specs.declared.input.Input.{Input}
@@ -33,19 +32,20 @@ use Rattle.save_session.specs.declared.state.Waiting.{Waiting}
 use Rattle.save_session.specs.LockIds.{lock_id}
 use Rattle.save_session.specs.Session.{stepped, op_of, saves, puts, relocks, settles_then, sends, tells, ends, loses, ignores, refused, was_read, continues, continues_with, has_next, names, says_spent, reply_to, answered_while, unanswered_while, is_new, is_free}
 use Rattle.wopi_world.specs.Requests.{Client, Sent, operation, body, sent_with, call_of, input_of}
-use Rattle.wopi_world.specs.History.{Item, Ran, last_run}
+use Rattle.wopi_world.specs.History.{Item, Ran, Restarted, last_run, names_after, opening_names}
 use Rattle.wopi_world.specs.World as in_world
-use Rattle.wopi_world.specs.World.{Setting, World, Request, Member, comes, enters, entry_of, replied, delivered, delivered_by, asks_one, tries, foreign, takes, turns, for_client, is_asked, is_taken, answers, answers_place, answers_sender, ruling_in, with_item, first_world}
+use Rattle.wopi_world.specs.World.{Setting, World, Request, Member, comes, enters, entry_of, replied, delivered, delivered_by, asks_one, tries, foreign, takes, turns, for_client, is_asked, is_taken, answers, answers_place, answers_sender, ruling_in, with_item, first_world, next_first}
 use Rattle.wopi_world.proofs.Lists.{get_back}
 use Rattle.replay_cmd.specs.declared.schedule.ForeignAsk.{ForeignAsk}
 use Rattle.replay_cmd.specs.declared.schedule.Wish.{Wish}
 use Rattle.replay_cmd.specs.declared.schedule.Wish.TheVariants as wish
 use Rattle.replay_cmd.specs.declared.schedule.EventLine.{EventLine}
 use Rattle.replay_cmd.specs.declared.schedule.EventLine.TheVariants as line
-use Rattle.replay_cmd.specs.Schedules.{IsEventLine, IsShortWish, most_contents}
-use Rattle.replay_cmd.specs.Runs.{place_of, wish_of, foreign_token, foreign_call, creates_of, asked_by, event_in}
-use Rattle.replay_cmd.specs.Limits.{kept_by, HoldsAtMost, IsWithin}
-use Rattle.replay_cmd.proofs.LastRun.{entries_ticked, entries_stepped}
+use Rattle.replay_cmd.specs.Schedules.{IsEventLine, IsSchedule, IsShortWish, Lines, most_contents}
+use Rattle.replay_cmd.specs.Runs.{place_of, wish_of, foreign_token, foreign_call, creates_of, asked_by, event_in, setting_of}
+use Rattle.replay_cmd.specs.Limits.{kept_by, kept_in, HoldsAtMost, IsLow, IsWithin}
+use Rattle.replay_cmd.proofs.LastRun.{entries_ticked, entries_stepped, entries_restarted, kept_pushed}
+use Rattle.replay_cmd.proofs.Low.{low_later, low_entry, low_restarted, low_wider, greatest_low, first_low}
 
 -- ---- entries
 
@@ -70,40 +70,49 @@ holds_more world call moment count bytes more h short =
     ap (λ (l : List Entry). last_from 0 (stamps l)) same
     ∙ ap (last_from 0) (map-append (λ (e : Entry). e.stamp) old (entry ∷ []))
     ∙ last_pushed 0 (stamps old) entry.stamp in
-    let sum : sum_by kept_by new ≡ sum_by kept_by old + kept_by entry = ap (λ (l : List Entry). sum_by kept_by l) same ∙ sum_by_push kept_by old entry in
+    let sum : kept_in (enters world call moment).history ≡ kept_in world.history + kept_by entry = kept_pushed world.history (Ran (Step entry)) in
     let most : kept_by entry ≤ new_bytes call.act = kept_most entry in
     let few : length old ≤ count = h.few in
-    let small : sum_by kept_by old ≤ bytes = h.small in
+    let small : kept_in world.history ≤ bytes = h.small in
     record { few = omega (arith, long, few); last = omega (arith, last, few); small = omega (arith, sum, most, short, small) }
 
 holds_wider : (history : List Item) (count bytes count' bytes' : ℕ) → HoldsAtMost count bytes history → count ≤ count' → bytes ≤ bytes' → HoldsAtMost count' bytes' history
 holds_wider history count bytes count' bytes' h more wider =
     let few : length (entries (last_run history)) ≤ count = h.few in
     let last : last_from 0 (stamps (entries (last_run history))) ≤ count = h.last in
-    let small : sum_by kept_by (entries (last_run history)) ≤ bytes = h.small in
+    let small : kept_in history ≤ bytes = h.small in
     record { few = omega (arith, few, more); last = omega (arith, last, more); small = omega (arith, small, wider) }
 
--- what a line may add to the entries
+-- what a line may add to the entries and the files
 abbrev Adds : ℕ → World → Type 0
-Adds count world = HoldsAtMost (2 * (count + 1)) (most_contents * (count + 1)) world.history
+Adds count world = HoldsAtMost (2 * (count + 1)) (most_contents * (count + 1)) world.history × IsLow (2 * (count + 1) + 1) world.shard
 
-adds_none : (count : ℕ) (world : World) → HoldsAtMost (2 * count) (most_contents * count) world.history → Adds count world
-adds_none count world h =
-    holds_wider world.history (2 * count) (most_contents * count) (2 * (count + 1)) (most_contents * (count + 1)) h (omega arith) (omega arith)
+module _ (count : ℕ) (world : World) (h : HoldsAtMost (2 * count) (most_contents * count) world.history) (low : IsLow (2 * count + 1) world.shard) where
+  adds_none : Adds count world
+  adds_none = (
+    holds_wider world.history (2 * count) (most_contents * count) (2 * (count + 1)) (most_contents * (count + 1)) h (omega arith) (omega arith),
+    low_wider (2 * count + 1) (2 * (count + 1) + 1) world.shard low (omega arith),
+  )
 
-adds_one : (count : ℕ) (world : World) (call : Call) (moment : ℕ) → HoldsAtMost (2 * count) (most_contents * count) world.history → new_bytes call.act ≤ most_contents
-    → Adds count (enters world call moment)
-adds_one count world call moment h short =
-    holds_wider (enters world call moment).history (2 * count + 1) (most_contents * count + most_contents) (2 * (count + 1)) (most_contents * (count + 1))
-    (holds_more world call moment (2 * count) (most_contents * count) most_contents h short) (omega arith) (omega arith)
+  adds_one : (call : Call) (moment : ℕ) → new_bytes call.act ≤ most_contents → Adds count (enters world call moment)
+  adds_one call moment short =
+      let after : World = enters world call moment in (
+        holds_wider after.history (2 * count + 1) (most_contents * count + most_contents) (2 * (count + 1)) (most_contents * (count + 1))
+            (holds_more world call moment (2 * count) (most_contents * count) most_contents h short) (omega arith) (omega arith),
+        low_wider ((2 * count + 1) + 1) (2 * (count + 1) + 1) after.shard (low_entry (2 * count + 1) world.shard low (entry_of world call moment) short) (omega arith),
+      )
 
-adds_two : (count : ℕ) (world : World) (first second : Call) (moment : ℕ) → HoldsAtMost (2 * count) (most_contents * count) world.history
-    → new_bytes first.act ≤ 0 → new_bytes second.act ≤ most_contents → Adds count (enters (enters world first moment) second moment)
-adds_two count world first second moment h none short =
-    let middle : World = enters world first moment in
-    holds_wider (enters middle second moment).history ((2 * count + 1) + 1) ((most_contents * count + 0) + most_contents) (2 * (count + 1)) (most_contents * (count + 1))
-    (holds_more middle second moment (2 * count + 1) (most_contents * count + 0) most_contents
-    (holds_more world first moment (2 * count) (most_contents * count) 0 h none) short) (omega arith) (omega arith)
+  adds_two : (first second : Call) (moment : ℕ) → new_bytes first.act ≤ 0 → new_bytes second.act ≤ most_contents → Adds count (enters (enters world first moment) second moment)
+  adds_two first second moment none short =
+      let middle : World = enters world first moment in
+      let after : World = enters middle second moment in
+      let one : IsLow ((2 * count + 1) + 1) middle.shard = low_entry (2 * count + 1) world.shard low (entry_of world first moment) (omega (arith, none)) in (
+        holds_wider after.history ((2 * count + 1) + 1) ((most_contents * count + 0) + most_contents) (2 * (count + 1)) (most_contents * (count + 1))
+            (holds_more middle second moment (2 * count + 1) (most_contents * count + 0) most_contents
+            (holds_more world first moment (2 * count) (most_contents * count) 0 h none) short) (omega arith) (omega arith),
+        low_wider (((2 * count + 1) + 1) + 1) (2 * (count + 1) + 1) after.shard
+            (low_entry ((2 * count + 1) + 1) middle.shard one (entry_of middle second moment) short) (omega arith),
+      )
 
 -- ---- sessions
 
@@ -228,20 +237,22 @@ module _ (count : ℕ) (world : World) (h : IsWithin count world) where
   with_history : (after : World) → Adds count after → after.requests ≡ world.requests → after.members ≡ world.members → IsWithin (count + 1) after
   with_history after held requests members =
       record {
-        held = held;
+        held = held.0;
+        files = held.1;
         sent = λ place request at. h.sent place request (ap (λ (l : List Request). slice_get l place) (sym requests) ∙ at);
         wanted = λ s. subst (λ (m : ℕ → Member). IsShort (m s).session.body) (sym members) (h.wanted s);
       }
 
   stays : IsWithin (count + 1) world
-  stays = with_history world (adds_none count world h.held) refl refl
+  stays = with_history world (adds_none count world h.held h.files) refl refl
 
   took : (s : ℕ) (session : State) (effect : Effect) → IsShort session.body → IsWithin (count + 1) (takes world s (world.members s) session effect)
   took s session (Sends asked) short =
       let new : Member = record { session = session; asked = Some (length world.requests); told = (world.members s).told } in
       let request : Request = record { sender = s; op = sent_with session.body asked } in
       record {
-        held = adds_none count world h.held;
+        held = (adds_none count world h.held h.files).0;
+        files = (adds_none count world h.held h.files).1;
         sent = λ place found at. elim (get_back world.requests request place found at) [
           | inl old ↦ h.sent place found old
           | inr last ↦ subst (λ (r : Request). length (body r.op) ≤ most_contents) last.1 (sent_short session.body asked short)
@@ -255,7 +266,8 @@ module _ (count : ℕ) (world : World) (h : IsWithin count world) where
         told = (world.members s).told ++ record { number = session.number; outcome = told; contents = unwrap_or session.contents [] } ∷ [];
       } in
       record {
-        held = adds_none count world h.held;
+        held = (adds_none count world h.held h.files).0;
+        files = (adds_none count world h.held h.files).1;
         sent = h.sent;
         wanted = λ other. cond_both (other == s) new (world.members other) (λ (m : Member). IsShort m.session.body) (λ e. short) (λ e. h.wanted other);
       }
@@ -307,14 +319,14 @@ module _ (count : ℕ) (world : World) (h : IsWithin count world) where
   act_short asked_op.Delete contents short = omega arith
 
   one_asked : (call : Call) (moment before : ℕ) → new_bytes call.act ≤ most_contents → IsWithin (count + 1) (asks_one world call moment before)
-  one_asked call moment before short = with_history (asks_one world call moment before) (adds_one count world call moment h.held short) refl refl
+  one_asked call moment before short = with_history (asks_one world call moment before) (adds_one count world h.held h.files call moment short) refl refl
 
   client_delivered : (place moment : ℕ) (sent : Sent) → length (body sent) ≤ most_contents → (found : Option Client) → IsWithin (count + 1) (delivered_by world place moment sent found)
   client_delivered place moment sent short None = stays
   client_delivered place moment sent short (Some client) =
       let call : Call = call_of client sent in
       with_history (delivered_by world place moment sent (Some client))
-      (adds_one count world call moment h.held (act_short (op_of client.nonce (operation sent)) (body sent) short)) refl refl
+      (adds_one count world h.held h.files call moment (act_short (op_of client.nonce (operation sent)) (body sent) short)) refl refl
 
   request_delivered : (setting : Setting) (place moment : ℕ) (found : Option Request) → slice_get world.requests place ≡ found → IsWithin (count + 1) (delivered setting world place moment found)
   request_delivered setting place moment None at = stays
@@ -322,13 +334,13 @@ module _ (count : ℕ) (world : World) (h : IsWithin count world) where
       client_delivered place moment request.op (h.sent place request at) (slice_get setting.clients request.sender)
 
   -- a copy: a look, and one name that is tried
-  module _ (ask : ForeignAsk) (moment before : ℕ) (short : length ask.body ≤ most_contents) where
+  module _ (opened : ℕ) (ask : ForeignAsk) (moment before : ℕ) (short : length ask.body ≤ most_contents) where
     module _ (look : Call) (looks : new_bytes look.act ≤ 0) where
       abbrev looked : World
       looked = enters world look moment
 
       only_looked : Adds count looked
-      only_looked = adds_one count world look moment h.held (omega (arith, looks))
+      only_looked = adds_one count world h.held h.files look moment (omega (arith, looks))
 
       tried : (creates : List Call) → (creates ≡ []) ⊎ ((create : Call) × (creates ≡ create ∷ []) × (new_bytes create.act ≤ most_contents))
           → (last : Ruling) → IsWithin (count + 1) (tries looked creates moment before last)
@@ -337,7 +349,7 @@ module _ (count : ℕ) (world : World) (h : IsWithin count world) where
           (with_history (replied looked None before last) only_looked refl refl)
       tried creates (inr one) last =
           let create : Call = one.0 in
-          let both : Adds count (enters looked create moment) = adds_two count world look create moment h.held looks one.2 in
+          let both : Adds count (enters looked create moment) = adds_two count world h.held h.files look create moment looks one.2 in
           let ruling : Ruling = ruling_in looked create moment in
           subst (λ (l : List Call). IsWithin (count + 1) (tries looked l moment before last)) (sym one.1)
           (cond_both (is_taken ruling.reason) (replied (enters looked create moment) None before ruling) (asks_one looked create moment before) (IsWithin (count + 1))
@@ -345,32 +357,32 @@ module _ (count : ℕ) (world : World) (h : IsWithin count world) where
           (λ e. with_history (asks_one looked create moment before) both refl refl))
 
     one_create : (target : Target) (found : Option (List ℕ))
-        → (creates_of ask target found ≡ []) ⊎ ((create : Call) × (creates_of ask target found ≡ create ∷ []) × (new_bytes create.act ≤ most_contents))
+        → (creates_of opened ask target found ≡ []) ⊎ ((create : Call) × (creates_of opened ask target found ≡ create ∷ []) × (new_bytes create.act ≤ most_contents))
     one_create (Suggested text) found = inl refl
     one_create (Relative name overwrite) None = inl refl
     one_create (Relative name overwrite) (Some target) =
-        inr (record { name = target; token = foreign_token ask; act = act.Create overwrite ask.body }, refl, short)
+        inr (record { name = target; token = foreign_token opened ask; act = act.Create overwrite ask.body }, refl, short)
 
-    copied : (target : Target) → ask.op ≡ asked_op.PutRelative target → IsWithin (count + 1) (foreign world (asked_by ask (asked_op.PutRelative target)) moment before)
+    copied : (target : Target) → ask.op ≡ asked_op.PutRelative target → IsWithin (count + 1) (foreign world (asked_by opened ask (asked_op.PutRelative target)) moment before)
     copied target is =
-        let look : Call = foreign_call ask in
+        let look : Call = foreign_call opened ask in
         let none : new_bytes look.act ≡ 0 = ap (λ (o : Op). new_bytes (act_with ask.body o)) is in
         let looks : new_bytes look.act ≤ 0 = omega (arith, none) in
-        cond_both ((ruling_in world look moment).status == 200) (tries (enters world look moment) (creates_of ask target ask.target) moment before (bare 400)) (asks_one world look moment before)
-        (IsWithin (count + 1)) (λ e. tried look looks (creates_of ask target ask.target) (one_create target ask.target) (bare 400))
+        cond_both ((ruling_in world look moment).status == 200) (tries (enters world look moment) (creates_of opened ask target ask.target) moment before (bare 400)) (asks_one world look moment before)
+        (IsWithin (count + 1)) (λ e. tried look looks (creates_of opened ask target ask.target) (one_create target ask.target) (bare 400))
         (λ e. one_asked look moment before (omega (arith, none)))
 
-    foreign_asked : (asked : Op) → ask.op ≡ asked → IsWithin (count + 1) (foreign world (asked_by ask asked) moment before)
-    foreign_asked asked_op.Info is = one_asked (foreign_call ask) moment before (act_short ask.op ask.body short)
-    foreign_asked (asked_op.Get most) is = one_asked (foreign_call ask) moment before (act_short ask.op ask.body short)
-    foreign_asked (asked_op.Put lock) is = one_asked (foreign_call ask) moment before (act_short ask.op ask.body short)
-    foreign_asked (asked_op.Lock id) is = one_asked (foreign_call ask) moment before (act_short ask.op ask.body short)
-    foreign_asked asked_op.GetLock is = one_asked (foreign_call ask) moment before (act_short ask.op ask.body short)
-    foreign_asked (asked_op.Refresh id) is = one_asked (foreign_call ask) moment before (act_short ask.op ask.body short)
-    foreign_asked (asked_op.Unlock id) is = one_asked (foreign_call ask) moment before (act_short ask.op ask.body short)
-    foreign_asked (asked_op.Relock old id) is = one_asked (foreign_call ask) moment before (act_short ask.op ask.body short)
+    foreign_asked : (asked : Op) → ask.op ≡ asked → IsWithin (count + 1) (foreign world (asked_by opened ask asked) moment before)
+    foreign_asked asked_op.Info is = one_asked (foreign_call opened ask) moment before (act_short ask.op ask.body short)
+    foreign_asked (asked_op.Get most) is = one_asked (foreign_call opened ask) moment before (act_short ask.op ask.body short)
+    foreign_asked (asked_op.Put lock) is = one_asked (foreign_call opened ask) moment before (act_short ask.op ask.body short)
+    foreign_asked (asked_op.Lock id) is = one_asked (foreign_call opened ask) moment before (act_short ask.op ask.body short)
+    foreign_asked asked_op.GetLock is = one_asked (foreign_call opened ask) moment before (act_short ask.op ask.body short)
+    foreign_asked (asked_op.Refresh id) is = one_asked (foreign_call opened ask) moment before (act_short ask.op ask.body short)
+    foreign_asked (asked_op.Unlock id) is = one_asked (foreign_call opened ask) moment before (act_short ask.op ask.body short)
+    foreign_asked (asked_op.Relock old id) is = one_asked (foreign_call opened ask) moment before (act_short ask.op ask.body short)
     foreign_asked (asked_op.PutRelative target) is = copied target is
-    foreign_asked asked_op.Delete is = one_asked (foreign_call ask) moment before (act_short ask.op ask.body short)
+    foreign_asked asked_op.Delete is = one_asked (foreign_call opened ask) moment before (act_short ask.op ask.body short)
 
   wished : (wish : Wish) → IsShortWish wish → IsShortInput (input_of (wish_of wish))
   wished wish.Start short = tt
@@ -378,6 +390,31 @@ module _ (count : ℕ) (world : World) (h : IsWithin count world) where
   wished (wish.Save contents) short = short
   wished wish.Refresh short = tt
   wished wish.Close short = tt
+
+  ticked : (moment : ℕ) → IsWithin (count + 1) (with_item world (Ran (Tick moment)))
+  ticked moment =
+      let same : entries (last_run (world.history ++ Ran (Tick moment) ∷ [])) ≡ entries (last_run world.history) = entries_ticked world.history moment in
+      let held = (adds_none count world h.held h.files).0 in
+      with_history (with_item world (Ran (Tick moment))) (
+        record {
+          few = subst (λ (l : List Entry). length l ≤ 2 * (count + 1)) (sym same) held.few;
+          last = subst (λ (l : List Entry). last_from 0 (stamps l) ≤ 2 * (count + 1)) (sym same) held.last;
+          small = let kept = held.small in let more = kept_pushed world.history (Ran (Tick moment)) in omega (arith, kept, more);
+        },
+        low_later (2 * (count + 1) + 1) world.shard (adds_none count world h.held h.files).1 moment,
+      ) refl refl
+
+  restarted : (moment first : ℕ) → first ≤ (2 * count + 1) + 1 → IsWithin (count + 1) (with_item world (Restarted moment first))
+  restarted moment first within =
+      let none : entries (last_run (world.history ++ Restarted moment first ∷ [])) ≡ [] = entries_restarted world.history moment first in
+      with_history (with_item world (Restarted moment first)) (
+        record {
+          few = subst (λ (l : List Entry). length l ≤ 2 * (count + 1)) (sym none) (omega arith);
+          last = subst (λ (l : List Entry). last_from 0 (stamps l) ≤ 2 * (count + 1)) (sym none) (omega arith);
+          small = let kept = h.held.small in let more = kept_pushed world.history (Restarted moment first) in omega (arith, kept, more);
+        },
+        low_restarted (2 * count + 1) world.shard h.files (2 * (count + 1) + 1) moment first (omega (arith, within)),
+      ) refl refl
 
   -- a line more
   pub one_within : (setting : Setting) (event : EventLine) → IsEventLine event → IsWithin (count + 1) (comes setting world (event_in world event))
@@ -387,22 +424,18 @@ module _ (count : ℕ) (world : World) (h : IsWithin count world) where
       request_delivered setting place moment (slice_get world.requests place) refl
   one_within setting (line.Answer reply) can = answered setting (slice_get world.replies (place_of reply (length world.replies)))
   one_within setting (line.Lose s) can = client_turned s input.NoAnswer tt (slice_get setting.clients s)
-  one_within setting (line.Ticks moment) can =
-      let same : entries (last_run (world.history ++ Ran (Tick moment) ∷ [])) ≡ entries (last_run world.history) = entries_ticked world.history moment in
-      let held : Adds count world = adds_none count world h.held in
-      with_history (with_item world (Ran (Tick moment)))
-      (record {
-        few = subst (λ (l : List Entry). length l ≤ 2 * (count + 1)) (sym same) held.few;
-        last = subst (λ (l : List Entry). last_from 0 (stamps l) ≤ 2 * (count + 1)) (sym same) held.last;
-        small = subst (λ (l : List Entry). sum_by kept_by l ≤ most_contents * (count + 1)) (sym same) held.small;
-      }) refl refl
-  one_within setting (line.Foreign moment ask) can = foreign_asked ask moment (length world.history) can.3 ask.op refl
+  one_within setting (line.Ticks moment) can = ticked moment
+  one_within setting (line.Restarts moment) can =
+      let most = greatest_low (2 * count + 1) world.shard h.files (names_after (opening_names setting.opening) world.history) in
+      restarted moment (next_first setting world) (omega (arith, most))
+  one_within setting (line.Foreign moment ask) can = foreign_asked world.shard.opened ask moment (length world.history) can.3 ask.op refl
 
 -- before the first line
-pub first_within : (setting : Setting) → IsWithin 0 (first_world setting)
-first_within setting =
+pub first_within : (lines : Lines) → IsSchedule lines → IsWithin 0 (first_world (setting_of lines))
+first_within lines form =
     record {
       held = record { few = omega arith; last = omega arith; small = omega arith };
+      files = first_low lines form;
       sent = λ place request at. cc;
       wanted = λ s. short_none;
     }

@@ -1,4 +1,4 @@
--- How a schedule is written: each line has one spelling. (Own.)
+-- How a schedule is written: each line has one spelling, but that 0 needn't be written as the moment at which a token was issued. (Own.)
 use Rattle.std.specs.Prelude.{◌≡◌, All, ⊤, ℕ, ◌+◌, ◌-◌, ◌<◌, ◌≤◌, ◌^◌, Bool, false, not, List, [], ◌∷◌, ◌++◌, length, filter, take, codes, decimal, Option, None, Some, ◌==◌, if◌then◌else◌}
 use Rattle.std.specs.List.{AllByRecursion, slice_split}
 use Rattle.hex.specs.Hex.{IsBytes}
@@ -36,12 +36,20 @@ pub record IsFileRow (row : List ℕ) (file : FileLine) : Type 0 where
   pub contents : IsContents file.contents
   pub words : words_of row ≡ codes "file" ∷ id_of file.name ∷ hex_text file.contents ∷ []
 
+-- the words say when a token was issued: at that moment, or, where there are none, at 0
+abbrev pub AreIssued : List (List ℕ) → ℕ → Type 0
+AreIssued [] issued = issued ≡ 0
+AreIssued (word ∷ []) issued = IsMoment issued × (word ≡ decimal issued)
+AreIssued _ issued = ⊥
+
 -- the line tells of a session
 pub record IsSessionRow (row : List ℕ) (session : SessionLine) : Type 0 where
   pub file : IsFileName session.file
   pub nonce : IsNonce session.nonce
   pub expires : IsMoment session.expires
-  pub words : words_of row ≡ codes "session" ∷ id_of session.file ∷ session.nonce ∷ decimal session.expires ∷ []
+  pub last : List (List ℕ)
+  pub issued : AreIssued last session.issued
+  pub words : words_of row ≡ codes "session" ∷ id_of session.file ∷ session.nonce ∷ decimal session.expires ∷ last
 
 -- a number from 1 that 64 bits hold
 pub record IsCounted (number : ℕ) : Type 0 where
@@ -127,6 +135,7 @@ IsEventRow row (line.Answer reply) = IsReference reply × (words_of row ≡ code
 IsEventRow row (line.Lose s) = IsCounted (s + 1) × (words_of row ≡ codes "lose" ∷ decimal (s + 1) ∷ [])
 IsEventRow row (line.Ticks moment) = IsMoment moment × (words_of row ≡ codes "tick" ∷ decimal moment ∷ [])
 IsEventRow row (line.Foreign moment ask) = IsForeignRow row moment ask
+IsEventRow row (line.Restarts moment) = IsMoment moment × (words_of row ≡ codes "restart" ∷ decimal moment ∷ [])
 
 -- the lines stand for these, one for each
 abbrev pub Each : {T : Type 0} → (List ℕ → T → Type 0) → List (List ℕ) → List T → Type 0

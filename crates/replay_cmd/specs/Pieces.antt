@@ -6,7 +6,7 @@ use Rattle.replay_cmd.specs.declared.reading.ScheduleFault.TheVariants.{BadLine,
 use Rattle.replay_cmd.specs.declared.pieces.PieceReader.{PieceReader}
 use Rattle.replay_cmd.specs.Schedules.{Lines}
 use Rattle.replay_cmd.specs.Grammar.{IsBadLine, IsText, most_bytes, most_rows}
-use Rattle.replay_cmd.specs.Readings.{HasNames, IsRefused, IsSoFar}
+use Rattle.replay_cmd.specs.Readings.{IsKept, IsRefused, IsSoFar}
 
 -- no byte ends a line
 abbrev pub LacksFeed : List ℕ → Type 0
@@ -20,7 +20,7 @@ pub record HasCome (text ahead : List ℕ) (pieces : PieceReader) : Type 0 where
 -- a line can be taken
 pub record MayTakeLine (reader : Reader) : Type 0 where
   pub few : reader.rows ≤ most_rows
-  pub names : HasNames reader.names reader.files.items
+  pub kept : IsKept reader
 
 -- the text has its first bad line here, however it goes on
 abbrev pub IsFault : List ℕ → ScheduleFault → Type 0

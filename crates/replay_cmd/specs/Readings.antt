@@ -1,5 +1,5 @@
 -- What the reader of a schedule has found. (Own.)
-use Rattle.std.specs.Prelude.{◌≡◌, ◌⊎◌, ⊤, ℕ, ◌+◌, ◌<◌, ◌≤◌, Bool, true, false, List, [], ◌∷◌, ◌++◌, length, map, Some, String}
+use Rattle.std.specs.Prelude.{◌≡◌, ◌⊎◌, ◌↔◌, ⊤, ℕ, ◌+◌, ◌<◌, ◌≤◌, Bool, true, false, List, [], ◌∷◌, ◌++◌, length, map, Some, String}
 use Rattle.std.specs.List.{list_any, slice_get}
 use Rattle.save_session.specs.LockIds.{BeginsWith}
 use Rattle.std.specs.Str.{bytes_eq}
@@ -13,7 +13,7 @@ use Rattle.replay_cmd.specs.declared.schedule.EventLine.TheVariants as line
 use Rattle.replay_cmd.specs.declared.one_line.AnyLine.{AnyLine}
 use Rattle.replay_cmd.specs.declared.one_line.AnyLine.TheVariants.{File, Session, Event}
 use Rattle.replay_cmd.specs.declared.reading.Reader.{Reader}
-use Rattle.replay_cmd.specs.Schedules.{IsOfNobody, Lines}
+use Rattle.replay_cmd.specs.Schedules.{IsOfNobody, IsRestart, Lines}
 use Rattle.replay_cmd.specs.Grammar.{AreRows, IsAsked, IsEventRow, IsFileRow, IsSessionRow, most_bytes, most_rows, rows_of, says, words_of}
 
 -- the text asks for this, by a token that expires at that moment
@@ -44,12 +44,13 @@ BeginsWithDash text = (rest : List ℕ) × (text ≡ 45 ∷ rest)
 abbrev pub IsOfSession : List SessionLine → List ℕ → Type 0
 IsOfSession sessions id = (s : ℕ) × (session : SessionLine) × (slice_get sessions s ≡ Some session) × BeginsWith session.nonce id
 
--- the event's session is there, and no id of a session is presented by somebody else
-abbrev pub Suits : List SessionLine → EventLine → Type 0
-Suits sessions (line.Asks s wish) = s < length sessions
-Suits sessions (line.Lose s) = s < length sessions
-Suits sessions (line.Foreign moment ask) = IsOfNobody sessions (act_with ask.body ask.op)
-Suits sessions _ = ⊤
+-- the event's session is there, no id of a session is presented by somebody else, and a restart can come behind these events
+abbrev pub Suits : List SessionLine → List EventLine → EventLine → Type 0
+Suits sessions events (line.Asks s wish) = s < length sessions
+Suits sessions events (line.Lose s) = s < length sessions
+Suits sessions events (line.Foreign moment ask) = IsOfNobody sessions (act_with ask.body ask.op)
+Suits sessions events (line.Restarts moment) = IsRestart sessions events moment
+Suits sessions events _ = ⊤
 
 -- files come first, then sessions, then events
 abbrev pub IsInOrder : Lines → AnyLine → Type 0
@@ -61,7 +62,7 @@ IsInOrder lines (Event event) = ⊤
 abbrev pub Fits : Lines → AnyLine → Type 0
 Fits lines (File file) = (lines.sessions ≡ []) × (lines.events ≡ []) × (is_among (names_of lines.files) file.name ≡ false)
 Fits lines (Session session) = (lines.events ≡ []) × (length lines.sessions < 64) × (HasNonce lines.sessions session.nonce → ⊥)
-Fits lines (Event event) = Suits lines.sessions event
+Fits lines (Event event) = Suits lines.sessions lines.events event
 
 -- the lines with one more
 abbrev pub with_line : Lines → AnyLine → Lines
@@ -77,11 +78,20 @@ lines_in reader = record { files = reader.files.items; sessions = reader.session
 abbrev pub HasNames : {Y : Type 0} → BTreeSet (String Y) → List FileLine → Type 0
 HasNames names files = (name : List ℕ) → contains_text names name ≡ is_among (names_of files) name
 
+-- a restart can come behind these events where it is later than that moment, and only there
+abbrev pub HasLatest : List SessionLine → List EventLine → ℕ → Type 0
+HasLatest sessions events latest = (moment : ℕ) → (latest < moment) ↔ IsRestart sessions events moment
+
+-- what the reader keeps beside its lines is theirs
+pub record IsKept (reader : Reader) : Type 0 where
+  pub names_are : HasNames reader.names reader.files.items
+  pub latest_is : HasLatest reader.sessions.items reader.events.items reader.latest
+
 -- the line was added
 pub record IsAdded (line : AnyLine) (old new : Reader) : Type 0 where
   pub fits : Fits (lines_in old) line
   pub lines : lines_in new ≡ with_line (lines_in old) line
-  pub names : HasNames new.names new.files.items
+  pub kept : IsKept new
   pub rows : new.rows ≡ old.rows
 
 -- the next line of a text, which is good, was taken
@@ -89,7 +99,7 @@ pub record TakesLine (row : List ℕ) (old new : Reader) : Type 0 where
   pub within : old.rows < most_rows
   pub short : length row ≤ most_bytes
   pub rows : new.rows ≡ old.rows + 1
-  pub names : HasNames new.names new.files.items
+  pub kept : IsKept new
   pub lines : ((says row ≡ false) × (lines_in new ≡ lines_in old))
       ⊎ ((says row ≡ true) × (line : AnyLine) × IsLine row line × Fits (lines_in old) line × (lines_in new ≡ with_line (lines_in old) line))
 
@@ -98,17 +108,10 @@ abbrev pub IsRefused : List ℕ → Reader → Type 0
 IsRefused row old =
     (most_rows ≤ old.rows) ⊎ ((most_bytes < length row) ⊎ ((says row ≡ true) × ((line : AnyLine) → IsLine row line → Fits (lines_in old) line → ⊥)))
 
--- lines that look alike from behind
-pub record Alike (a b : Lines) : Type 0 where
-  pub names : names_of a.files ≡ names_of b.files
-  pub sessions : a.sessions ≡ b.sessions
-  pub events : length a.events ≡ length b.events
-
--- The rows that were read are those of the lines that the reader has, and of no others that look different from behind.
+-- the rows that were read are those of the lines that the reader has
 pub record IsSoFar (text rest : List ℕ) (reader : Reader) : Type 0 where
   pub done : List (List ℕ)
   pub splits : rows_of text ≡ done ++ rows_of rest
   pub good : AreRows done (lines_in reader)
-  pub only : (other : Lines) → AreRows done other → Alike (lines_in reader) other
   pub count : reader.rows ≡ length done
-  pub names : HasNames reader.names reader.files.items
+  pub kept : IsKept reader

@@ -1,10 +1,25 @@
 -- The kinds of a schedule's lines, as they are read. (Own.)
-use Rattle.std.specs.Prelude.{⊤, ◌≡◌, ℕ, List, codes, None}
+use Rattle.std.specs.Prelude.{⊤, ◌≡◌, ℕ, List, codes, decimal, None}
+use Rattle.wopi_text.specs.FileName.{IsFileName}
+use Rattle.wopi_text.specs.Ids.{id_of}
+use Rattle.wopi_model.specs.Moment.{IsMoment}
+use Rattle.save_session.specs.Nonce.{IsNonce}
 use Rattle.wopi_headers.specs.declared.ask.Op.{Op}
 use Rattle.wopi_headers.specs.declared.ask.Op.TheVariants as op
+use Rattle.replay_cmd.specs.declared.schedule.SessionLine.{SessionLine}
 use Rattle.replay_cmd.specs.declared.schedule.Wish.TheVariants as wish
 use Rattle.replay_cmd.specs.declared.schedule.EventLine.{EventLine}
 use Rattle.replay_cmd.specs.declared.schedule.EventLine.TheVariants as line
+
+-- the first four words of a session's line
+pub record AreSessionWords (kind id nonce expires : List ℕ) (session : SessionLine) : Type 0 where
+  pub file_form : IsFileName session.file
+  pub nonce_form : IsNonce session.nonce
+  pub expires_form : IsMoment session.expires
+  pub kind_is : kind ≡ codes "session"
+  pub id_is : id ≡ id_of session.file
+  pub nonce_is : nonce ≡ session.nonce
+  pub expires_is : expires ≡ decimal session.expires
 
 -- an event that a line tells by a word and a session
 abbrev pub IsNamed : EventLine → Type 0
@@ -18,6 +33,7 @@ abbrev pub IsTimed : EventLine → Type 0
 IsTimed (line.Deliver request moment) = ⊤
 IsTimed (line.Answer reply) = ⊤
 IsTimed (line.Ticks moment) = ⊤
+IsTimed (line.Restarts moment) = ⊤
 IsTimed _ = ⊥
 
 -- the word asks for this operation, with nothing behind the file

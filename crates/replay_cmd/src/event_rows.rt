@@ -1,9 +1,10 @@
 //! The lines of the events.
 ghost use Rattle.std.specs.Prelude.{◌≡◌, ◌↔◌, ◌+◌, ℕ, List, [], ◌∷◌, decimal, Some, IfOk, IfSome, IfNone};
 ghost use Rattle.replay_cmd.specs.declared.schedule.EventLine.{EventLine};
-ghost use Rattle.replay_cmd.specs.declared.schedule.EventLine.TheVariants.{Answer, Asks, Deliver, Ticks};
+ghost use Rattle.replay_cmd.specs.declared.schedule.EventLine.TheVariants.{Answer, Asks, Deliver};
 ghost use Rattle.replay_cmd.specs.declared.schedule.Wish.TheVariants.{Save};
 ghost use Rattle.replay_cmd.specs.declared.schedule.Reference.{Reference};
+ghost use Rattle.wopi_model.specs.Moment.{IsMoment};
 ghost use Rattle.replay_cmd.specs.Grammar.{IsCounted, IsEventRow, words_of};
 ghost use Rattle.replay_cmd.specs.RowKinds.{IsNamed, IsTimed};
 
@@ -110,20 +111,23 @@ fn timed_read(row: &[u8]) -> Option<EventLine>
     if let Some(reply) = answer_read(row) {
         return Some(EventLine::Answer { reply });
     }
-    if let Some(moment) = tick_read(row) {
+    if let Some(moment) = moment_after(row, b"tick") {
         return Some(EventLine::Ticks { moment });
+    }
+    if let Some(moment) = moment_after(row, b"restart") {
+        return Some(EventLine::Restarts { moment });
     }
     None
 }
 
-/// The moment at which a line lets the shard settle, if it is such a line.
-fn tick_read(row: &[u8]) -> Option<u64>
-    ensures { (moment : ℕ) → (result ≡ Some moment) ↔ IsEventRow row.now (Ticks moment) }
+/// The moment that stands behind that word.
+fn moment_after(row: &[u8], kind: &[u8]) -> Option<u64>
+    ensures { (moment : ℕ) → (result ≡ Some moment) ↔ (IsMoment moment × (words_of row.now ≡ kind.now ∷ decimal moment ∷ [])) }
 {
     let Some((first, second)) = two_words(row) else {
         return None;
     };
-    if !is_word(first, b"tick".as_slice()) {
+    if !is_word(first, kind) {
         return None;
     }
     moment_read(second)

@@ -1,11 +1,13 @@
 //! What can stand behind the lines of a schedule.
-ghost use Rattle.std.specs.Prelude.{◌≡◌, ◌↔◌, ◌||◌, ℕ, List, not, Some, IsTrue, IfOk, OnOk};
+ghost use Rattle.std.specs.Prelude.{◌≡◌, ◌<◌, ◌↔◌, ◌||◌, ℕ, List, not, Some, IsTrue, IfOk, IfSome, OnOk};
+ghost use Rattle.std.specs.List.{slice_get};
 ghost use Rattle.std.specs.BTreeSet.{contains_text};
 ghost use Rattle.std.specs.Str.{bytes_eq};
 ghost use Rattle.save_session.specs.LockIds.{BeginsWith};
 ghost use Rattle.wopi_acts.specs.Acts.{act_with};
-ghost use Rattle.replay_cmd.specs.Readings.{BeginsWithDash, HasNonce, IsOfSession, Suits};
-ghost use Rattle.replay_cmd.specs.Schedules.{IsOfNobody};
+ghost use Rattle.replay_cmd.specs.Readings.{BeginsWithDash, HasLatest, HasNonce, IsOfSession, Suits};
+ghost use Rattle.replay_cmd.specs.Schedules.{IsBefore, IsOfNobody};
+ghost use Rattle.replay_cmd.specs.declared.schedule.EventLine.{EventLine};
 
 use crate::schedule::{EventLine, SessionLine};
 use save_session::Nonce;
@@ -95,14 +97,42 @@ fn is_of_nobody(sessions: &[SessionLine], op: &Op) -> bool
     }
 }
 
-/// Whether the event can stand behind these sessions.
-pub(crate) fn suits(sessions: &[SessionLine], event: &EventLine) -> bool
-    ensures { IsTrue result ↔ Suits sessions.now event.now }
+/// When the token of the session at that place was issued, 0 where there is no such session.
+fn issued_at(sessions: &[SessionLine], place: u64) -> u64
+    ensures { (later : ℕ) → 0 < later → (result < later) ↔ IfSome (slice_get sessions.now place) (λ session. session.issued < later) }
+{
+    match sessions.get(place as usize) {
+        Some(session) => session.issued,
+        None => 0,
+    }
+}
+
+/// The moment of the event, or the one at which the token of its session was issued; 0 where it has
+/// neither.
+pub(crate) fn moment_of(sessions: &[SessionLine], event: &EventLine) -> u64
+    ensures { (later : ℕ) → 0 < later → (result < later) ↔ IsBefore sessions.now later event.now }
+{
+    match event {
+        EventLine::Asks { session, .. } => issued_at(sessions, *session),
+        EventLine::Deliver { moment, .. } => *moment,
+        EventLine::Answer { .. } => 0,
+        EventLine::Lose { session } => issued_at(sessions, *session),
+        EventLine::Ticks { moment } => *moment,
+        EventLine::Foreign { moment, .. } => *moment,
+        EventLine::Restarts { moment } => *moment,
+    }
+}
+
+/// Whether the event can stand behind these sessions, and behind events of which that is the latest
+/// moment.
+pub(crate) fn suits(sessions: &[SessionLine], latest: u64, event: &EventLine) -> bool
+    ensures { (events : List EventLine) → HasLatest sessions.now events latest → IsTrue result ↔ Suits sessions.now events event.now }
 {
     match event {
         EventLine::Asks { session, .. } => *session < sessions.len() as u64,
         EventLine::Lose { session } => *session < sessions.len() as u64,
         EventLine::Foreign { ask, .. } => is_of_nobody(sessions, &ask.op),
+        EventLine::Restarts { moment } => latest < *moment,
         _ => true,
     }
 }

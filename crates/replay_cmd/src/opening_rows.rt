@@ -1,11 +1,12 @@
 //! The lines of the files and of the sessions.
-ghost use Rattle.std.specs.Prelude.{◌≡◌, IfOk, IfSome, IfNone};
+ghost use Rattle.std.specs.Prelude.{◌≡◌, ◌≢◌, length, IfOk, IfSome, IfNone};
 ghost use Rattle.replay_cmd.specs.declared.schedule.FileLine.{FileLine};
 ghost use Rattle.replay_cmd.specs.declared.schedule.SessionLine.{SessionLine};
-ghost use Rattle.replay_cmd.specs.Grammar.{IsFileRow, IsSessionRow};
+ghost use Rattle.replay_cmd.specs.Grammar.{IsFileRow, IsSessionRow, words_of};
+ghost use Rattle.replay_cmd.specs.RowKinds.{AreSessionWords};
 
 use crate::schedule::{FileLine, SessionLine};
-use crate::splitting::{four_words, three_words};
+use crate::splitting::{five_words, four_words, three_words};
 use crate::values::{hex_read, is_word};
 use access_tokens::moment_read;
 use save_session::Nonce;
@@ -32,14 +33,19 @@ pub(crate) fn file_read(alloc: Global, row: &[u8]) -> Result<Option<FileLine>, M
     Ok(Some(FileLine { name, contents }))
 }
 
-/// The session that a line tells of, if it is such a line. It takes no memory.
-pub(crate) fn session_read(row: &[u8]) -> Option<SessionLine>
-    ensures some { IfSome result (IsSessionRow row.now) }
-    ensures none { IfNone result ((session : SessionLine) → IsSessionRow row.now session → ⊥) }
+/// The session that the first four words of a line tell of, with a token that was issued then, if they
+/// are those of such a line.
+fn session_of(
+    kind: &[u8],
+    id: &[u8],
+    nonce: &[u8],
+    expires: &[u8],
+    issued: u64,
+) -> Option<SessionLine>
+    ensures some { IfSome result (AreSessionWords kind.now id.now nonce.now expires.now) }
+    ensures issued { IfSome result (λ session. session.issued ≡ issued) }
+    ensures none { IfNone result ((session : SessionLine) → AreSessionWords kind.now id.now nonce.now expires.now session → ⊥) }
 {
-    let Some((kind, id, nonce, expires)) = four_words(row) else {
-        return None;
-    };
     if !is_word(kind, b"session".as_slice()) {
         return None;
     }
@@ -56,5 +62,31 @@ pub(crate) fn session_read(row: &[u8]) -> Option<SessionLine>
         file,
         nonce,
         expires,
+        issued,
     })
+}
+
+/// The session that a line with the moment at which its token was issued tells of, if it is such a line.
+fn issued_read(row: &[u8]) -> Option<SessionLine>
+    ensures some { IfSome result (IsSessionRow row.now) }
+    ensures none { IfNone result ((session : SessionLine) → IsSessionRow row.now session → length (words_of row.now) ≢ 5) }
+{
+    let Some((kind, id, nonce, expires, issued)) = five_words(row) else {
+        return None;
+    };
+    let Some(issued) = moment_read(issued) else {
+        return None;
+    };
+    session_of(kind, id, nonce, expires, issued)
+}
+
+/// The session that a line tells of, if it is such a line. It takes no memory.
+pub(crate) fn session_read(row: &[u8]) -> Option<SessionLine>
+    ensures some { IfSome result (IsSessionRow row.now) }
+    ensures none { IfNone result ((session : SessionLine) → IsSessionRow row.now session → ⊥) }
+{
+    let Some((kind, id, nonce, expires)) = four_words(row) else {
+        return issued_read(row);
+    };
+    session_of(kind, id, nonce, expires, 0)
 }

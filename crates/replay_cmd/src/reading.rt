@@ -3,10 +3,10 @@ ghost use Rattle.std.specs.Prelude.{◌≡◌, ◌↔◌, ◌≤◌, ◌+◌, []
 ghost use Rattle.replay_cmd.specs.declared.one_line.AnyLine.TheVariants.{File, Session, Event};
 ghost use Rattle.replay_cmd.specs.declared.reading.ScheduleFault.TheVariants.{BadLine};
 ghost use Rattle.replay_cmd.specs.Grammar.{IsBadLine, IsText, most_rows, says};
-ghost use Rattle.replay_cmd.specs.Readings.{Fits, HasNames, IsAdded, IsRefused, TakesLine, lines_in};
+ghost use Rattle.replay_cmd.specs.Readings.{Fits, IsAdded, IsKept, IsRefused, TakesLine, lines_in};
 ghost use Rattle.replay_cmd.specs.Schedules.{IsSchedule};
 
-use crate::fitting::{is_known, note, suits};
+use crate::fitting::{is_known, moment_of, note, suits};
 use crate::one_line::{AnyLine, line_read};
 use crate::pieces::PieceReader;
 use crate::schedule::{EventLine, FileLine, Schedule, SessionLine};
@@ -42,6 +42,8 @@ pub(crate) struct Reader {
     names: BTreeSet<String>,
     sessions: Vec<SessionLine>,
     events: Vec<EventLine>,
+    /// A restart has to come later than this.
+    latest: u64,
     rows: u64,
 }
 
@@ -58,7 +60,7 @@ fn says(row: &[u8]) -> bool
 impl Reader {
     pub(crate) fn new(alloc: Global) -> Reader
         ensures none { (result.files.items ≡ []) × (result.sessions.items ≡ []) × (result.events.items ≡ []) }
-        ensures names { HasNames result.names result.files.items }
+        ensures kept { IsKept result }
         ensures rows { result.rows ≡ 0 }
     {
         Reader {
@@ -67,13 +69,14 @@ impl Reader {
             names: BTreeSet::new(alloc),
             sessions: Vec::new(alloc),
             events: Vec::new(alloc),
+            latest: 0,
             rows: 0,
         }
     }
 
     /// Takes the next line, and tells whether it is a good one.
     pub(crate) fn take(&mut self, row: &[u8]) -> Result<bool, Memory>
-        requires names { HasNames self.old.names self.old.files.items }
+        requires kept { IsKept self.old }
         ensures good { IfOk result (λ good. IsTrue good → TakesLine row.now self.old self.new) }
         ensures bad { IfOk result (λ good. good ≡ false → IsRefused row.now self.old × (self.new.rows ≡ self.old.rows)) }
     {
@@ -122,7 +125,7 @@ impl Reader {
 
     /// Adds a line, if it can stand here.
     fn add(&mut self, line: AnyLine) -> Result<bool, Memory>
-        requires names { HasNames self.old.names self.old.files.items }
+        requires kept { IsKept self.old }
         ensures good { IfOk result (λ good. IsTrue good → IsAdded line self.old self.new) }
         ensures bad { IfOk result (λ good. good ≡ false → (Fits (lines_in self.old) line → ⊥) × (self.new.rows ≡ self.old.rows)) }
     {
@@ -134,7 +137,7 @@ impl Reader {
     }
 
     fn add_file(&mut self, file: FileLine) -> Result<bool, Memory>
-        requires names { HasNames self.old.names self.old.files.items }
+        requires kept { IsKept self.old }
         ensures good { IfOk result (λ good. IsTrue good → IsAdded (File file) self.old self.new) }
         ensures bad { IfOk result (λ good. good ≡ false → (Fits (lines_in self.old) (File file) → ⊥) × (self.new.rows ≡ self.old.rows)) }
     {
@@ -152,7 +155,7 @@ impl Reader {
     }
 
     fn add_session(&mut self, session: SessionLine) -> Result<bool, Memory>
-        requires names { HasNames self.old.names self.old.files.items }
+        requires kept { IsKept self.old }
         ensures good { IfOk result (λ good. IsTrue good → IsAdded (Session session) self.old self.new) }
         ensures bad { IfOk result (λ good. good ≡ false → (Fits (lines_in self.old) (Session session) → ⊥) × (self.new.rows ≡ self.old.rows)) }
     {
@@ -170,13 +173,14 @@ impl Reader {
     }
 
     fn add_event(&mut self, event: EventLine) -> Result<bool, Memory>
-        requires names { HasNames self.old.names self.old.files.items }
+        requires kept { IsKept self.old }
         ensures good { IfOk result (λ good. IsTrue good → IsAdded (Event event) self.old self.new) }
         ensures bad { IfOk result (λ good. good ≡ false → (Fits (lines_in self.old) (Event event) → ⊥) × (self.new.rows ≡ self.old.rows)) }
     {
-        if !suits(&self.sessions, &event) {
+        if !suits(&self.sessions, self.latest, &event) {
             return Ok(false);
         }
+        self.latest = self.latest.max(moment_of(&self.sessions, &event));
         self.events.push(event)?;
         Ok(true)
     }

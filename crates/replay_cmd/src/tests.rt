@@ -1,5 +1,6 @@
 mod asks;
 mod reading;
+mod restarts;
 mod runs;
 mod traces;
 mod wires;

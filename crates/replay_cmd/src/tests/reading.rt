@@ -142,7 +142,70 @@ fn files_and_sessions_come_first(rt: HostRuntime) -> Result<(), Fail> {
     expect_bad(&rt, alloc, b"file 61 -\nopen 1\nsession 61 n 1\n", 2)
 }
 
-const BAD: [&[u8]; 36] = [
+#[test]
+fn a_session_may_say_when_its_token_was_issued(rt: HostRuntime) -> Result<(), Fail> {
+    let text = b"session 61 n 9\nsession 61 m 9 0\nsession 61 k 9 253402300799999\n";
+    let schedule = Schedule::read(rt.alloc(), text)?;
+    let sessions = schedule.sessions();
+    assert!(rt; sessions.len() == 3);
+    assert!(rt; sessions[0].issued == 0);
+    assert!(rt; sessions[1].issued == 0);
+    assert!(rt; sessions[2].issued == 253_402_300_799_999);
+    Ok(())
+}
+
+/// A file and two sessions, the second with a token that was issued at 100.
+const ISSUED: &[u8] = b"file 62 -\nsession 62 n 9000000\nsession 62 m 9000000 100\n";
+
+/// Behind the opening with a token that was issued at 100 the last of the lines is bad, and they are
+/// good with the restart a millisecond later.
+fn expect_early(rt: &impl Abort, alloc: Global, lines: &[u8], moment: u64) -> Result<(), Fail> {
+    let feeds = lines.iter().filter(|byte| **byte == b'\n').count() as u64;
+    let mut text = ISSUED.to_vec(alloc)?;
+    text.extend_from_slice(lines)?;
+    let early = format!(in alloc; "restart {moment}\n")?;
+    let mut bad = text.as_slice().to_vec(alloc)?;
+    bad.extend_from_slice(early.as_bytes())?;
+    expect_bad(rt, alloc, &bad, feeds.saturating_add(4))?;
+    let later = moment.saturating_add(1);
+    let late = format!(in alloc; "restart {later}\n")?;
+    text.extend_from_slice(late.as_bytes())?;
+    let events = Schedule::read(alloc, &text)?.events().len() as u64;
+    assert_eq!(rt; events, feeds.saturating_add(1));
+    Ok(())
+}
+
+#[test]
+fn a_restart_comes_later_than_all_before_it(rt: HostRuntime) -> Result<(), Fail> {
+    let alloc = rt.alloc();
+    expect_early(&rt, alloc, b"", 0)?;
+    expect_early(&rt, alloc, b"tick 7\ntick 5\nanswer 9\n", 7)?;
+    expect_early(&rt, alloc, b"deliver 9 7\n", 7)?;
+    expect_early(&rt, alloc, b"foreign 7 9 info 62\n", 7)?;
+    expect_early(&rt, alloc, b"restart 7\ntick 3\n", 7)
+}
+
+#[test]
+fn a_restart_comes_later_than_the_tokens_of_the_sessions_before_it(
+    rt: HostRuntime,
+) -> Result<(), Fail> {
+    let alloc = rt.alloc();
+    expect_early(&rt, alloc, b"open 2\n", 100)?;
+    expect_early(&rt, alloc, b"lose 2\n", 100)?;
+    expect_early(&rt, alloc, b"open 1\nlose 1\n", 0)?;
+    expect_early(&rt, alloc, b"restart 7\nopen 2\n", 100)
+}
+
+#[test]
+fn a_session_may_do_something_after_any_restart(rt: HostRuntime) -> Result<(), Fail> {
+    assert_eq!(rt;
+        events_behind(rt.alloc(), ISSUED, b"restart 100\nopen 2\nopen 1\n")?,
+        3
+    );
+    Ok(())
+}
+
+const BAD: [&[u8]; 43] = [
     b"open 3",
     b"open 0",
     b"open 01",
@@ -163,7 +226,14 @@ const BAD: [&[u8]; 36] = [
     b"tick 253402300800000",
     b"tick 01",
     b"answer",
+    b"restart",
+    b"restart 0",
+    b"restart 01",
+    b"restart 253402300800000",
     b"session 61 n-1 1",
+    b"session 61 k 1 -",
+    b"session 61 k 1 1 1",
+    b"session 61 k 1 253402300800000",
     b"session 61 k 253402300800000",
     b"foreign 1 9 lock 62 n-",
     b"foreign 1 9 put 62 m2-1 00",

@@ -5,4 +5,4 @@ use Rattle.replay_cmd.proofs.pieces.PieceReader.new.Goals as goal
 pub returns-clause-come : goal.returns-clause-come
 returns-clause-come c =
     let empty : c.new-2.result.items ≡ [] = search rules in
-    come_begun (record { reader = c.new.result; row = c.new-2.result }) c.new.ensures.none c.new.ensures.names c.new.ensures.rows empty
+    come_begun (record { reader = c.new.result; row = c.new-2.result }) c.new.ensures.none c.new.ensures.kept c.new.ensures.rows empty

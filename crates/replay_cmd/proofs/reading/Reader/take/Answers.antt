@@ -1,7 +1,8 @@
-use Rattle.std.proofs.Common.{◌≡◌, true, false, inr, rules}
+use Rattle.std.proofs.Common.{◌≡◌, ℕ, ◌+◌, true, false, IsTrue, inr, ap, subst, rules}
+use Rattle.replay_cmd.specs.declared.one_line.AnyLine.{AnyLine}
 use Rattle.replay_cmd.specs.Grammar.{says}
-use Rattle.replay_cmd.specs.Readings.{IsLine, lines_in}
-use Rattle.replay_cmd.proofs.SameRows.{fits_same}
+use Rattle.replay_cmd.specs.Readings.{Fits, IsLine, lines_in}
+use Rattle.replay_cmd.proofs.OneSchedule.{line_same}
 use Rattle.replay_cmd.proofs.reading.Reader.take.Goals as goal
 
 pub returns-then-not-branch-clause-bad : goal.returns-then-not-branch-clause-bad
@@ -10,4 +11,19 @@ returns-then-not-branch-clause-bad c = λ _.
     let tells : IsLine c.args.row.now c.in-Some.line = rw c.in-Some.is at c.in_ok-line.ensures.some in
     let no : c.in_ok-add.field-0 ≡ false = search rules in
     let bad = c.in_ok-add.ensures.bad no in
-    (inr (inr (said, λ line is fits. bad.0 (fits_same (lines_in c.args.self.now) c.args.row.now line c.in-Some.line is tells fits))), bad.1)
+    (inr (inr (said, λ line is fits. bad.0 (subst (λ (one : AnyLine). Fits (lines_in c.args.self.now) one) (line_same c.args.row.now line c.in-Some.line is tells) fits))), bad.1)
+
+pub returns-clause-good : goal.returns-clause-good
+returns-clause-good c = λ _.
+    let said : says c.args.row.now ≡ true = search rules in
+    let tells : IsLine c.args.row.now c.in-Some.line = rw c.in-Some.is at c.in_ok-line.ensures.some in
+    let yes : IsTrue c.in_ok-add.field-0 = search rules in
+    let added = c.in_ok-add.ensures.good yes in
+    let same = added.rows in
+    record {
+      within = search rules;
+      short = search rules;
+      rows = ap (λ (n : ℕ). n + 1) same;
+      kept = record { names_are = added.kept.names_are; latest_is = added.kept.latest_is };
+      lines = inr (said, c.in-Some.line, tells, added.fits, added.lines);
+    }

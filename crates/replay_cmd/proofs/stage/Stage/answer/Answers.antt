@@ -9,7 +9,7 @@ use Rattle.replay_cmd.proofs.stage.Stage.answer.Goals as goal
 pub returns-in_default-clause-follows : goal.returns-in_default-clause-follows
 returns-in_default-clause-follows g c =
     let stage = c.args.self.now in
-    λ straight setting world shows space.
+    λ straight setting world shows space reached.
     absent setting stage.desk stage.host.shard stage.history.items stage.requests.items stage.replies.items stage.members.items world shows c.args.place
     c.in_ok-absent.absent.items (not_found c.deref.result.now stage.replies.items c.args.place c.deref.ensures.value c.in_default.ensures) c.in_ok-absent.ensures
 
@@ -17,7 +17,7 @@ pub returns-in_default-request-clause-follows : goal.returns-in_default-request-
 returns-in_default-request-clause-follows g c =
     let stage = c.args.self.now in
     let reply = c.in-Some.reply.now in
-    λ straight setting world shows space.
+    λ straight setting world shows space reached.
     late_foreign setting stage.desk stage.host.shard stage.history.items stage.requests.items stage.replies.items stage.members.items world shows c.args.place
     reply (looked_up c.deref.result.now stage.replies.items c.args.place reply c.deref.ensures.value c.in-Some.ensures) c.in_ok-late.late.items (is_none reply.request c.in_default-request.not-Some) c.in_ok-late.ensures
 
@@ -26,7 +26,7 @@ returns-in_default-request_at-clause-follows g c =
     let stage = c.args.self.now in
     let reply = c.in-Some.reply.now in
     let asked = c.in-Some-request.asked in
-    λ straight setting world shows space.
+    λ straight setting world shows space reached.
     late_request setting stage.desk stage.host.shard stage.history.items stage.requests.items stage.replies.items stage.members.items world shows c.args.place
     reply (looked_up c.deref.result.now stage.replies.items c.args.place reply c.deref.ensures.value c.in-Some.ensures) asked c.in-Some-request.is
     c.in_ok-late-2.late.items (not_found c.deref-2.result.now stage.requests.items asked c.deref-2.ensures.value c.in_default-request_at.ensures) c.in_ok-late-2.ensures
@@ -37,7 +37,7 @@ returns-in_default-member_at-clause-follows g c =
     let reply = c.in-Some.reply.now in
     let asked = c.in-Some-request.asked in
     let request = c.in-Some-request_at.request.now in
-    λ straight setting world shows space.
+    λ straight setting world shows space reached.
     late_member setting stage.desk stage.host.shard stage.history.items stage.requests.items stage.replies.items stage.members.items world shows c.args.place
     reply (looked_up c.deref.result.now stage.replies.items c.args.place reply c.deref.ensures.value c.in-Some.ensures) asked c.in-Some-request.is
     request (looked_up c.deref-2.result.now stage.requests.items asked request c.deref-2.ensures.value c.in-Some-request_at.ensures)
@@ -50,7 +50,7 @@ returns-then-not-waits_for-clause-follows g c =
     let asked = c.in-Some-request.asked in
     let request = c.in-Some-request_at.request.now in
     let member = c.in-Some-member_at.member.now in
-    λ straight setting world shows space.
+    λ straight setting world shows space reached.
     late_waiting setting stage.desk stage.host.shard stage.history.items stage.requests.items stage.replies.items stage.members.items world shows c.args.place
     reply (looked_up c.deref.result.now stage.replies.items c.args.place reply c.deref.ensures.value c.in-Some.ensures) asked c.in-Some-request.is
     request (looked_up c.deref-2.result.now stage.requests.items asked request c.deref-2.ensures.value c.in-Some-request_at.ensures)
@@ -72,7 +72,7 @@ returns-clause-follows g c =
     let request = c.in-Some-request_at.request.now in
     let member = c.in-Some-member_at.member.now in
     let after = c.step_at.new in
-    λ straight setting world shows space.
+    λ straight setting world shows space reached.
     took_answer setting stage.desk stage.host.shard stage.history.items stage.requests.items stage.replies.items stage.members.items world shows c.args.place
     reply (looked_up c.deref.result.now stage.replies.items c.args.place reply c.deref.ensures.value c.in-Some.ensures) asked c.in-Some-request.is
     request (looked_up c.deref-2.result.now stage.requests.items asked request c.deref-2.ensures.value c.in-Some-request_at.ensures)
