@@ -45,12 +45,29 @@ tell 2 saved v2\nsend 10 put ann-1 41\nreply 10 409 bob-1 lock id spent\n\
 tell 1 lock lost bob-1 lock id spent\nsend 11 unlock bob-1\nreply 11 200 v2\n\
 tell 2 closed\nend 612e637376 v2 - 42\n";
 
+const RESTART: &str =
+    "# The host is opened again. A late save is refused by its token, and versions go on.\n\
+file 612e637376 312c320a\nsession 612e637376 ann 9000000\nsession 612e637376 bob 9000000 100\n\
+\n# Ann's session opens the file and saves the byte 41.\nopen 1\ndeliver 1 0\nanswer 1\n\
+deliver 2 0\nanswer 2\ndeliver 3 0\nanswer 3\nsave 1 41\ndeliver 4 1\nanswer 4\n\n\
+# The host ends, and opens again at the moment 100. No lock is left, and Ann's token is older.\n\
+restart 100\n\n# Her save arrives once more, and is refused.\ndeliver 4 101\n\n\
+# Bob's token was issued at 100. His session finds what Ann's saved, and takes the lock.\n\
+open 2\ndeliver 5 102\nanswer 6\ndeliver 6 103\n";
+
+const RESTART_SHOWN: &str =
+    "send 1 info\nreply 1 200 v1 4\nsend 2 lock ann-1\nreply 2 200 v1\nsend 3 get\n\
+reply 3 200 v1 312c320a\ntell 1 opened v1\nsend 4 put ann-1 41\nreply 4 200 v2\n\
+tell 1 saved v2\nrestarted 3\nreply 5 401\nsend 5 info\nreply 6 200 v3 1\n\
+send 6 lock bob-1\nreply 7 200 v3\nend 612e637376 v3 bob-1 41\n";
+
 #[test]
 fn the_schedules_of_the_demo_have_their_traces(rt: HostRuntime) -> Result<(), Fail> {
     let alloc = rt.alloc();
     for (schedule, shown) in [
         (LATE_SAVE, LATE_SAVE_SHOWN),
         (TWO_SESSIONS, TWO_SESSIONS_SHOWN),
+        (RESTART, RESTART_SHOWN),
     ] {
         let left = run_with(&rt, alloc, &["replay"], &whole(schedule.as_bytes()))?;
         assert_eq!(rt; left.status, 0);
