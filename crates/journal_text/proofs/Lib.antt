@@ -1,0 +1,5 @@
+mod Splits
+mod Endings
+mod Locks
+mod Hexes
+mod TokenTexts

@@ -1,0 +1,11 @@
+use Rattle.std.proofs.Common.{sym, ◌∙◌}
+use Rattle.std.proofs.lemmas.List.{take_rest}
+use Rattle.journal_text.proofs.Splits.{parts-some, parts-none}
+use Rattle.journal_text.proofs.tokens.split_field.Goals as goal
+
+pub returns-clause-some : goal.returns-clause-some
+returns-clause-some c =
+    rw take_rest (parts-some 46 c.args.text.now c.in-Some.at (sym c.first_period.ensures ∙ c.in-Some.is))
+
+pub returns-in_default-clause-none : goal.returns-in_default-clause-none
+returns-in_default-clause-none c = parts-none 46 c.args.text.now (sym c.first_period.ensures ∙ c.in_default.is)

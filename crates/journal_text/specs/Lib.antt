@@ -1,0 +1,5 @@
+pub mod Words
+pub mod Text
+pub mod Lines
+pub mod Tokens
+pub mod Acts

@@ -1,0 +1,80 @@
+-- What the lines of a journal may tell. (Own.)
+use Rattle.std.specs.Prelude.{◌≡◌, ⊤, ℕ, ◌<◌, ◌≤◌, ◌^◌, ◌==◌, ◌||◌, Bool, true, List, length, Option, None, Some, if◌then◌else◌}
+use Rattle.hex.specs.Hex.{IsBytes}
+use Rattle.wopi_text.specs.FileName.{IsFileName}
+use Rattle.wopi_text.specs.LockId.{IsLockId}
+use Rattle.wopi_model.specs.Moment.{IsMoment}
+use Rattle.wopi_model.specs.User.{IsUser}
+use Rattle.wopi_model.specs.declared.token.Token.{Token}
+use Rattle.host_core.specs.declared.entry.EntryAct.{EntryAct}
+use Rattle.host_core.specs.declared.entry.EntryAct.TheVariants as act
+use Rattle.journal_text.specs.declared.text.Line.{Line}
+
+-- a number that 64 bits hold, and maybe one
+abbrev pub Fits : ℕ → Type 0
+Fits number = number < 2 ^ 64
+
+abbrev pub MayFit : Option ℕ → Type 0
+MayFit None = ⊤
+MayFit (Some number) = Fits number
+
+abbrev pub MayBeLock : Option (List ℕ) → Type 0
+MayBeLock None = ⊤
+MayBeLock (Some id) = IsLockId id
+
+abbrev pub IsAct : EntryAct → Type 0
+IsAct (act.Get most) = MayFit most
+IsAct (act.Put lock size) = MayBeLock lock × Fits size
+IsAct (act.Lock id) = IsLockId id
+IsAct (act.Refresh id) = IsLockId id
+IsAct (act.Unlock id) = IsLockId id
+IsAct (act.Relock old id) = IsLockId old × IsLockId id
+IsAct (act.Create overwrite size) = Fits size
+IsAct _ = ⊤
+
+pub record IsToken (token : Token) : Type 0 where
+  pub user : IsUser token.user
+  pub file : IsFileName token.file
+  pub serial : Fits token.serial
+  pub issued : Fits token.issued
+  pub expires : Fits token.expires
+
+-- the statuses of entries
+abbrev pub is_status : ℕ → Bool
+is_status status = status == 200 || (status == 401 || (status == 404 || (status == 409 || (status == 412 || status == 500))))
+
+-- the size of the contents that an act brings
+abbrev pub size_of : EntryAct → Option ℕ
+size_of (act.Put lock size) = Some size
+size_of (act.Create overwrite size) = Some size
+size_of _ = None
+
+-- the size of the contents that a line tells
+abbrev pub told_size : EntryAct → ℕ → Option ℕ
+told_size asked status = if status == 200 then size_of asked else None
+
+-- contents of that size, or none
+abbrev pub AreSized : Option ℕ → Option (List ℕ) → Type 0
+AreSized None None = ⊤
+AreSized (Some size) (Some contents) = IsBytes contents × (length contents ≡ size)
+AreSized _ _ = ⊥
+
+-- what an entry's line may tell
+pub record IsLine (line : Line) : Type 0 where
+  pub stamp : Fits line.stamp
+  pub shard : line.shard < 16
+  pub pass : line.pass < 2 ^ 32
+  pub moment : IsMoment line.moment
+  pub now : IsMoment line.now
+  pub name : IsFileName line.name
+  pub asked : IsAct line.act
+  pub token : IsToken line.token
+  pub status : is_status line.status ≡ true
+  pub lock : MayBeLock line.lock
+  pub version : MayFit line.version
+  pub contents : AreSized (told_size line.act line.status) line.contents
+
+-- what an opening file's line may tell
+pub record IsFile (file : List ℕ × List ℕ) : Type 0 where
+  pub name : IsFileName file.0
+  pub contents : IsBytes file.1
