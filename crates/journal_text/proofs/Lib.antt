@@ -3,3 +3,6 @@ mod Endings
 mod Locks
 mod Hexes
 mod TokenTexts
+mod Asking
+mod HexWords
+mod EntryWords

@@ -6,7 +6,7 @@ use Rattle.std.proofs.lemmas.List.{get_or_past}
 use Rattle.hex.specs.Hex.{IsBytes, decode_sized, encode_lower, lower_digits}
 use Rattle.hex.proofs.HexLemmas.{decode_sized-encode_lower, length-encode_with}
 use Rattle.wopi_text.specs.LockId.{IsLockId, IsPrintable}
-use Rattle.journal_text.specs.Text.{hex_text}
+use Rattle.host_table.specs.Text.{hex_text}
 
 -- the bytes of a lock id
 pub IsBytes-lock : (id : List ℕ) → IsLockId id → IsBytes id

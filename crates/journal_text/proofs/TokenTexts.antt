@@ -13,7 +13,7 @@ use Rattle.wopi_model.specs.User.{is_user_byte}
 use Rattle.wopi_model.specs.declared.token.Token.{Token}
 use Rattle.journal_text.specs.Words.{parts_of, token_parts}
 use Rattle.journal_text.specs.Lines.{IsToken}
-use Rattle.journal_text.specs.Text.{token_fields, rights_text}
+use Rattle.host_table.specs.Text.{token_fields, rights_text}
 use Rattle.journal_text.proofs.Hexes.{Lacks-hex}
 use Rattle.journal_text.proofs.Splits.{EachLacks, Lacks, Lacks-list_all, join-parts, parts-join}
 

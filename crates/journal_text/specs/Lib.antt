@@ -1,5 +1,5 @@
 pub mod Words
-pub mod Text
 pub mod Lines
 pub mod Tokens
 pub mod Acts
+pub mod Entries

@@ -8,6 +8,8 @@ use Rattle.wopi_model.specs.User.{IsUser}
 use Rattle.wopi_model.specs.declared.token.Token.{Token}
 use Rattle.host_core.specs.declared.entry.EntryAct.{EntryAct}
 use Rattle.host_core.specs.declared.entry.EntryAct.TheVariants as act
+use Rattle.journal_text.specs.declared.text.Format.{Format}
+use Rattle.journal_text.specs.declared.text.Format.TheVariants.{First, Second}
 use Rattle.journal_text.specs.declared.text.Line.{Line}
 
 -- a number that 64 bits hold, and maybe one
@@ -78,3 +80,13 @@ pub record IsLine (line : Line) : Type 0 where
 pub record IsFile (file : List ℕ × List ℕ) : Type 0 where
   pub name : IsFileName file.0
   pub contents : IsBytes file.1
+
+-- the version of opening files
+pub record IsFirst (first : ℕ) : Type 0 where
+  pub least : 1 ≤ first
+  pub most : first ≤ 10 ^ 18
+
+-- what a first line may tell; the first form tells of the version 1 alone
+abbrev pub IsOpening : Format → ℕ → ℕ → Type 0
+IsOpening First opened first = IsMoment opened × (first ≡ 1)
+IsOpening Second opened first = IsMoment opened × IsFirst first

@@ -5,7 +5,7 @@ use Rattle.wopi_text.specs.Ids.{id_of}
 use Rattle.host_core.specs.declared.entry.EntryAct.{EntryAct}
 use Rattle.host_core.specs.declared.entry.EntryAct.TheVariants as act
 use Rattle.wopi_model.specs.declared.token.Token.{Token}
-use Rattle.journal_text.specs.Text.{hex_text, optional_hex, optional_number, overwrite_text, rights_text, token_fields, reason_text, version_text}
+use Rattle.host_table.specs.Text.{hex_text, optional_hex, optional_number, overwrite_text, rights_text, token_fields, reason_text, version_text}
 use Rattle.journal_text.specs.declared.text.Format.{Format}
 use Rattle.journal_text.specs.declared.text.Format.TheVariants.{First, Second}
 use Rattle.journal_text.specs.declared.text.Line.{Line}

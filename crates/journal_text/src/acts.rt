@@ -2,7 +2,7 @@
 ghost use Rattle.std.specs.Prelude.{◌≡◌, ◌≢◌, ◌∷◌, ◌++◌, [], List, ℕ, IfSome, IfNone, codes};
 ghost use Rattle.host_core.specs.declared.entry.EntryAct.{EntryAct};
 ghost use Rattle.journal_text.specs.Lines.{IsAct};
-ghost use Rattle.journal_text.specs.Acts.{IsLocking};
+ghost use Rattle.journal_text.specs.Acts.{IsLocking, IsNamed};
 ghost use Rattle.journal_text.specs.Words.{act_words, words_of};
 
 use crate::splitting::split_word;
@@ -81,7 +81,7 @@ fn single_read(word: &[u8], of: &[u8]) -> Option<EntryAct>
 /// The act of a word under one lock.
 fn locking_read(word: &[u8], id: LockId) -> Option<EntryAct>
     ensures some { IfSome result (λ asked. IsLocking word.now id asked) }
-    ensures none { IfNone result ((asked : EntryAct) → IsLocking word.now id asked → ⊥) }
+    ensures none { IfNone result ((asked : EntryAct) → IsNamed word.now asked → ⊥) }
 {
     if is_word(word, b"lock".as_slice()) {
         return Some(EntryAct::Lock { id });

@@ -2,6 +2,9 @@
 #![tactic(auto)]
 
 mod acts;
+mod contents;
+mod entry;
+mod opening;
 mod splitting;
 mod text;
 mod tokens;

@@ -2,7 +2,7 @@
 ghost use Rattle.std.specs.Prelude.{◌≡◌, ◌≢◌, ◌==◌, [], ◌∷◌, IfSome, IfNone, length, position, false, true, ◌≤◌};
 ghost use Rattle.wopi_model.specs.declared.token.Token.{Token};
 ghost use Rattle.journal_text.specs.Lines.{IsToken};
-ghost use Rattle.journal_text.specs.Text.{token_fields};
+ghost use Rattle.host_table.specs.Text.{token_fields};
 ghost use Rattle.journal_text.specs.Words.{parts_of, token_parts};
 ghost use Rattle.journal_text.specs.Tokens.{list_of};
 

@@ -4,7 +4,7 @@ ghost use Rattle.hex.specs.Hex.{decode_of, encode_lower};
 ghost use Rattle.wopi_text.specs.LockId.{IsLockId};
 ghost use Rattle.wopi_text.specs.declared.reason.Reason.{Reason};
 ghost use Rattle.wopi_model.specs.Moment.{IsMoment};
-ghost use Rattle.journal_text.specs.Text.{hex_text, optional_hex, optional_number, overwrite_text, rights_text, reason_text, version_text};
+ghost use Rattle.host_table.specs.Text.{hex_text, optional_hex, optional_number, overwrite_text, rights_text, reason_text, version_text};
 ghost use Rattle.journal_text.specs.Lines.{Fits, MayFit, MayBeLock, is_status};
 
 use wopi_text::{LockId, MOMENTS_END, Reason, decimal_read, decode_hex};
@@ -112,7 +112,7 @@ fn told_version(word: &[u8]) -> Option<u64>
 }
 
 /// The version that a word tells: `-` says that there is none.
-#[tactic(auto, unfolding(crate::specs::Text::version_text))]
+#[tactic(auto, unfolding(host_table::specs::Text::version_text))]
 pub(crate) fn version_read(word: &[u8]) -> Option<Option<u64>>
     ensures some { IfSome result (λ version. MayFit version × (word.now ≡ version_text version)) }
     ensures none { IfNone result ((version : Option ℕ) → MayFit version → word.now ≢ version_text version) }
@@ -127,7 +127,7 @@ pub(crate) fn version_read(word: &[u8]) -> Option<Option<u64>>
 }
 
 /// The reason that a word tells: `-` says that there is none.
-#[tactic(auto, unfolding(crate::specs::Text::reason_text))]
+#[tactic(auto, unfolding(host_table::specs::Text::reason_text))]
 pub(crate) fn reason_read(word: &[u8]) -> Option<Option<Reason>>
     ensures some { IfSome result (λ reason. word.now ≡ reason_text reason) }
     ensures none { IfNone result ((reason : Option Reason) → word.now ≢ reason_text reason) }
@@ -151,7 +151,7 @@ pub(crate) fn reason_read(word: &[u8]) -> Option<Option<Reason>>
 }
 
 /// Whether a file may be overwritten.
-#[tactic(auto, unfolding(crate::specs::Text::overwrite_text))]
+#[tactic(auto, unfolding(host_table::specs::Text::overwrite_text))]
 pub(crate) fn overwrite_read(word: &[u8]) -> Option<bool>
     ensures some { IfSome result (λ overwrite. word.now ≡ overwrite_text overwrite) }
     ensures none { IfNone result ((overwrite : Bool) → word.now ≢ overwrite_text overwrite) }
@@ -166,7 +166,7 @@ pub(crate) fn overwrite_read(word: &[u8]) -> Option<bool>
 }
 
 /// Whether a token allows to write.
-#[tactic(auto, unfolding(crate::specs::Text::rights_text))]
+#[tactic(auto, unfolding(host_table::specs::Text::rights_text))]
 pub(crate) fn rights_read(word: &[u8]) -> Option<bool>
     ensures some { IfSome result (λ write. word.now ≡ rights_text write) }
     ensures none { IfNone result ((write : Bool) → word.now ≢ rights_text write) }

@@ -1,0 +1,81 @@
+//! Contents that a word writes in hex.
+ghost use Rattle.std.specs.Prelude.{◌≡◌, ◌≢◌, ◌↔◌, ℕ, List, Option, None, Ok, IfOk, IfSome, IfNone, IsTrue, length};
+ghost use Rattle.hex.specs.Hex.{IsBytes, decode_of};
+ghost use Rattle.host_table.specs.Text.{hex_text, optional_hex};
+ghost use Rattle.journal_text.specs.Lines.{AreSized};
+
+use crate::values::is_word;
+use hex::FromHexError;
+use std::alloc::Global;
+use wopi_text::{Bytes, Memory};
+
+/// What hex digits of either case write, if they are such digits.
+fn decoded(alloc: Global, word: &[u8]) -> Result<Option<Vec<u8>>, Memory>
+    ensures some { IfOk result (λ read. IfSome read (λ bytes. decode_of word.now ≡ Ok bytes.items)) }
+    ensures none { IfOk result (λ read. IfNone read ((bytes : List ℕ) → decode_of word.now ≢ Ok bytes)) }
+{
+    match hex::decode(alloc, word) {
+        Ok(contents) => Ok(Some(contents)),
+        Err(error) => {
+            if error == FromHexError::OutOfMemory {
+                Err(Memory)
+            } else {
+                Ok(None)
+            }
+        }
+    }
+}
+
+/// The bytes that a word writes in lower-case hex, `-` for none.
+pub(crate) fn hex_read(alloc: Global, word: &[u8]) -> Result<Option<Bytes>, Memory>
+    ensures some { IfOk result (λ read. IfSome read (λ contents. IsBytes contents × (word.now ≡ hex_text contents))) }
+    ensures none { IfOk result (λ read. IfNone read ((contents : List ℕ) → IsBytes contents → word.now ≢ hex_text contents)) }
+{
+    if is_word(word, b"-".as_slice()) {
+        return Ok(Some(Bytes::from_vec(Vec::new(alloc))));
+    }
+    if word.is_empty() {
+        return Ok(None);
+    }
+    let Some(contents) = decoded(alloc, word)? else {
+        return Ok(None);
+    };
+    let text = hex::encode(alloc, contents.as_slice())?;
+    if is_word(text.as_bytes(), word) {
+        Ok(Some(Bytes::from_vec(contents)))
+    } else {
+        Ok(None)
+    }
+}
+
+/// The contents that a word tells, where they are to be of that size: `-` alone where there are to be none.
+pub(crate) fn contents_read(
+    alloc: Global,
+    word: &[u8],
+    size: Option<u64>,
+) -> Result<Option<Option<Bytes>>, Memory>
+    ensures some { IfOk result (λ read. IfSome read (λ contents. AreSized size contents × (word.now ≡ optional_hex contents))) }
+    ensures none { IfOk result (λ read. IfNone read ((contents : Option (List ℕ)) → AreSized size contents → word.now ≢ optional_hex contents)) }
+{
+    let Some(size) = size else {
+        return Ok(none_read(word));
+    };
+    let Some(contents) = hex_read(alloc, word)? else {
+        return Ok(None);
+    };
+    if contents.as_slice().len() as u64 == size {
+        return Ok(Some(Some(contents)));
+    }
+    Ok(None)
+}
+
+/// No contents, where a word tells none.
+fn none_read(word: &[u8]) -> Option<Option<Bytes>>
+    ensures some { IfSome result (λ contents. AreSized None contents × (word.now ≡ optional_hex contents)) }
+    ensures none { IfNone result ((contents : Option (List ℕ)) → AreSized None contents → word.now ≢ optional_hex contents) }
+{
+    if is_word(word, b"-".as_slice()) {
+        return Some(None);
+    }
+    None
+}
