@@ -37,7 +37,7 @@ pub behind_head : (form : Format) (words more rest : List (List ℕ)) (head othe
 behind_head First words more rest head other h k = ap (drop 5) (sym h ∙ k)
 behind_head Second words more rest head other h k = ap (drop 6) (sym h ∙ k)
 
-small : (status : ℕ) → is_status status ≡ true → status < 1000
+pub small : (status : ℕ) → is_status status ≡ true → status < 1000
 small status h = grind (arith, nat_tests)
 
 -- lines with one act and one status tell contents of one size

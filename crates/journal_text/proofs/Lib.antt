@@ -6,3 +6,10 @@ mod TokenTexts
 mod Asking
 mod HexWords
 mod EntryWords
+mod Clocks
+mod RowKinds
+mod Plain
+mod Rows
+mod Fronts
+mod Growing
+mod Outcomes

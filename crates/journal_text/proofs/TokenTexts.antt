@@ -18,7 +18,7 @@ use Rattle.journal_text.proofs.Hexes.{Lacks-hex}
 use Rattle.journal_text.proofs.Splits.{EachLacks, Lacks, Lacks-list_all, join-parts, parts-join}
 
 -- a token's text is its fields, joined by periods
-joined : (token : Token) → token_fields token ≡ join_with_byte 46 (token_parts token)
+pub joined : (token : Token) → token_fields token ≡ join_with_byte 46 (token_parts token)
 unfolding token_fields
 joined token = grind (arith, append_assoc)
 
@@ -33,18 +33,18 @@ Lacks-decimal mark n apart h = Lacks-list_all mark is_ascii_digit (decimal n) ap
 pub Lacks-id : (mark : ℕ) (name : List ℕ) → is_user_byte mark ≡ false → IsFileName name → Lacks mark (id_of name)
 Lacks-id mark name apart form = Lacks-hex mark name apart (IsBytes-IsUtf8 name form.utf8)
 
--- no field has a period
-fields-lack : (token : Token) → IsToken token → EachLacks 46 (token_parts token)
+-- no field has a byte that is no letter, digit, underscore or dash
+pub fields-lack : (mark : ℕ) (token : Token) → is_user_byte mark ≡ false → is_ascii_digit mark ≡ false → IsToken token → EachLacks mark (token_parts token)
 unfolding EachLacks
-fields-lack token form = (
-  Lacks-list_all 46 is_user_byte token.user refl form.user.letters,
+fields-lack mark token letter digit form = (
+  Lacks-list_all mark is_user_byte token.user letter form.user.letters,
   (
-    Lacks-id 46 token.file refl form.file,
+    Lacks-id mark token.file letter form.file,
     (
-      Lacks-rights 46 token.write refl,
+      Lacks-rights mark token.write letter,
       (
-        Lacks-decimal 46 token.serial refl form.serial,
-        (Lacks-decimal 46 token.issued refl form.issued, (Lacks-decimal 46 token.expires refl form.expires, tt)),
+        Lacks-decimal mark token.serial digit form.serial,
+        (Lacks-decimal mark token.issued digit form.issued, (Lacks-decimal mark token.expires digit form.expires, tt)),
       ),
     ),
   ),
@@ -52,7 +52,7 @@ fields-lack token form = (
 
 -- the fields of a token's text
 pub parts_of-token : (token : Token) → IsToken token → parts_of (token_fields token) ≡ token_parts token
-parts_of-token token form = ap parts_of (joined token) ∙ parts-join 46 _ _ (fields-lack token form)
+parts_of-token token form = ap parts_of (joined token) ∙ parts-join 46 _ _ (fields-lack 46 token refl refl form)
 
 pub parts_of-text : (text : List ℕ) (token : Token) → IsToken token → text ≡ token_fields token → parts_of text ≡ token_parts token
 parts_of-text text token form is = ap parts_of is ∙ parts_of-token token form

@@ -3,3 +3,6 @@ pub mod Lines
 pub mod Tokens
 pub mod Acts
 pub mod Entries
+pub mod Journals
+pub mod Reader
+pub mod SoFar

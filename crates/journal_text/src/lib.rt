@@ -5,8 +5,10 @@ mod acts;
 mod contents;
 mod entry;
 mod opening;
+mod reading;
 mod splitting;
 mod text;
+mod times;
 mod tokens;
 mod values;
 

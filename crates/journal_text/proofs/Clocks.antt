@@ -1,0 +1,91 @@
+-- The times of shards, one entry after another.
+use Rattle.std.proofs.Common.{◌≡◌, ◌≢◌, ℕ, ◌<◌, ◌≤◌, ◌==◌, Bool, true, false, List, [], ◌∷◌, ◌++◌, length, get_or, inl, inr, if◌then◌else◌, refl, sym, ap, ◌∙◌, subst, arith}
+use Rattle.std.specs.Prelude.{max, slice_index, slice_set}
+use Rattle.std.proofs.lemmas.Bool.{eq-eqb}
+use Rattle.std.proofs.lemmas.Bool.Decides.{eqb_tells}
+use Rattle.std.proofs.lemmas.List.{get_or-set_same, get_or-set_other, length-set}
+use Rattle.wopi_model.specs.Moment.{IsMoment}
+use Rattle.journal_text.specs.declared.text.Format.{Format}
+use Rattle.journal_text.specs.declared.text.Format.TheVariants.{First, Second}
+use Rattle.journal_text.specs.declared.text.Line.{Line}
+use Rattle.journal_text.specs.Lines.{IsLine}
+use Rattle.journal_text.specs.Words.{line_words}
+use Rattle.journal_text.specs.Journals.{IsTimed, now_in}
+use Rattle.journal_text.specs.Reader.{HasTimes}
+
+pub now_in_more : (opened shard : ℕ) (lines : List Line) (line : Line)
+    → now_in opened shard (lines ++ line ∷ []) ≡ (if line.shard == shard then max (now_in opened shard lines) line.moment else now_in opened shard lines)
+now_in_more opened shard [] line = refl
+now_in_more opened shard (first ∷ lines) line = now_in_more (if first.shard == shard then max opened first.moment else opened) shard lines line
+
+-- an entry's own shard
+pub own_time : (opened : ℕ) (lines : List Line) (line : Line) → now_in opened line.shard (lines ++ line ∷ []) ≡ max (now_in opened line.shard lines) line.moment
+own_time opened lines line =
+    now_in_more opened line.shard lines line
+    ∙ ap (λ (b : Bool). if b then max (now_in opened line.shard lines) line.moment else now_in opened line.shard lines) (eq-eqb line.shard line.shard refl)
+
+-- and every other
+other_time : (opened shard : ℕ) (lines : List Line) (line : Line) → (line.shard == shard) ≡ false → now_in opened shard (lines ++ line ∷ []) ≡ now_in opened shard lines
+other_time opened shard lines line apart =
+    now_in_more opened shard lines line ∙ ap (λ (b : Bool). if b then max (now_in opened shard lines) line.moment else now_in opened shard lines) apart
+
+max_below : (a b n : ℕ) → a < n → b < n → max a b < n
+max_below a b n h k = grind arith
+
+pub HasTimes-more : (nows : List ℕ) (opened : ℕ) (lines : List Line) (line : Line) (now : ℕ) → HasTimes nows opened lines → line.shard < 16 → IsMoment line.moment
+    → now ≡ max (slice_index nows line.shard) line.moment → HasTimes (slice_set nows line.shard now) opened (lines ++ line ∷ [])
+HasTimes-more nows opened lines line now t within moment is =
+    let long = t.long in
+    let there : line.shard < length nows = omega (arith, long, within) in
+    let set : slice_index (slice_set nows line.shard now) line.shard ≡ now = get_or-set_same nows line.shard now 0 there in
+    let before = t.moments line.shard within in
+    let below : IsMoment now = subst IsMoment (sym is) (max_below _ _ _ before moment) in
+    record {
+      long = length-set nows line.shard now ∙ long;
+      times = λ shard h. elim (eqb_tells line.shard shard) [
+        | inl same ↦ subst (λ (s : ℕ). slice_index (slice_set nows line.shard now) s ≡ now_in opened s (lines ++ line ∷ [])) same.1
+            (set ∙ is ∙ ap (λ (n : ℕ). max n line.moment) (t.times line.shard within) ∙ sym (own_time opened lines line))
+        | inr apart ↦ get_or-set_other nows line.shard shard now 0 (λ e. apart.1 (sym e)) ∙ t.times shard h ∙ sym (other_time opened shard lines line apart.0)
+      ];
+      moments = λ shard h. elim (eqb_tells line.shard shard) [
+        | inl same ↦ subst (λ (s : ℕ). IsMoment (slice_index (slice_set nows line.shard now) s)) same.1 (subst IsMoment (sym set) below)
+        | inr apart ↦ subst IsMoment (sym (get_or-set_other nows line.shard shard now 0 (λ e. apart.1 (sym e)))) (t.moments shard h)
+      ];
+    }
+
+-- an entry with its shard's time
+pub record Timed (form : Format) (opened : ℕ) (lines : List Line) (line one : Line) (nows : List ℕ) : Type 0 where
+  pub form_is : IsLine one
+  pub words : line_words form one ≡ line_words form line
+  pub timed : IsTimed form opened lines one
+  pub times : HasTimes nows opened (lines ++ one ∷ [])
+
+pub timed_line : (form : Format) (opened : ℕ) (lines : List Line) (line one : Line) (now : ℕ) (nows : List ℕ) → IsLine line → HasTimes nows opened lines
+    → now ≡ max (slice_index nows line.shard) line.moment → (form ≡ First → one ≡ record line { now = now }) → (form ≡ Second → one ≡ line)
+    → Timed form opened lines line one (slice_set nows line.shard now)
+timed_line First opened lines line one now nows h t is first second =
+    let before = t.moments line.shard h.shard in
+    let below : IsMoment now = subst IsMoment (sym is) (max_below _ _ _ before h.moment) in
+    subst (λ (o : Line). Timed First opened lines line o (slice_set nows line.shard now)) (sym (first refl))
+    (record {
+      form_is = record {
+        stamp = h.stamp;
+        shard = h.shard;
+        pass = h.pass;
+        moment = h.moment;
+        now = below;
+        name = h.name;
+        asked = h.asked;
+        token = h.token;
+        status = h.status;
+        lock = h.lock;
+        version = h.version;
+        contents = h.contents;
+      };
+      words = refl;
+      timed = is ∙ ap (λ (n : ℕ). max n line.moment) (t.times line.shard h.shard) ∙ sym (own_time opened lines (record line { now = now }));
+      times = HasTimes-more nows opened lines (record line { now = now }) now t h.shard h.moment is;
+    })
+timed_line Second opened lines line one now nows h t is first second =
+    subst (λ (o : Line). Timed Second opened lines line o (slice_set nows line.shard now)) (sym (second refl))
+    (record { form_is = h; words = refl; timed = tt; times = HasTimes-more nows opened lines line now t h.shard h.moment is })
