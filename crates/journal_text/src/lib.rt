@@ -4,6 +4,7 @@
 mod acts;
 mod contents;
 mod entry;
+mod journal;
 mod opening;
 mod reading;
 mod splitting;
@@ -12,5 +13,6 @@ mod times;
 mod tokens;
 mod values;
 
+pub use journal::{JournalFault, read_journal};
 pub use host_core::EntryAct as LineAct;
 pub use text::{Files, Format, JournalText, Line, Lines};
