@@ -13,3 +13,4 @@ mod Rows
 mod Fronts
 mod Growing
 mod Outcomes
+pub mod LineTexts

@@ -49,6 +49,13 @@ body_text form before (file ∷ files) lines =
     ap (λ (l : List ℕ). file_text file ++ l) (body_text form before files lines)
     ∙ sym (append_assoc (file_text file) (flat_map file_text files) (flat_map (line_text form) lines ++ last_text form (before + length lines)))
 
+pub whole_text : (form : Format) (text : JournalText)
+    → first_text form text.opened text.first ++ (flat_map file_text text.files ++ (flat_map (line_text form) text.lines ++ last_text form (length text.lines)))
+    ≡ text_of (rows_of form text)
+whole_text form text =
+    ap (λ (n : ℕ). first_text form text.opened text.first ++ (flat_map file_text text.files ++ (flat_map (line_text form) text.lines ++ last_text form n))) (omega arith)
+    ∙ ap (λ (l : List ℕ). first_text form text.opened text.first ++ l) (sym (body_text form 0 text.files text.lines))
+
 body_begins : (form : Format) (before n : ℕ) (files : List File) (lines : List Line) (rest : List ℕ) → n ≤ length files + length lines
     → BeginsWith n (body_rows form before files lines) (flat_map file_text files ++ (flat_map (line_text form) lines ++ rest))
 body_begins form before zero files lines rest h = tt

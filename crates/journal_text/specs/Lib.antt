@@ -6,3 +6,4 @@ pub mod Entries
 pub mod Journals
 pub mod Reader
 pub mod SoFar
+pub mod Written
