@@ -60,7 +60,7 @@ first_head Second k rest row behind opened first rows cut is begins =
 
 -- ---- the first line
 
-same_form : (form other : Format) (opened first later version : ℕ) → first_words form opened first ≡ first_words other later version → other ≡ form
+pub same_form : (form other : Format) (opened first later version : ℕ) → first_words form opened first ≡ first_words other later version → other ≡ form
 same_form First First opened first later version e = refl
 same_form Second Second opened first later version e = refl
 same_form First Second opened first later version e =

@@ -14,3 +14,6 @@ mod Fronts
 mod Growing
 mod Outcomes
 pub mod LineTexts
+mod HostTexts
+mod Uniqueness
+mod OneReading

@@ -1,6 +1,7 @@
 -- What the reading of a journal ends with.
-use Rattle.std.proofs.Common.{◌≡◌, ℕ, zero, suc, ◌+◌, ◌-◌, ◌<◌, ◌≤◌, List, [], ◌∷◌, ◌++◌, length, Option, None, Some, refl, sym, ap, ◌∙◌, subst, arith, append_assoc, append-nil}
+use Rattle.std.proofs.Common.{◌≡◌, ℕ, zero, suc, ◌+◌, ◌-◌, ◌<◌, ◌≤◌, List, [], ◌∷◌, ◌++◌, length, Option, None, Some, inl, inr, refl, sym, ap, ◌∙◌, subst, arith, append_assoc, append-nil}
 use Rattle.std.specs.List.{flat_map}
+use Rattle.std.proofs.lemmas.Bool.{cases_lt}
 use Rattle.journal_text.specs.declared.text.Format.{Format}
 use Rattle.journal_text.specs.declared.text.Format.TheVariants.{First, Second}
 use Rattle.journal_text.specs.declared.text.JournalText.{JournalText}
@@ -207,3 +208,25 @@ no_first bytes row behind cut none = first_bad bytes (λ other text k within beg
 
 pub no_row_first : (bytes : List ℕ) → IsRow bytes → IsBadLine bytes 1
 no_row_first bytes h = first_bad bytes (λ other text k within begins. missing_first other text k bytes h begins)
+
+-- fewer lines begin where more do
+fewer : (n m : ℕ) (rows : List (List ℕ)) (bytes : List ℕ) → n ≤ m → BeginsWith m rows bytes → BeginsWith n rows bytes
+fewer zero m rows bytes h begins = tt
+fewer (suc n) zero rows bytes h begins = absurd (omega (arith, h))
+fewer (suc n) (suc m) [] bytes h begins = begins
+fewer (suc n) (suc m) (row ∷ rows) bytes h (rest, is, begins) = (rest, is, fewer n m rows rest (omega (arith, h)) begins)
+
+not_later : (bytes : List ℕ) (number other : ℕ) → IsBadLine bytes number → IsBadLine bytes other → number < other → ⊥
+not_later bytes number other h k less =
+    let (form, text, within, begins) = k.good in
+    h.bad form text within (fewer number (other - 1) (rows_of form text) bytes (omega (arith, less)) begins)
+
+pub one_bad : (bytes : List ℕ) (number other : ℕ) → IsBadLine bytes number → IsBadLine bytes other → number ≡ other
+one_bad bytes number other h k =
+    elim (cases_lt number other) [
+      | inl less ↦ absurd (not_later bytes number other h k less)
+      | inr least ↦ elim (cases_lt other number) [
+          | inl more ↦ absurd (not_later bytes other number k h more)
+          | inr most ↦ omega (arith, least, most)
+        ]
+    ]

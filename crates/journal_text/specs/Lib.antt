@@ -7,3 +7,4 @@ pub mod Journals
 pub mod Reader
 pub mod SoFar
 pub mod Written
+pub mod Told

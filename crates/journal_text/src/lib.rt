@@ -5,6 +5,7 @@ mod acts;
 mod contents;
 mod entry;
 mod journal;
+pub mod laws;
 mod opening;
 mod reading;
 mod splitting;
