@@ -1,5 +1,5 @@
 -- The words of an entry's line.
-use Rattle.std.proofs.Common.{◌≡◌, ℕ, ◌<◌, ◌==◌, Bool, true, false, List, [], ◌∷◌, ◌++◌, length, drop, Option, None, Some, if◌then◌else◌, refl, sym, ap, ◌∙◌, arith}
+use Rattle.std.proofs.Common.{◌≡◌, ℕ, ◌<◌, ◌==◌, true, List, ◌++◌, drop, Option, None, if◌then◌else◌, refl, sym, ap, ◌∙◌, arith}
 use Rattle.std.specs.Prelude.{decimal}
 use Rattle.std.proofs.lemmas.Fmt.{decimal_injective}
 use Rattle.std.proofs.lemmas.Bool.Decides.{nat_tests}
@@ -9,8 +9,8 @@ use Rattle.journal_text.specs.declared.text.Line.{Line}
 use Rattle.journal_text.specs.declared.entry.Head.{Head}
 use Rattle.host_core.specs.declared.entry.EntryAct.{EntryAct}
 use Rattle.journal_text.specs.Entries.{AreEnds, IsHead, head_words}
-use Rattle.journal_text.specs.Lines.{IsAct, IsLine, is_status, size_of, told_size}
-use Rattle.journal_text.specs.Words.{act_words, end_words, line_words, words_of}
+use Rattle.journal_text.specs.Lines.{IsAct, IsLine, is_status, told_size}
+use Rattle.journal_text.specs.Words.{act_words, end_words, line_words}
 use Rattle.journal_text.proofs.Asking.{same_size}
 
 abbrev pub head_of : Line → Head

@@ -1,5 +1,5 @@
 -- What may come behind the lines that were read.
-use Rattle.std.proofs.Common.{◌≡◌, ℕ, zero, suc, ◌+◌, ◌<◌, ◌≤◌, List, [], ◌∷◌, ◌++◌, length, get_or, Option, None, Some, inl, inr, refl, sym, ap, ◌∙◌, subst, arith, append_assoc}
+use Rattle.std.proofs.Common.{◌≡◌, ℕ, suc, ◌+◌, ◌<◌, ◌≤◌, List, [], ◌∷◌, ◌++◌, length, get_or, Option, None, Some, inl, inr, refl, sym, ap, ◌∙◌, subst, arith, append_assoc}
 use Rattle.std.proofs.lemmas.Bool.{cases_lt}
 use Rattle.std.specs.Prelude.{codes}
 use Rattle.std.specs.List.{AllByRecursion, join_with_byte}
@@ -121,7 +121,7 @@ pub file_taken : (form other : Format) (last : Option (List ℕ)) (before : ℕ)
 file_taken form other last before k rest row behind file cut is words none goes =
     let few : 0 + length goes.lines ≤ most_entries = (let few = goes.few in omega (arith, few, none)) in
     let begins : Begins (one_more k) (body_rows form 0 goes.files goes.lines) rest =
-        subst (λ (n : ℕ). Begins (one_more k) (body_rows form n goes.files goes.lines) rest) none goes.begins
+    subst (λ (n : ℕ). Begins (one_more k) (body_rows form n goes.files goes.lines) rest) none goes.begins
     in
     let next = next_file form last k rest row behind file cut is words goes.files goes.lines goes.files_are goes.lines_are few begins in
     subst (λ (f : Format). Goes form f (Some file.0) before behind k) (sym goes.same)

@@ -1,20 +1,18 @@
 -- A journal, read one line further.
-use Rattle.std.proofs.Common.{◌≡◌, ℕ, zero, suc, ◌+◌, ◌-◌, ◌<◌, ◌≤◌, List, [], ◌∷◌, ◌++◌, length, Option, None, Some, inl, inr, refl, sym, ap, ◌∙◌, subst, arith, append_assoc, append-nil}
+use Rattle.std.proofs.Common.{◌≡◌, ℕ, suc, ◌≤◌, List, [], ◌∷◌, ◌++◌, length, Option, None, Some, inl, inr, refl, sym, ap, ◌∙◌, subst, arith, append_assoc, append-nil}
 use Rattle.std.specs.List.{AllByRecursion, flat_map}
 use Rattle.std.proofs.lemmas.Grind.{flat_map-append}
 use Rattle.std.proofs.lemmas.List.{length-append}
 use Rattle.journal_text.specs.declared.text.Format.{Format}
-use Rattle.journal_text.specs.declared.text.Format.TheVariants.{First, Second}
-use Rattle.journal_text.specs.declared.text.JournalText.{JournalText}
 use Rattle.journal_text.specs.declared.text.Line.{Line}
 use Rattle.journal_text.specs.declared.reading.Reader.{Reader}
 use Rattle.journal_text.specs.declared.reading.Taken.TheVariants.{On}
 use Rattle.journal_text.specs.Lines.{IsFile, IsLine, IsOpening}
-use Rattle.journal_text.specs.Words.{IsRow, file_words, first_words, last_words, line_words, words_of}
-use Rattle.journal_text.specs.Journals.{AreFiles, AreTimed, BeginsWith, IsAfter, IsBadLine, IsReading, IsTimed, IsWithin, body_rows, file_text, first_text, last_text, line_text, most_entries, row_text, rows_of, text_of}
-use Rattle.journal_text.specs.Reader.{AddsFile, AddsLine, HasTimes, IsReader, IsUnfit, KeepsHead, Takes, TakesFile, TakesLine, last_name, text_in}
-use Rattle.journal_text.specs.SoFar.{Begins, Goes, IsSoFar, more, one_more}
-use Rattle.journal_text.proofs.Fronts.{Row, begun, ended, file_taken, line_taken, missing, missing_first, not_begun, refused}
+use Rattle.journal_text.specs.Words.{file_words, first_words, line_words, words_of}
+use Rattle.journal_text.specs.Journals.{AreFiles, AreTimed, IsAfter, IsTimed, file_text, first_text, line_text, most_entries}
+use Rattle.journal_text.specs.Reader.{AddsFile, AddsLine, HasTimes, IsReader, KeepsHead, Takes, last_name}
+use Rattle.journal_text.specs.SoFar.{Goes, IsSoFar, one_more}
+use Rattle.journal_text.proofs.Fronts.{Row, begun, file_taken, line_taken}
 use Rattle.journal_text.proofs.Rows.{row_of_words}
 
 -- ---- lists that grow at their end
@@ -167,8 +165,8 @@ pub so_begun : (bytes row behind : List ℕ) (reader : Reader) (opened first : �
     → IsSoFar bytes behind reader 1
 so_begun bytes row behind reader opened first form cut words f o v files lines h =
     let own : words_of row ≡ first_words reader.form reader.opened reader.first =
-        words ∙ ap (λ (x : Format). first_words x opened first) (sym f) ∙ ap (λ (x : ℕ). first_words reader.form x first) (sym o)
-        ∙ ap (λ (x : ℕ). first_words reader.form reader.opened x) (sym v)
+    words ∙ ap (λ (x : Format). first_words x opened first) (sym f) ∙ ap (λ (x : ℕ). first_words reader.form x first) (sym o)
+    ∙ ap (λ (x : ℕ). first_words reader.form reader.opened x) (sym v)
     in
     let cut_row : bytes ≡ first_text reader.form reader.opened reader.first ++ behind = cut.cut ∙ row_of_words row behind _ own in
     let none : length reader.lines.items ≡ 0 = ap length lines in

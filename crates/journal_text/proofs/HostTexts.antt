@@ -7,11 +7,11 @@ use Rattle.wopi_text.specs.declared.lock_field.LockField.TheVariants as field
 use Rattle.host_core.specs.Entries.{Made}
 use Rattle.host_table.specs.Journal.{JournalView, openings}
 use Rattle.host_table.specs.Pieces as pieces
-use Rattle.host_table.specs.Text.{call_text, entry_line, file_line, first_line, journal_text, last_line, lock_text, optional_hex, ruling_text}
+use Rattle.host_table.specs.Text.{call_text, entry_line, file_line, journal_text, last_line, lock_text, optional_hex, ruling_text}
 use Rattle.journal_text.specs.declared.text.Format.TheVariants.{Second}
 use Rattle.journal_text.specs.Journals.{file_text, first_text, last_text, line_text, rows_of, text_of}
 use Rattle.journal_text.specs.Told.{line_of, lock_of, told_by}
-use Rattle.journal_text.specs.Written.{begin_text, end_text}
+use Rattle.journal_text.specs.Written.{end_text}
 use Rattle.journal_text.proofs.LineTexts.{file_lines, first_lines, last_lines, line_halves}
 use Rattle.journal_text.proofs.Outcomes.{whole_text}
 
@@ -45,5 +45,5 @@ host_text journal =
     ∙ ap (λ (l : List ℕ). first_text Second journal.opened journal.first ++ (l ++ (flat_map entry_line journal.merge ++ last_line (length journal.merge)))) (files (openings journal.parts))
     ∙ ap (λ (l : List ℕ). first_text Second journal.opened journal.first ++ (flat_map file_text (openings journal.parts) ++ (l ++ last_line (length journal.merge)))) (entries journal.merge)
     ∙ ap (λ (l : List ℕ). first_text Second journal.opened journal.first ++ (flat_map file_text (openings journal.parts) ++ (flat_map (line_text Second) (map line_of journal.merge) ++ l)))
-        (last_lines (length journal.merge) ∙ ap (last_text Second) (sym (length-map journal.merge line_of)))
+    (last_lines (length journal.merge) ∙ ap (last_text Second) (sym (length-map journal.merge line_of)))
     ∙ whole_text Second (told_by journal)

@@ -11,7 +11,7 @@ use Rattle.host_table.specs.Writing.{Gathers}
 use Rattle.journal_text.specs.declared.text.Format.TheVariants.{Second}
 use Rattle.journal_text.specs.declared.text.Line.{Line}
 use Rattle.journal_text.specs.Journals.{file_text, first_text, last_text, line_text}
-use Rattle.journal_text.specs.Words.{act_words, end_words, line_words}
+use Rattle.journal_text.specs.Words.{act_words, end_words}
 use Rattle.journal_text.specs.Written.{begin_text, end_text}
 
 pub first_lines : (opened first : ℕ) → first_line opened first ≡ first_text Second opened first
@@ -102,10 +102,10 @@ pieces : (line : Line) → begin_text line ++ end_text line ≡ whole line (id_o
 pieces line =
     append_assoc (place_text line.stamp line.shard line.pass line.moment line.now line.name) ((32 ∷ act_text line.act) ++ (32 ∷ token_fields line.token)) (end_text line)
     ∙ ap (λ (l : List ℕ). place_text line.stamp line.shard line.pass line.moment line.now line.name ++ l)
-        (middle (act_text line.act) (token_fields line.token) (decimal line.status) (optional_hex line.lock) (reason_text line.reason) (version_text line.version) (optional_hex line.contents ++ 10 ∷ []))
+    (middle (act_text line.act) (token_fields line.token) (decimal line.status) (optional_hex line.lock) (reason_text line.reason) (version_text line.version) (optional_hex line.contents ++ 10 ∷ []))
     ∙ six_first (decimal line.stamp) (decimal line.shard) (decimal line.pass) (decimal line.moment) (decimal line.now) (id_of line.name) _
     ∙ ap (λ (l : List ℕ). six (decimal line.stamp) (decimal line.shard) (decimal line.pass) (decimal line.moment) (decimal line.now) (id_of line.name) (32 ∷ l))
-        (sym (seven_more (act_text line.act) (token_fields line.token) (decimal line.status) (optional_hex line.lock) (reason_text line.reason) (version_text line.version) (optional_hex line.contents) (10 ∷ [])))
+    (sym (seven_more (act_text line.act) (token_fields line.token) (decimal line.status) (optional_hex line.lock) (reason_text line.reason) (version_text line.version) (optional_hex line.contents) (10 ∷ [])))
     ∙ sym (six_more (decimal line.stamp) (decimal line.shard) (decimal line.pass) (decimal line.moment) (decimal line.now) (id_of line.name) (32 ∷ behind_name line) (10 ∷ []))
 
 -- a line is its two halves

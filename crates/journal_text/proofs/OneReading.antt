@@ -1,5 +1,5 @@
 -- A journal's text reads in one way.
-use Rattle.std.proofs.Common.{◌≡◌, ℕ, zero, suc, ◌+◌, ◌<◌, ◌≤◌, List, [], ◌∷◌, ◌++◌, length, get_or, Option, None, Some, refl, sym, ap, ◌∙◌, subst, arith, append_assoc}
+use Rattle.std.proofs.Common.{◌≡◌, ℕ, suc, ◌+◌, ◌<◌, ◌≤◌, List, [], ◌∷◌, ◌++◌, length, get_or, Option, None, Some, refl, sym, ap, ◌∙◌, subst, arith, append_assoc}
 use Rattle.std.specs.Prelude.{max}
 use Rattle.std.specs.List.{AllByRecursion, join_with_byte}
 use Rattle.std.proofs.lemmas.Fmt.{decimal_injective}
@@ -8,8 +8,8 @@ use Rattle.journal_text.specs.declared.text.Format.{Format}
 use Rattle.journal_text.specs.declared.text.Format.TheVariants.{First, Second}
 use Rattle.journal_text.specs.declared.text.JournalText.{JournalText}
 use Rattle.journal_text.specs.declared.text.Line.{Line}
-use Rattle.journal_text.specs.Lines.{AreSized, Fits, IsLine, IsOpening, told_size}
-use Rattle.journal_text.specs.Words.{act_words, end_words, file_words, first_words, last_words, line_words, words_of}
+use Rattle.journal_text.specs.Lines.{AreSized, IsLine, IsOpening, told_size}
+use Rattle.journal_text.specs.Words.{act_words, end_words, file_words, first_words, last_words, line_words}
 use Rattle.journal_text.specs.Journals.{AreFiles, AreTimed, IsReading, IsTimed, IsWithin, body_rows, most_entries, now_in, row_text, rows_of, text_of}
 use Rattle.journal_text.proofs.Asking.{one_act}
 use Rattle.journal_text.proofs.Clocks.{own_time}
@@ -60,7 +60,7 @@ same_line form line other h k given e =
     let now = now_there form line other h k given e in
     let name = name_there form line other h k e in
     let rest : act_words line.act ++ end_words line ≡ act_words other.act ++ end_words other =
-        behind_head form (line_words form line) _ _ (head_of line) (head_of other) (line_parts form line) (e ∙ line_parts form other)
+    behind_head form (line_words form line) _ _ (head_of line) (head_of other) (line_parts form line) (e ∙ line_parts form other)
     in
     let acts = one_act (act_words line.act ++ end_words line) (end_words line) (end_words other) line.act other.act refl rest in
     let asked = same_act line.act other.act h.asked k.asked acts.0 in
@@ -126,19 +126,19 @@ same_body : (form : Format) (opened before : ℕ) (done : List Line) (last mark 
 same_body form opened before done last mark [] [] [] [] f g l m t u a b e = record { files_are = refl; lines_are = refl }
 same_body form opened before done last mark [] [] [] (line ∷ later) f g l m t u a b e =
     let both = one_row (last_words form before) (line_words form line) [] (text_of (body_rows form (suc before) [] later)) (last_some form before) (omega arith)
-        (last-lacks form 32 before space (omega (arith, a))) (last-lacks form 10 before feed (omega (arith, a))) (line-lacks form 32 line space m.0) (line-lacks form 10 line feed m.0) e in
+    (last-lacks form 32 before space (omega (arith, a))) (last-lacks form 10 before feed (omega (arith, a))) (line-lacks form 32 line space m.0) (line-lacks form 10 line feed m.0) e in
     absurd (last_no_line form before line both.0)
 same_body form opened before done last mark [] [] (file ∷ other) later f g l m t u a b e =
     let both = one_row (last_words form before) (file_words file) [] (text_of (body_rows form before other later)) (last_some form before) (omega arith)
-        (last-lacks form 32 before space (omega (arith, a))) (last-lacks form 10 before feed (omega (arith, a))) (file-lacks 32 file space g.0) (file-lacks 10 file feed g.0) e in
+    (last-lacks form 32 before space (omega (arith, a))) (last-lacks form 10 before feed (omega (arith, a))) (file-lacks 32 file space g.0) (file-lacks 10 file feed g.0) e in
     absurd (last_no_file form before file both.0)
 same_body form opened before done last mark [] (line ∷ lines) [] [] f g l m t u a b e =
     let both = one_row (last_words form before) (line_words form line) [] (text_of (body_rows form (suc before) [] lines)) (last_some form before) (omega arith)
-        (last-lacks form 32 before space (omega (arith, a))) (last-lacks form 10 before feed (omega (arith, a))) (line-lacks form 32 line space l.0) (line-lacks form 10 line feed l.0) (sym e) in
+    (last-lacks form 32 before space (omega (arith, a))) (last-lacks form 10 before feed (omega (arith, a))) (line-lacks form 32 line space l.0) (line-lacks form 10 line feed l.0) (sym e) in
     absurd (last_no_line form before line both.0)
 same_body form opened before done last mark [] (line ∷ lines) [] (next ∷ later) f g l m t u a b e =
     let both = one_row (line_words form line) (line_words form next) (text_of (body_rows form (suc before) [] lines)) (text_of (body_rows form (suc before) [] later)) (omega arith) (omega arith)
-        (line-lacks form 32 line space l.0) (line-lacks form 10 line feed l.0) (line-lacks form 32 next space m.0) (line-lacks form 10 next feed m.0) e in
+    (line-lacks form 32 line space l.0) (line-lacks form 10 line feed l.0) (line-lacks form 32 next space m.0) (line-lacks form 10 next feed m.0) e in
     let now = same_now form opened done line next t.0 u.0 (shard_there form line next l.0 m.0 both.0) (moment_there form line next l.0 m.0 both.0) in
     let same = same_line form line next l.0 m.0 now both.0 in
     let timed : AreTimed form opened (done ++ line ∷ []) later = subst (λ (o : Line). AreTimed form opened (done ++ o ∷ []) later) (sym same) u.1 in
@@ -146,19 +146,19 @@ same_body form opened before done last mark [] (line ∷ lines) [] (next ∷ lat
     record { files_are = refl; lines_are = ap (λ (o : Line). o ∷ lines) same ∙ ap (λ (os : List Line). next ∷ os) rest.lines_are }
 same_body form opened before done last mark [] (line ∷ lines) (file ∷ other) later f g l m t u a b e =
     let both = one_row (file_words file) (line_words form line) (text_of (body_rows form before other later)) (text_of (body_rows form (suc before) [] lines)) (omega arith) (omega arith)
-        (file-lacks 32 file space g.0) (file-lacks 10 file feed g.0) (line-lacks form 32 line space l.0) (line-lacks form 10 line feed l.0) (sym e) in
+    (file-lacks 32 file space g.0) (file-lacks 10 file feed g.0) (line-lacks form 32 line space l.0) (line-lacks form 10 line feed l.0) (sym e) in
     absurd (file_no_line form file line both.0)
 same_body form opened before done last mark (file ∷ files) lines [] [] f g l m t u a b e =
     let both = one_row (last_words form before) (file_words file) [] (text_of (body_rows form before files lines)) (last_some form before) (omega arith)
-        (last-lacks form 32 before space (omega (arith, a))) (last-lacks form 10 before feed (omega (arith, a))) (file-lacks 32 file space f.0) (file-lacks 10 file feed f.0) (sym e) in
+    (last-lacks form 32 before space (omega (arith, a))) (last-lacks form 10 before feed (omega (arith, a))) (file-lacks 32 file space f.0) (file-lacks 10 file feed f.0) (sym e) in
     absurd (last_no_file form before file both.0)
 same_body form opened before done last mark (file ∷ files) lines [] (line ∷ later) f g l m t u a b e =
     let both = one_row (file_words file) (line_words form line) (text_of (body_rows form before files lines)) (text_of (body_rows form (suc before) [] later)) (omega arith) (omega arith)
-        (file-lacks 32 file space f.0) (file-lacks 10 file feed f.0) (line-lacks form 32 line space m.0) (line-lacks form 10 line feed m.0) e in
+    (file-lacks 32 file space f.0) (file-lacks 10 file feed f.0) (line-lacks form 32 line space m.0) (line-lacks form 10 line feed m.0) e in
     absurd (file_no_line form file line both.0)
 same_body form opened before done last mark (file ∷ files) lines (next ∷ other) later f g l m t u a b e =
     let both = one_row (file_words file) (file_words next) (text_of (body_rows form before files lines)) (text_of (body_rows form before other later)) (omega arith) (omega arith)
-        (file-lacks 32 file space f.0) (file-lacks 10 file feed f.0) (file-lacks 32 next space g.0) (file-lacks 10 next feed g.0) e in
+    (file-lacks 32 file space f.0) (file-lacks 10 file feed f.0) (file-lacks 32 next space g.0) (file-lacks 10 next feed g.0) e in
     let same = same_file file next f.0 g.0 both.0 in
     let rest = same_body form opened before done (Some file.0) (Some next.0) files lines other later f.2 g.2 l m t u a b both.1 in
     record { files_are = ap (λ (o : File). o ∷ files) same ∙ ap (λ (os : List File). next ∷ os) rest.files_are; lines_are = rest.lines_are }
@@ -181,9 +181,9 @@ same_opened Second opened first later version h k e =
 same_whole : (form : Format) (text other : JournalText) → IsWithin form text → IsWithin form other → text_of (rows_of form text) ≡ text_of (rows_of form other) → text ≡ other
 same_whole form text other h k e =
     let both = one_row (first_words form text.opened text.first) (first_words form other.opened other.first) (text_of (body_rows form 0 text.files text.lines))
-        (text_of (body_rows form 0 other.files other.lines)) (first_some form text.opened text.first) (first_some form other.opened other.first)
-        (first-lacks form 32 text.opened text.first space h.opening) (first-lacks form 10 text.opened text.first feed h.opening)
-        (first-lacks form 32 other.opened other.first space k.opening) (first-lacks form 10 other.opened other.first feed k.opening) e in
+    (text_of (body_rows form 0 other.files other.lines)) (first_some form text.opened text.first) (first_some form other.opened other.first)
+    (first-lacks form 32 text.opened text.first space h.opening) (first-lacks form 10 text.opened text.first feed h.opening)
+    (first-lacks form 32 other.opened other.first space k.opening) (first-lacks form 10 other.opened other.first feed k.opening) e in
     let head = same_opened form text.opened text.first other.opened other.first h.opening k.opening both.0 in
     let timed : AreTimed form text.opened [] other.lines = subst (λ (n : ℕ). AreTimed form n [] other.lines) (sym head.0) k.timed in
     let few = h.few in
@@ -194,9 +194,9 @@ same_whole form text other h k e =
 one_form : (form form' : Format) (text other : JournalText) → IsWithin form text → IsWithin form' other → text_of (rows_of form text) ≡ text_of (rows_of form' other) → form' ≡ form
 one_form form form' text other h k e =
     let both = one_row (first_words form text.opened text.first) (first_words form' other.opened other.first) (text_of (body_rows form 0 text.files text.lines))
-        (text_of (body_rows form' 0 other.files other.lines)) (first_some form text.opened text.first) (first_some form' other.opened other.first)
-        (first-lacks form 32 text.opened text.first space h.opening) (first-lacks form 10 text.opened text.first feed h.opening)
-        (first-lacks form' 32 other.opened other.first space k.opening) (first-lacks form' 10 other.opened other.first feed k.opening) e in
+    (text_of (body_rows form' 0 other.files other.lines)) (first_some form text.opened text.first) (first_some form' other.opened other.first)
+    (first-lacks form 32 text.opened text.first space h.opening) (first-lacks form 10 text.opened text.first feed h.opening)
+    (first-lacks form' 32 other.opened other.first space k.opening) (first-lacks form' 10 other.opened other.first feed k.opening) e in
     same_form form form' text.opened text.first other.opened other.first both.0
 
 -- bytes read as one text at most

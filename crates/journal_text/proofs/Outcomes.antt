@@ -3,13 +3,13 @@ use Rattle.std.proofs.Common.{◌≡◌, ℕ, zero, suc, ◌+◌, ◌-◌, ◌<�
 use Rattle.std.specs.List.{flat_map}
 use Rattle.std.proofs.lemmas.Bool.{cases_lt}
 use Rattle.journal_text.specs.declared.text.Format.{Format}
-use Rattle.journal_text.specs.declared.text.Format.TheVariants.{First, Second}
+use Rattle.journal_text.specs.declared.text.Format.TheVariants.{First}
 use Rattle.journal_text.specs.declared.text.JournalText.{JournalText}
 use Rattle.journal_text.specs.declared.text.Line.{Line}
 use Rattle.journal_text.specs.declared.reading.Reader.{Reader}
 use Rattle.journal_text.specs.Lines.{IsOpening}
 use Rattle.journal_text.specs.Words.{IsRow, first_words, last_words, words_of}
-use Rattle.journal_text.specs.Journals.{BeginsWith, IsBadLine, IsReading, IsWithin, body_rows, file_text, first_text, last_text, line_text, most_entries, row_text, rows_of, text_of}
+use Rattle.journal_text.specs.Journals.{BeginsWith, IsBadLine, IsReading, IsWithin, body_rows, file_text, first_text, last_text, line_text, rows_of, text_of}
 use Rattle.journal_text.specs.Reader.{IsReader, IsUnfit, text_in}
 use Rattle.journal_text.specs.SoFar.{Begins, Goes, IsSoFar, more, one_more}
 use Rattle.journal_text.proofs.Fronts.{Row, ended, missing, missing_first, not_begun, refused}
@@ -119,20 +119,20 @@ pub all_read : (bytes rest row behind : List ℕ) (reader : Reader) (n : ℕ) �
     → words_of row ≡ last_words reader.form (length reader.lines.items) → behind ≡ [] → IsReading bytes (text_in reader)
 all_read bytes rest row behind reader n cut h so words none =
     let cut_row : rest ≡ last_text reader.form (length reader.lines.items) =
-        cut.cut ∙ row_of_words row behind (last_words reader.form (length reader.lines.items)) words
-        ∙ ap (λ (l : List ℕ). last_text reader.form (length reader.lines.items) ++ l) none ∙ append-nil (last_text reader.form (length reader.lines.items))
+    cut.cut ∙ row_of_words row behind (last_words reader.form (length reader.lines.items)) words
+    ∙ ap (λ (l : List ℕ). last_text reader.form (length reader.lines.items) ++ l) none ∙ append-nil (last_text reader.form (length reader.lines.items))
     in (
       reader.form,
       within_in reader h,
       so.whole
-      ∙ ap (λ (l : List ℕ). first_text reader.form reader.opened reader.first ++ (flat_map file_text reader.files.items ++ (flat_map (line_text reader.form) reader.lines.items ++ l)))
-      (cut_row ∙ ap (last_text reader.form) (omega arith))
-      ∙ ap (λ (l : List ℕ). first_text reader.form reader.opened reader.first ++ l) (sym (body_text reader.form 0 reader.files.items reader.lines.items)),
+          ∙ ap (λ (l : List ℕ). first_text reader.form reader.opened reader.first ++ (flat_map file_text reader.files.items ++ (flat_map (line_text reader.form) reader.lines.items ++ l)))
+          (cut_row ∙ ap (last_text reader.form) (omega arith))
+          ∙ ap (λ (l : List ℕ). first_text reader.form reader.opened reader.first ++ l) (sym (body_text reader.form 0 reader.files.items reader.lines.items)),
     )
 
 last_begins : (form : Format) (before n : ℕ) (files : List File) (lines : List Line) (behind : List ℕ) → n ≡ length files + length lines
     → BeginsWith (suc n) (body_rows form before files lines)
-        (flat_map file_text files ++ (flat_map (line_text form) lines ++ (last_text form (before + length lines) ++ behind)))
+    (flat_map file_text files ++ (flat_map (line_text form) lines ++ (last_text form (before + length lines) ++ behind)))
 last_begins form before n [] [] behind h =
     let none : n ≡ 0 = h in
     subst (λ (m : ℕ). BeginsWith (suc m) (last_text form before ∷ []) (last_text form (before + 0) ++ behind)) (sym none)
@@ -141,7 +141,7 @@ last_begins form before zero [] (line ∷ lines) behind h = absurd (omega (arith
 last_begins form before (suc n) [] (line ∷ lines) behind h = (
   flat_map (line_text form) lines ++ (last_text form (suc before + length lines) ++ behind),
   append_assoc (line_text form line) (flat_map (line_text form) lines) (last_text form (before + length (line ∷ lines)) ++ behind)
-  ∙ ap (λ (m : ℕ). line_text form line ++ (flat_map (line_text form) lines ++ (last_text form m ++ behind))) (omega arith),
+      ∙ ap (λ (m : ℕ). line_text form line ++ (flat_map (line_text form) lines ++ (last_text form m ++ behind))) (omega arith),
   last_begins form (suc before) n [] lines behind (omega (arith, h)),
 )
 last_begins form before zero (file ∷ files) lines behind h = absurd (omega (arith, h))
@@ -158,8 +158,8 @@ more_behind bytes rest row behind reader n cut h so words some =
     let before : suc (suc n) - 1 ≡ suc n = omega arith in
     let two : more n (Some 2) ≡ Some (suc (suc n)) = more_some n 2 ∙ ap Some (omega arith) in
     let cut_row : rest ≡ last_text reader.form (0 + length reader.lines.items) ++ behind =
-        cut.cut ∙ row_of_words row behind (last_words reader.form (length reader.lines.items)) words
-        ∙ ap (λ (m : ℕ). last_text reader.form m ++ behind) (omega arith)
+    cut.cut ∙ row_of_words row behind (last_words reader.form (length reader.lines.items)) words
+    ∙ ap (λ (m : ℕ). last_text reader.form m ++ behind) (omega arith)
     in
     record {
       counted = omega arith;
@@ -180,8 +180,8 @@ more_behind bytes rest row behind reader n cut h so words some =
       unread = λ text reading.
           let (form, within, is) = reading in
           let none : behind ≡ [] = ended reader.form form reader.last (length reader.lines.items) None rest row behind cut words h.few
-              (so.only form text None within
-              (subst (λ (k : Option ℕ). Begins k (rows_of form text) bytes) (sym (more_all n)) (all_begin (rows_of form text) bytes is)))
+          (so.only form text None within
+          (subst (λ (k : Option ℕ). Begins k (rows_of form text) bytes) (sym (more_all n)) (all_begin (rows_of form text) bytes is)))
           in
           omega (arith, some, ap length none);
     }
@@ -226,7 +226,7 @@ one_bad bytes number other h k =
     elim (cases_lt number other) [
       | inl less ↦ absurd (not_later bytes number other h k less)
       | inr least ↦ elim (cases_lt other number) [
-          | inl more ↦ absurd (not_later bytes other number k h more)
-          | inr most ↦ omega (arith, least, most)
-        ]
+        | inl more ↦ absurd (not_later bytes other number k h more)
+        | inr most ↦ omega (arith, least, most)
+      ]
     ]

@@ -1,31 +1,27 @@
 -- The words of lines have no spaces and no line feeds.
-use Rattle.std.proofs.Common.{◌≡◌, ℕ, ◌<◌, ◌^◌, ◌==◌, ◌||◌, Bool, true, false, List, [], ◌∷◌, ◌++◌, Option, None, Some, refl, sym, ap, ◌∙◌, subst, arith}
-use Rattle.std.specs.Prelude.{codes, decimal, All}
-use Rattle.std.specs.Bool.{⊤}
+use Rattle.std.proofs.Common.{◌≡◌, ℕ, ◌==◌, Bool, true, false, List, [], ◌∷◌, ◌++◌, Option, None, Some, refl, sym, subst, arith}
+use Rattle.std.specs.Prelude.{codes, decimal}
 use Rattle.std.specs.List.{list_all, join_with_byte}
 use Rattle.std.specs.Char.{is_ascii_digit}
 use Rattle.std.proofs.lemmas.List.Elements.{All-append, All-cons}
-use Rattle.hex.specs.Hex.{IsBytes}
-use Rattle.wopi_text.specs.FileName.{IsFileName}
 use Rattle.wopi_text.specs.LockId.{IsLockId}
-use Rattle.wopi_text.specs.Ids.{id_of}
 use Rattle.wopi_text.specs.declared.reason.Reason.{Reason}
 use Rattle.wopi_text.specs.declared.reason.Reason.TheVariants as reason
 use Rattle.wopi_model.specs.User.{is_user_byte}
 use Rattle.wopi_model.specs.declared.token.Token.{Token}
 use Rattle.host_core.specs.declared.entry.EntryAct.{EntryAct}
 use Rattle.host_core.specs.declared.entry.EntryAct.TheVariants as act
-use Rattle.host_table.specs.Text.{hex_text, optional_hex, optional_number, overwrite_text, rights_text, token_fields, reason_text, version_text}
+use Rattle.host_table.specs.Text.{hex_text, optional_hex, optional_number, overwrite_text, token_fields, reason_text, version_text}
 use Rattle.journal_text.specs.declared.text.Format.{Format}
 use Rattle.journal_text.specs.declared.text.Format.TheVariants.{First, Second}
 use Rattle.journal_text.specs.declared.text.Line.{Line}
-use Rattle.journal_text.specs.Lines.{AreSized, IsAct, IsFile, IsFirst, IsLine, IsOpening, IsToken, Fits, MayBeLock, MayFit, is_status, told_size}
+use Rattle.journal_text.specs.Lines.{AreSized, IsAct, IsFile, IsLine, IsOpening, IsToken, Fits, MayBeLock, MayFit, told_size}
 use Rattle.journal_text.specs.Words.{act_words, end_words, file_words, first_words, last_words, line_words, now_words, token_parts}
 use Rattle.journal_text.proofs.EntryWords.{small}
 use Rattle.journal_text.proofs.Hexes.{Lacks-hex_text}
 use Rattle.journal_text.proofs.Locks.{IsBytes-lock}
 use Rattle.journal_text.proofs.Splits.{EachLacks, Lacks, Lacks-list_all}
-use Rattle.journal_text.proofs.TokenTexts.{Lacks-decimal, Lacks-id, Lacks-rights, fields-lack, joined}
+use Rattle.journal_text.proofs.TokenTexts.{Lacks-decimal, Lacks-id, fields-lack, joined}
 
 -- a mark that no word has: no letter, digit, underscore, dash or period
 pub record IsMark (mark : ℕ) : Type 0 where
@@ -162,7 +158,7 @@ line-lacks form mark line m h =
           (
             number mark line.moment m (omega (arith, moment)),
             EachLacks-append mark (now_words form line.now) _ (nows-lack form mark line.now m (omega (arith, now)))
-            (Lacks-id mark line.name m.letter h.name, EachLacks-append mark (act_words line.act) (end_words line) (acts-lack mark line.act m h.asked) (ends-lack mark line m h)),
+                (Lacks-id mark line.name m.letter h.name, EachLacks-append mark (act_words line.act) (end_words line) (acts-lack mark line.act m h.asked) (ends-lack mark line m h)),
           ),
         ),
       ),

@@ -1,13 +1,11 @@
 -- The lines of a text: each is found again, one after another.
-use Rattle.std.proofs.Common.{◌≡◌, ℕ, zero, suc, ◌+◌, ◌-◌, ◌<◌, ◌==◌, Bool, true, false, List, [], ◌∷◌, ◌++◌, length, drop, get_or, Option, None, Some, refl, sym, ap, ◌∙◌, subst, arith, append_assoc}
-use Rattle.std.specs.Prelude.{All}
-use Rattle.std.specs.Bool.{⊤}
-use Rattle.std.specs.List.{slice_split, join_with_byte}
-use Rattle.std.proofs.lemmas.List.Splits.{slice_split_at, slice_split_none}
+use Rattle.std.proofs.Common.{◌≡◌, ℕ, ◌-◌, ◌<◌, ◌==◌, false, List, [], ◌∷◌, ◌++◌, length, drop, get_or, refl, sym, ap, ◌∙◌, arith, append_assoc}
+use Rattle.std.specs.List.{join_with_byte}
+use Rattle.std.proofs.lemmas.List.Splits.{slice_split_at}
 use Rattle.std.proofs.lemmas.List.{length-append}
 use Rattle.std.proofs.Math.Seq.{drop-append_seam, get_or-append_right}
 use Rattle.journal_text.specs.Words.{IsRow, words_of}
-use Rattle.journal_text.specs.Journals.{row_text, text_of, BeginsWith}
+use Rattle.journal_text.specs.Journals.{row_text}
 use Rattle.journal_text.proofs.Plain.{Lacks-join}
 use Rattle.journal_text.proofs.Splits.{EachLacks, Lacks, join-parts, parts, parts-join}
 
@@ -24,8 +22,8 @@ one_first row rest line more h k e =
     let both = sym (first_line row rest h) ∙ ap (parts 10) e ∙ first_line line more k in
     let same : row ≡ line = ap (λ l. get_or l 0 []) both in
     let tails : 10 ∷ rest ≡ 10 ∷ more =
-        sym (drop-append_seam row (10 ∷ rest)) ∙ ap (λ (t : List ℕ). drop (length row) t) e ∙ ap (λ (r : List ℕ). drop (length r) (line ++ 10 ∷ more)) same
-        ∙ drop-append_seam line (10 ∷ more)
+    sym (drop-append_seam row (10 ∷ rest)) ∙ ap (λ (t : List ℕ). drop (length row) t) e ∙ ap (λ (r : List ℕ). drop (length r) (line ++ 10 ∷ more)) same
+    ∙ drop-append_seam line (10 ∷ more)
     in
     record { same = same; rests = ap (drop 1) tails }
 
@@ -46,8 +44,8 @@ no_line bytes line more h e =
     let below : length line < length bytes = omega (arith, ap length e, len) in
     let none : length line - length line ≡ 0 = omega arith in
     let at : get_or bytes (length line) 0 ≡ 10 =
-        ap (λ (b : List ℕ). get_or b (length line) 0) e ∙ get_or-append_right line (10 ∷ more) (length line) 0 (omega arith)
-        ∙ ap (λ (n : ℕ). get_or (10 ∷ more) n 0) none
+    ap (λ (b : List ℕ). get_or b (length line) 0) e ∙ get_or-append_right line (10 ∷ more) (length line) 0 (omega arith)
+    ∙ ap (λ (n : ℕ). get_or (10 ∷ more) n 0) none
     in
     let other : (get_or bytes (length line) 0 == 10) ≡ false = h (length line) 0 below in
     cc (sym other ∙ ap (λ (b : ℕ). b == 10) at)

@@ -1,5 +1,5 @@
 -- The parts of a text between single bytes of one kind: the words of a line, the fields of a token.
-use Rattle.std.proofs.Common.{◌≢◌, ◌≡◌, ℕ, Bool, true, false, ◌==◌, List, [], ◌∷◌, ◌++◌, length, get_or, take, drop, ◌+◌, ◌≤◌, cond, nat_lt, Option, Some, None, refl, sym, ap, ◌∙◌, arith}
+use Rattle.std.proofs.Common.{◌≢◌, ◌≡◌, ℕ, Bool, true, false, ◌==◌, List, [], ◌∷◌, length, get_or, take, drop, ◌+◌, ◌≤◌, cond, nat_lt, Option, Some, None, refl, sym, ap, ◌∙◌, arith}
 use Rattle.std.specs.Prelude.{All, position, is_some}
 use Rattle.std.specs.Bool.{⊤}
 use Rattle.std.specs.List.{list_all, join_with_byte, position_or_len, slice_split}

@@ -1,16 +1,15 @@
 -- What the reader of a journal has found. (Own.)
-use Rattle.std.specs.Prelude.{◌≡◌, ◌⊎◌, ⊤, ℕ, suc, ◌+◌, ◌<◌, ◌≤◌, List, [], ◌∷◌, ◌++◌, length, map, Option, None, Some, slice_index}
+use Rattle.std.specs.Prelude.{◌≡◌, ◌⊎◌, ℕ, ◌<◌, ◌≤◌, List, [], ◌∷◌, ◌++◌, length, Option, None, Some, slice_index}
 use Rattle.std.specs.List.{AllByRecursion}
 use Rattle.wopi_model.specs.Moment.{IsMoment}
-use Rattle.journal_text.specs.declared.text.Format.{Format}
 use Rattle.journal_text.specs.declared.text.JournalText.{JournalText}
 use Rattle.journal_text.specs.declared.text.Line.{Line}
 use Rattle.journal_text.specs.declared.reading.Reader.{Reader}
 use Rattle.journal_text.specs.declared.reading.Taken.{Taken}
 use Rattle.journal_text.specs.declared.reading.Taken.TheVariants.{On, Last, Bad}
 use Rattle.journal_text.specs.Lines.{IsFile, IsLine, IsOpening}
-use Rattle.journal_text.specs.Words.{file_words, last_words, line_words, words_of}
-use Rattle.journal_text.specs.Journals.{AreFiles, AreTimed, IsAfter, IsTimed, IsWithin, most_entries, now_in}
+use Rattle.journal_text.specs.Words.{file_words, last_words, line_words}
+use Rattle.journal_text.specs.Journals.{AreFiles, AreTimed, IsAfter, IsTimed, most_entries, now_in}
 
 -- the name of the last file, or what stood before
 abbrev pub last_name : Option (List ℕ) → List (List ℕ × List ℕ) → Option (List ℕ)

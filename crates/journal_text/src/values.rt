@@ -66,7 +66,12 @@ pub(crate) fn pass_read(word: &[u8]) -> Option<u32>
 fn is_status(number: u64) -> bool
     ensures { result ≡ is_status number }
 {
-    number == 200 || number == 401 || number == 404 || number == 409 || number == 412 || number == 500
+    number == 200
+        || number == 401
+        || number == 404
+        || number == 409
+        || number == 412
+        || number == 500
 }
 
 /// The status that a word is.

@@ -114,11 +114,7 @@ fn put_line<K: Sink>(sink: &mut K, room: &mut WriteRoom, line: &Line) -> Result<
 }
 
 /// Puts the lines of the entries.
-fn put_lines<K: Sink>(
-    sink: &mut K,
-    room: &mut WriteRoom,
-    lines: &[Line],
-) -> Result<(), Failed>
+fn put_lines<K: Sink>(sink: &mut K, room: &mut WriteRoom, lines: &[Line]) -> Result<(), Failed>
     ensures bytes { Gathers (K.held sink.old) (K.held sink.new) room.old.bytes.items room.new.bytes.items result (flat_map (line_text Second) lines.now) }
     ensures never_falls { K.write_faults sink.old ≤ K.write_faults sink.new }
     ensures failed { OnErr result (Rose (K.write_faults sink.old) (K.write_faults sink.new)) }
@@ -156,11 +152,7 @@ fn put_last<K: Sink>(sink: &mut K, room: &mut WriteRoom, entries: u64) -> Result
 }
 
 /// Puts all lines.
-fn put_all<K: Sink>(
-    sink: &mut K,
-    room: &mut WriteRoom,
-    text: &JournalText,
-) -> Result<(), Failed>
+fn put_all<K: Sink>(sink: &mut K, room: &mut WriteRoom, text: &JournalText) -> Result<(), Failed>
     ensures bytes { Gathers (K.held sink.old) (K.held sink.new) room.old.bytes.items room.new.bytes.items result (first_text Second text.now.opened text.now.first ++ (flat_map file_text text.now.files ++ (flat_map (line_text Second) text.now.lines ++ last_text Second (length text.now.lines)))) }
     ensures never_falls { K.write_faults sink.old ≤ K.write_faults sink.new }
     ensures failed { OnErr result (Rose (K.write_faults sink.old) (K.write_faults sink.new)) }

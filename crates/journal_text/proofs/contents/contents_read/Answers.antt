@@ -1,4 +1,4 @@
-use Rattle.std.proofs.Common.{sym, ap, ◌∙◌, ◌≡◌, length, arith, Option, ℕ, Some, subst, List}
+use Rattle.std.proofs.Common.{ap, ◌∙◌, ◌≡◌, length, Option, ℕ, Some, subst}
 use Rattle.hex.specs.Hex.{IsBytes}
 use Rattle.host_table.specs.Text.{hex_text}
 use Rattle.journal_text.specs.Lines.{AreSized}

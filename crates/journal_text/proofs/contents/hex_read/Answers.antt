@@ -1,4 +1,4 @@
-use Rattle.std.proofs.Common.{◌≡◌, Ok, sym, ap, ◌∙◌, rules, arith}
+use Rattle.std.proofs.Common.{◌≡◌, Ok, sym, ap, ◌∙◌, rules}
 use Rattle.hex.specs.Hex.{decode_of, encode_lower}
 use Rattle.journal_text.proofs.Endings.{not_empty}
 use Rattle.journal_text.proofs.HexWords.{empty_not, hex_back, hex_said}

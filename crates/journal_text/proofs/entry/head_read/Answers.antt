@@ -1,4 +1,4 @@
-use Rattle.std.proofs.Common.{sym, ap, ◌∙◌, ◌∷◌, [], drop}
+use Rattle.std.proofs.Common.{sym, ap, ◌∙◌, ◌∷◌, drop}
 use Rattle.wopi_text.specs.Ids.{id_of}
 use Rattle.journal_text.proofs.entry.head_read.Goals as goal
 

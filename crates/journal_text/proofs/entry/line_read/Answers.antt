@@ -1,8 +1,7 @@
 use Rattle.std.proofs.Common.{sym, ap, ◌∙◌, ◌≡◌, ◌++◌, get_or, [], Option, ℕ, subst}
-use Rattle.std.specs.Prelude.{decimal}
 use Rattle.host_table.specs.Text.{optional_hex}
 use Rattle.journal_text.specs.Entries.{head_words}
-use Rattle.journal_text.specs.Lines.{AreSized, told_size}
+use Rattle.journal_text.specs.Lines.{AreSized}
 use Rattle.journal_text.specs.Words.{act_words, end_words, words_of}
 use Rattle.journal_text.proofs.Asking.{front, one_act}
 use Rattle.journal_text.proofs.EntryWords.{AreEnds-line, IsHead-line, behind_head, head_of, line_parts, same_told}

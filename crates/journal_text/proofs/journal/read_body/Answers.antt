@@ -1,4 +1,4 @@
-use Rattle.std.proofs.Common.{◌≡◌, ℕ, suc, ◌+◌, List, ◌∷◌, length, Result, Ok, Err, sym, ap, ◌∙◌, subst, arith}
+use Rattle.std.proofs.Common.{◌≡◌, ℕ, suc, ◌+◌, ◌∷◌, length, Result, Ok, Err, sym, ap, ◌∙◌, subst, arith}
 use Rattle.std.specs.Prelude.{IfOk}
 use Rattle.std.proofs.lemmas.List.{length-append}
 use Rattle.journal_text.specs.declared.reading.Taken.TheVariants.{On, Last, Bad}
@@ -22,8 +22,8 @@ returns-in-Ok-Last-clause-read c =
     let row : Row c.rows.left.now c.in-Some.row.now c.in-Some.behind.now = record { cut = c.in-Some.ensures.some.0; line = c.in-Some.ensures.some.1 } in
     ok_map c.end.result _ _
     (λ text ended bytes so.
-        let read = all_read bytes c.rows.left.now c.in-Some.row.now c.in-Some.behind.now c.rows.reader c.rows.number row c.rows.invariant.form (c.rows.invariant.so bytes so) taken.0 ended.0 in
-        subst (λ (t : JournalText). IsReading bytes t) (sym (ended.1 ∙ ap text_in taken.1)) read)
+    let read = all_read bytes c.rows.left.now c.in-Some.row.now c.in-Some.behind.now c.rows.reader c.rows.number row c.rows.invariant.form (c.rows.invariant.so bytes so) taken.0 ended.0 in
+    subst (λ (t : JournalText). IsReading bytes t) (sym (ended.1 ∙ ap text_in taken.1)) read)
     c.end.ensures.read
 
 pub returns-in-Ok-Last-clause-bad : goal.returns-in-Ok-Last-clause-bad

@@ -1,4 +1,4 @@
-use Rattle.std.proofs.Common.{◌≡◌, ◌∙◌, sym, refl}
+use Rattle.std.proofs.Common.{◌≡◌, ◌∙◌, refl}
 use Rattle.std.specs.Prelude.{codes}
 use Rattle.journal_text.proofs.opening.second_form.Goals as goal
 

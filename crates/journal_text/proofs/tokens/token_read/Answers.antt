@@ -1,4 +1,4 @@
-use Rattle.std.proofs.Common.{length, ap, sym, ◌∙◌, Some, None, refl}
+use Rattle.std.proofs.Common.{length, ap, sym, ◌∙◌}
 use Rattle.journal_text.proofs.TokenTexts.{parts_of-text, text_from_parts}
 use Rattle.journal_text.proofs.tokens.token_read.Goals as goal
 

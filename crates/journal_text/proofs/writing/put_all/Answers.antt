@@ -1,4 +1,4 @@
-use Rattle.std.proofs.Common.{◌++◌, length, ap, ◌∙◌}
+use Rattle.std.proofs.Common.{◌++◌, length}
 use Rattle.std.specs.List.{flat_map}
 use Rattle.journal_text.specs.declared.text.Format.TheVariants.{Second}
 use Rattle.journal_text.specs.Journals.{file_text, first_text, last_text, line_text}

@@ -1,5 +1,4 @@
 use Rattle.std.proofs.Common.{arith}
-use Rattle.journal_text.specs.declared.text.Format.TheVariants.{Second}
 use Rattle.journal_text.specs.Journals.{file_text}
 use Rattle.host_table.proofs.WritingLemmas.{pieces_more, pieces_cut}
 use Rattle.journal_text.proofs.writing.put_files.Goals as goal

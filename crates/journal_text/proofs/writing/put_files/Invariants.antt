@@ -1,7 +1,6 @@
 use Rattle.std.proofs.Common.{◌≤◌, take}
 use Rattle.std.specs.List.{flat_map}
 use Rattle.host_table.specs.Writing.{IsGathered}
-use Rattle.journal_text.specs.declared.text.Format.TheVariants.{Second}
 use Rattle.journal_text.specs.Journals.{file_text}
 use Rattle.journal_text.proofs.writing.put_files.Given as goal
 

@@ -13,7 +13,7 @@ returns-in-Err-clause-bytes g c =
     let t = c.args.text.now in
     subst (λ (l : List ℕ). GrewByPrefix (g.K.Sink.held c.args.sink.now) (g.K.Sink.held c.put_all.new.sink) l) (whole_text Second t)
     (subst (λ (l : List ℕ). GrewByPrefix (g.K.Sink.held c.args.sink.now) (g.K.Sink.held c.put_all.new.sink)
-        (l ++ (first_text Second t.opened t.first ++ (flat_map file_text t.files ++ (flat_map (line_text Second) t.lines ++ last_text Second (length t.lines))))))
+    (l ++ (first_text Second t.opened t.first ++ (flat_map file_text t.files ++ (flat_map (line_text Second) t.lines ++ last_text Second (length t.lines))))))
     c.clear.ensures.items c.in-Err.ensures.bytes)
 
 pub returns-clause-bytes : goal.returns-clause-bytes

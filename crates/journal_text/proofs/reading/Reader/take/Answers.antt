@@ -1,4 +1,4 @@
-use Rattle.std.proofs.Common.{◌≡◌, List, ℕ, sym, ap, ◌∙◌, get_or, [], subst, refl, inr, IsTrue, length, arith}
+use Rattle.std.proofs.Common.{◌≡◌, List, ℕ, sym, ap, ◌∙◌, get_or, [], subst, inr, length, arith}
 use Rattle.wopi_text.proofs.IdLemmas.{id_of-injective}
 use Rattle.journal_text.specs.Lines.{IsFile, IsLine}
 use Rattle.journal_text.specs.Journals.{IsAfter}
