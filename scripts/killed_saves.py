@@ -25,7 +25,7 @@ SIZE = 8 << 20
 
 
 def token(name):
-    text = f"v1.ann.{name.encode().hex()}.w.1.253402300000000.253402300799999"
+    text = f"v2.0.ann.{name.encode().hex()}.w.1.253402300000000.253402300799999"
     return f"{text}.{hmac.new(bytes.fromhex(KEY), text.encode(), hashlib.sha256).hexdigest()}"
 
 

@@ -113,7 +113,7 @@ def must(holds, what):
 
 
 def token():
-    text = "v1.ann.612e637376.w.1.253402300000000.253402300799999"
+    text = "v2.0.ann.612e637376.w.1.253402300000000.253402300799999"
     return f"{text}.{hmac.new(bytes.fromhex(KEY), text.encode(), hashlib.sha256).hexdigest()}"
 
 

@@ -5,6 +5,7 @@ ghost use Rattle.std.specs.Prelude.{◌≡◌, ◌↔◌, ℕ, List, None, IfOk,
 ghost use Rattle.std.specs.List.{AllByRecursion};
 ghost use Rattle.std.specs.Vec.Iter.{into_iter_items};
 ghost use Rattle.std.specs.IoError.{error_kind};
+ghost use Rattle.access_tokens.specs.declared.keys.Keys.{Keys};
 ghost use Rattle.wopi_program.specs.EditWords.{IsEditRow};
 ghost use Rattle.wopi_program.specs.ServeWords.{IsServeRow};
 ghost use Rattle.wopi_program.specs.Words.{IsRow};
@@ -43,7 +44,7 @@ const NONE: Parts = Parts {
 /// Those of `serve`.
 fn parts_of_serve(words: &[String]) -> Parts
     requires { IsRow (map string_bytes words.now) Command.Serve }
-    ensures { (key : List ℕ) (base : List ℕ) (ask : ServeAsk) → IsServeRow (map string_bytes words.now) key base ask
+    ensures { (keys : Keys) (base : List ℕ) (ask : ServeAsk) → IsServeRow (map string_bytes words.now) keys base ask
         → (result.folders ≡ 16) × (result.clocks ≡ ask.workers) }
 {
     match serve_ask(words) {
@@ -58,7 +59,7 @@ fn parts_of_serve(words: &[String]) -> Parts
 /// Those of the words' command.
 fn parts_of(words: &[String]) -> Parts
     ensures once { IsRow (map string_bytes words.now) Command.Once → (result.folders ≡ 1) × (result.clocks ≡ 1) }
-    ensures serve { (key : List ℕ) (base : List ℕ) (ask : ServeAsk) → IsServeRow (map string_bytes words.now) key base ask
+    ensures serve { (keys : Keys) (base : List ℕ) (ask : ServeAsk) → IsServeRow (map string_bytes words.now) keys base ask
         → (result.folders ≡ 16) × (result.clocks ≡ ask.workers) }
 {
     match read_words(words) {
@@ -141,9 +142,9 @@ fn listeners<'a, R: Net<Stream = TcpStream, Listener = TcpListener> + Files>(
     words: &[String],
     stop: Option<&'a str>,
 ) -> Result<Vec<StopListener<'a, R, TcpListen>>, Memory>
-    ensures count { (key : List ℕ) (base : List ℕ) (ask : ServeAsk) → IsServeRow (map string_bytes words.now) key base ask
+    ensures count { (keys : Keys) (base : List ℕ) (ask : ServeAsk) → IsServeRow (map string_bytes words.now) keys base ask
         → IfOk result (λ all. vec_len all ≡ ask.workers) }
-    ensures each { (key : List ℕ) (base : List ℕ) (ask : ServeAsk) → IsServeRow (map string_bytes words.now) key base ask
+    ensures each { (keys : Keys) (base : List ℕ) (ask : ServeAsk) → IsServeRow (map string_bytes words.now) keys base ask
         → IfOk result (λ all. AllByRecursion (λ one. IfSome one.listener (λ own. (own.most ≡ ask.each) × (own.accepted ≡ 0))) all.items) }
     ensures begins { IfOk result (λ all. AllByRecursion (λ one. (one.path ≡ stop.entry) × (one.accepted ≡ 0)) all.items) }
     ensures untold { stop.entry ≡ None → IfOk result (λ all. AllByRecursion (λ one. IsSome one.listener) all.items) }

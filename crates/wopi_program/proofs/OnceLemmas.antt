@@ -17,6 +17,7 @@ use Rattle.wopi_program.specs.declared.once.OnceEnd.{OnceEnd}
 use Rattle.wopi_program.specs.declared.once.OnceEnd.TheVariants.{Served, FolderFault, TooLarge, Memory}
 use Rattle.wopi_program.specs.Meanings.{Meanings}
 use Rattle.wopi_program.specs.Once.{IsFresh, ServesShard, OpensAndServes, OnceRuns, OnceRunsIn, Untouched, Finishes, OnceEnds}
+use Rattle.access_tokens.specs.declared.keys.Keys.{Keys}
 
 module _ {S K F N D C L : Type 0} (m : Meanings S K F N D C L) where
   pub shard_serves : (desk : Desk) (end : ConnEnd) (first began ended last : Book F) (folder : F) (clock clock' : C) (old new : Outside S K F N D C)
@@ -57,8 +58,8 @@ module _ {S K F N D C L : Type 0} (m : Meanings S K F N D C L) where
       (subst (λ (n : ℕ). Legal last.opening last.opened n (map Step (made s.serves.deeds))) begins
       (subst (λ (l : List Item). Legal last.opening last.opened last.first l) items (s.lawful.alone calm))))
 
-  pub opens_and_serves : (desk : Desk) (key base : List ℕ) (opened : ℕ) (end : ConnEnd) (folder folder' : F) (clock mid clock' : C) (old new : Outside S K F N D C)
-      (first : Book F) → desk.key ≡ key → desk.base ≡ base → desk.opened ≡ opened → Gives (m.moments clock) (m.moments mid) opened
+  pub opens_and_serves : (desk : Desk) (keys : Keys) (base : List ℕ) (opened : ℕ) (end : ConnEnd) (folder folder' : F) (clock mid clock' : C) (old new : Outside S K F N D C)
+      (first : Book F) → desk.keys ≡ keys → desk.base ≡ base → desk.opened ≡ opened → Gives (m.moments clock) (m.moments mid) opened
       → first ≡ record {
         only = None;
         opening = first.opening;
@@ -73,12 +74,12 @@ module _ {S K F N D C L : Type 0} (m : Meanings S K F N D C L) where
       }
       → IsOpening None (m.files folder) first.opening → Fits first.opening
       → ServesShard m desk end first folder' mid clock' old new
-      → OpensAndServes m key base end folder folder' clock clock' old new
-  opens_and_serves desk key base opened end folder folder' clock mid clock' old new first key_is base_is opened_is times book opening fits serves = record {
+      → OpensAndServes m keys base end folder folder' clock clock' old new
+  opens_and_serves desk keys base opened end folder folder' clock mid clock' old new first keys_are base_is opened_is times book opening fits serves = record {
     desk = desk;
     mid = mid;
     first = first;
-    key_is = key_is;
+    keys_are = keys_are;
     base_is = base_is;
     times = subst (Gives (m.moments clock) (m.moments mid)) (sym opened_is) times;
     opens = subst (λ n. IsFresh m folder n first) (sym opened_is) (record { book = book; opening = opening; fits = fits });
@@ -89,18 +90,18 @@ module _ {S K F N D C L : Type 0} (m : Meanings S K F N D C L) where
   }
 
   -- a run speaks of the streams alone, and of the folder and the clock that it was given
-  module _ (key base : List ℕ) (folder folder' : F) (clock clock' : C) (old new old' new' : Outside S K F N D C)
+  module _ (keys : Keys) (base : List ℕ) (folder folder' : F) (clock clock' : C) (old new old' new' : Outside S K F N D C)
       (input_is : old.input ≡ old'.input) (output_is : old.output ≡ old'.output) (output_then : new.output ≡ new'.output) where
-    moved : (end : ConnEnd) → OpensAndServes m key base end folder folder' clock clock' old new → OpensAndServes m key base end folder folder' clock clock' old' new'
+    moved : (end : ConnEnd) → OpensAndServes m keys base end folder folder' clock clock' old new → OpensAndServes m keys base end folder folder' clock clock' old' new'
     moved end served =
         let one = served.serves in
-        let At : S × K × K → Type 0 = λ z. OpensAndServes m key base end folder folder' clock clock' (record old' { input = z.0; output = z.1 }) (record new' { output = z.2 }) in
+        let At : S × K × K → Type 0 = λ z. OpensAndServes m keys base end folder folder' clock clock' (record old' { input = z.0; output = z.1 }) (record new' { output = z.2 }) in
         let streams : (old.input, old.output, new.output) ≡ (old'.input, old'.output, new'.output) = λ i. (input_is i, output_is i, output_then i) in
         let here : At (old.input, old.output, new.output) = record {
           desk = served.desk;
           mid = served.mid;
           first = served.first;
-          key_is = served.key_is;
+          keys_are = served.keys_are;
           base_is = served.base_is;
           times = served.times;
           opens = served.opens;
@@ -110,18 +111,18 @@ module _ {S K F N D C L : Type 0} (m : Meanings S K F N D C L) where
         in
         subst At streams here
 
-    pub runs_moved : (end : OnceEnd) → OnceRuns m key base end folder folder' clock clock' old new → OnceRuns m key base end folder folder' clock clock' old' new'
+    pub runs_moved : (end : OnceEnd) → OnceRuns m keys base end folder folder' clock clock' old new → OnceRuns m keys base end folder folder' clock clock' old' new'
     runs_moved (Served end) served = moved end served
     runs_moved FolderFault none = none
     runs_moved (TooLarge name) none = none
     runs_moved Memory none = none
 
   -- nor does it speak of the notes
-  pub once_noted : (key base base' : List ℕ) (end : OnceEnd) (old new : Outside S K F N D C) (notes : K) → base ≡ base' → OnceRunsIn m key base end old new
-      → OnceRunsIn m key base' end old (record new { notes = notes })
-  once_noted key base base' end old new notes is ran =
+  pub once_noted : (keys : Keys) (base base' : List ℕ) (end : OnceEnd) (old new : Outside S K F N D C) (notes : K) → base ≡ base' → OnceRunsIn m keys base end old new
+      → OnceRunsIn m keys base' end old (record new { notes = notes })
+  once_noted keys base base' end old new notes is ran =
       let new' : Outside S K F N D C = record new { notes = notes } in
-      let noted : OnceRunsIn m key base end old new' = record {
+      let noted : OnceRunsIn m keys base end old new' = record {
         folder = ran.folder;
         folder' = ran.folder';
         folders_are = ran.folders_are;
@@ -130,10 +131,10 @@ module _ {S K F N D C L : Type 0} (m : Meanings S K F N D C L) where
         clock' = ran.clock';
         clocks_are = ran.clocks_are;
         clocks_then = ran.clocks_then;
-        runs = runs_moved key base ran.folder ran.folder' ran.clock ran.clock' old new old new' refl refl refl end ran.runs;
+        runs = runs_moved keys base ran.folder ran.folder' ran.clock ran.clock' old new old new' refl refl refl end ran.runs;
       }
       in
-      subst (λ b. OnceRunsIn m key b end old new') is noted
+      subst (λ b. OnceRunsIn m keys b end old new') is noted
 
 pub untouched_noted : {S K F N D C : Type 0} (end : OnceEnd) (old new : Outside S K F N D C) (notes : K) → Untouched end old new
     → Untouched end old (record new { notes = notes })

@@ -2,11 +2,12 @@
 use Rattle.std.proofs.Common.{◌≡◌, ◌↔◌, ℕ, suc, ◌<◌, ◌≤◌, ◌+◌, ◌^◌, Bool, true, false, if◌then◌else◌, List, [], ◌∷◌, None, Some, Option, IfSome, length, map, get_or, drop, codes, refl, sym, ap, ◌∙◌, subst, arith}
 use Rattle.std.specs.Option.{option_len}
 use Rattle.std.specs.Str.{bytes_eq}
-use Rattle.access_tokens.specs.Key.{IsHexOf}
+use Rattle.access_tokens.specs.Keys.{IsWordOf}
 use Rattle.host_server.specs.Bases.{is_base}
 use Rattle.wopi_program.specs.declared.serve_words.ServeAsk.{ServeAsk}
 use Rattle.wopi_program.specs.declared.serve_words.ServeOptions.{ServeOptions}
 use Rattle.wopi_program.specs.ServeWords.{IsServe, IsServeRow, asked_of, before_others, number_in, option_before, options_of, unless_told, with_each, with_first, with_journal}
+use Rattle.access_tokens.specs.declared.keys.Keys.{Keys}
 
 -- a list with these six things at its front
 pub six_items : {A : Type 0} (xs : List A) (u v w x y z : A) → 5 < length xs
@@ -98,45 +99,45 @@ module _ {A : Type 0} (f : A → List ℕ) where
 
   -- nor are fewer than six a row
   pub too_few : (xs : List A) → length xs < 6 → IsServe (map f xs) → ⊥
-  too_few xs few (key, base, ask, row) =
+  too_few xs few (keys, base, ask, row) =
       let long = ap (λ (l : List (List ℕ)). length l) row.words_are in let same = many_mapped xs in omega (arith, few, long, same)
 
 -- where words are a row, each of them has its form
-pub refused : (words : List (List ℕ)) (word folder port digits base workers : List ℕ) (rest : List (List ℕ))
-    → words ≡ word ∷ folder ∷ port ∷ digits ∷ base ∷ workers ∷ rest
-    → ((key : List ℕ) (ask : ServeAsk) → word ≡ codes "serve" → 0 < length folder → IsHexOf key digits → is_base base ≡ true
+pub refused : (words : List (List ℕ)) (word folder port key_word base workers : List ℕ) (rest : List (List ℕ))
+    → words ≡ word ∷ folder ∷ port ∷ key_word ∷ base ∷ workers ∷ rest
+    → ((keys : Keys) (ask : ServeAsk) → word ≡ codes "serve" → 0 < length folder → IsWordOf keys key_word → is_base base ≡ true
     → asked_of port workers rest ≡ Some ask → ⊥) → IsServe words → ⊥
-refused words word folder port digits base workers rest are denied (key, base', ask, row) =
-    let same : word ∷ folder ∷ port ∷ digits ∷ base ∷ workers ∷ rest ≡ codes "serve" ∷ row.folder ∷ row.port ∷ row.digits ∷ base' ∷ row.workers ∷ row.options =
+refused words word folder port key_word base workers rest are denied (keys, base', ask, row) =
+    let same : word ∷ folder ∷ port ∷ key_word ∷ base ∷ workers ∷ rest ≡ codes "serve" ∷ row.folder ∷ row.port ∷ row.key_word ∷ base' ∷ row.workers ∷ row.options =
     sym are ∙ row.words_are in
     let a : word ≡ codes "serve" = cc same in
     let b : row.folder ≡ folder = cc same in
     let p : row.port ≡ port = cc same in
-    let d : row.digits ≡ digits = cc same in
+    let d : row.key_word ≡ key_word = cc same in
     let e : base' ≡ base = cc same in
     let w : row.workers ≡ workers = cc same in
     let o : row.options ≡ rest = cc same in
-    denied key ask a (subst (λ (l : List ℕ). 0 < length l) b row.folder_is) (subst (IsHexOf key) d row.key_is) (ap is_base (sym e) ∙ row.base_is)
+    denied keys ask a (subst (λ (l : List ℕ). 0 < length l) b row.folder_is) (subst (IsWordOf keys) d row.keys_are) (ap is_base (sym e) ∙ row.base_is)
     (ap (λ (l : List ℕ). asked_of l workers rest) (sym p) ∙ ap (λ (l : List ℕ). asked_of row.port l rest) (sym w)
     ∙ ap (λ (l : List (List ℕ)). asked_of row.port row.workers l) (sym o) ∙ row.ask_is)
 
 -- the words have these numbers alone
-pub ask_same : (words : List (List ℕ)) (key base key' base' : List ℕ) (ask ask' : ServeAsk) → IsServeRow words key base ask → IsServeRow words key' base' ask'
+pub ask_same : (words : List (List ℕ)) (keys : Keys) (base : List ℕ) (keys' : Keys) (base' : List ℕ) (ask ask' : ServeAsk) → IsServeRow words keys base ask → IsServeRow words keys' base' ask'
     → Some ask ≡ Some ask'
-ask_same words key base key' base' ask ask' one two =
-    let same : codes "serve" ∷ one.folder ∷ one.port ∷ one.digits ∷ base ∷ one.workers ∷ one.options
-    ≡ codes "serve" ∷ two.folder ∷ two.port ∷ two.digits ∷ base' ∷ two.workers ∷ two.options = sym one.words_are ∙ two.words_are in
+ask_same words keys base keys' base' ask ask' one two =
+    let same : codes "serve" ∷ one.folder ∷ one.port ∷ one.key_word ∷ base ∷ one.workers ∷ one.options
+    ≡ codes "serve" ∷ two.folder ∷ two.port ∷ two.key_word ∷ base' ∷ two.workers ∷ two.options = sym one.words_are ∙ two.words_are in
     let p : one.port ≡ two.port = cc same in
     let w : one.workers ≡ two.workers = cc same in
     let o : one.options ≡ two.options = cc same in
     sym one.ask_is ∙ ap (λ (l : List ℕ). asked_of l one.workers one.options) p ∙ ap (λ (l : List ℕ). asked_of two.port l one.options) w
     ∙ ap (λ (l : List (List ℕ)). asked_of two.port two.workers l) o ∙ two.ask_is
 
-pub ask_exact : (words : List (List ℕ)) (key base : List ℕ) (ask : ServeAsk) → IsServeRow words key base ask → (other : ServeAsk)
-    → (Some ask ≡ Some other) ↔ ((key : List ℕ) × (base : List ℕ) × IsServeRow words key base other)
-ask_exact words key base ask row = λ other.
-    ((λ e. let same : ask ≡ other = cc e in (key, base, subst (IsServeRow words key base) same row)), λ all. ask_same words key base all.0 all.1 ask other row all.2)
+pub ask_exact : (words : List (List ℕ)) (keys : Keys) (base : List ℕ) (ask : ServeAsk) → IsServeRow words keys base ask → (other : ServeAsk)
+    → (Some ask ≡ Some other) ↔ ((keys : Keys) × (base : List ℕ) × IsServeRow words keys base other)
+ask_exact words keys base ask row = λ other.
+    ((λ e. let same : ask ≡ other = cc e in (keys, base, subst (IsServeRow words keys base) same row)), λ all. ask_same words keys base all.0 all.1 ask other row all.2)
 
 pub ask_none : (words : List (List ℕ)) → (IsServe words → ⊥) → (other : ServeAsk)
-    → (None ≡ Some other) ↔ ((key : List ℕ) × (base : List ℕ) × IsServeRow words key base other)
+    → (None ≡ Some other) ↔ ((keys : Keys) × (base : List ℕ) × IsServeRow words keys base other)
 ask_none words none = λ other. ((λ e. absurd (cc e)), λ all. absurd (none (all.0, all.1, other, all.2)))

@@ -22,6 +22,7 @@ use Rattle.wopi_program.specs.Meanings.{Meanings}
 use Rattle.wopi_program.specs.Notes.{Notes, NotesFor}
 use Rattle.wopi_program.specs.Words.{IsOnceRow}
 use Rattle.wopi_program.specs.Telling.{Wants}
+use Rattle.access_tokens.specs.declared.keys.Keys.{Keys}
 
 -- the status of a connection's end
 abbrev pub status_of : ConnEnd → ℕ
@@ -86,11 +87,11 @@ module _ {S K F N D C L : Type 0} (m : Meanings S K F N D C L) where
 
   -- The clock's first moment opened the shard, and the connection was served by its later ones. The entries that were made are
   -- legal by themselves, from the opening: nobody set the shard's time beside them.
-  pub record OpensAndServes (key base : List ℕ) (end : ConnEnd) (folder folder' : F) (clock clock' : C) (old new : Outside S K F N D C) : Type 0 where
+  pub record OpensAndServes (keys : Keys) (base : List ℕ) (end : ConnEnd) (folder folder' : F) (clock clock' : C) (old new : Outside S K F N D C) : Type 0 where
     pub desk : Desk
     pub mid : C
     pub first : Book F
-    pub key_is : desk.key ≡ key
+    pub keys_are : desk.keys ≡ keys
     pub base_is : desk.base ≡ base
     pub times : Gives (m.moments clock) (m.moments mid) desk.opened
     pub opens : IsFresh folder desk.opened first
@@ -105,15 +106,15 @@ module _ {S K F N D C L : Type 0} (m : Meanings S K F N D C L) where
     pub counts : m.folder_faults folder ≤ m.folder_faults folder'
 
   -- What a run did with the folder and the clock, by its end.
-  abbrev pub OnceRuns : List ℕ → List ℕ → OnceEnd → F → F → C → C → Outside S K F N D C → Outside S K F N D C → Type 0
-  OnceRuns key base (Served end) folder folder' clock clock' old new = OpensAndServes key base end folder folder' clock clock' old new
-  OnceRuns key base FolderFault folder folder' clock clock' old new =
+  abbrev pub OnceRuns : Keys → List ℕ → OnceEnd → F → F → C → C → Outside S K F N D C → Outside S K F N D C → Type 0
+  OnceRuns keys base (Served end) folder folder' clock clock' old new = OpensAndServes keys base end folder folder' clock clock' old new
+  OnceRuns keys base FolderFault folder folder' clock clock' old new =
       Rose (m.folder_faults folder) (m.folder_faults folder') × OpensNone folder folder' clock clock'
-  OnceRuns key base (TooLarge name) folder folder' clock clock' old new = IsTooLarge None (m.files folder) name × OpensNone folder folder' clock clock'
-  OnceRuns key base Memory folder folder' clock clock' old new = OpensNone folder folder' clock clock'
+  OnceRuns keys base (TooLarge name) folder folder' clock clock' old new = IsTooLarge None (m.files folder) name × OpensNone folder folder' clock clock'
+  OnceRuns keys base Memory folder folder' clock clock' old new = OpensNone folder folder' clock clock'
 
   -- the same with the one folder and the one clock in their lists, in which they are again
-  pub record OnceRunsIn (key base : List ℕ) (end : OnceEnd) (old new : Outside S K F N D C) : Type 0 where
+  pub record OnceRunsIn (keys : Keys) (base : List ℕ) (end : OnceEnd) (old new : Outside S K F N D C) : Type 0 where
     pub folder : F
     pub folder' : F
     pub folders_are : old.folders.items ≡ folder ∷ []
@@ -122,15 +123,15 @@ module _ {S K F N D C L : Type 0} (m : Meanings S K F N D C L) where
     pub clock' : C
     pub clocks_are : old.clocks.items ≡ clock ∷ []
     pub clocks_then : new.clocks.items ≡ clock' ∷ []
-    pub runs : OnceRuns key base end folder folder' clock clock' old new
+    pub runs : OnceRuns keys base end folder folder' clock clock' old new
 
-  -- A run under the key and the base of the words: what it did, the causes of the faults, the status's line on the notes; and all else stays.
+  -- A run under the keys and the base of the words: what it did, the causes of the faults, the status's line on the notes; and all else stays.
   pub record OnceRan (words : List (List ℕ)) (status : ℕ) (old new : Outside S K F N D C) : Type 0 where
     pub end : OnceEnd
-    pub key : List ℕ
+    pub keys : Keys
     pub base : List ℕ
-    pub row : IsOnceRow words key base
-    pub runs : OnceRunsIn key base end old new
+    pub row : IsOnceRow words keys base
+    pub runs : OnceRunsIn keys base end old new
     pub untouched : Untouched end old new
     pub nothing_read : end ≡ Served conn.Memory → m.left new.input ≡ m.left old.input
     pub read_cause : status ≡ 3 → Rose (m.read_faults old.input) (m.read_faults new.input)

@@ -11,6 +11,7 @@ use Rattle.wopi_program.specs.Once.{TooLargeEnds}
 use Rattle.wopi_program.specs.Serve.{ServeRuns}
 use Rattle.wopi_program.specs.ServeWords.{IsServeRow}
 use Rattle.wopi_program.specs.Telling.{Wants}
+use Rattle.access_tokens.specs.declared.keys.Keys.{Keys}
 
 -- the status and the notes of a run's end
 abbrev pub ServeFinishes : {K : Type 0} → (K → Option (List ℕ)) → (K → ℕ) → ℕ → K → K → ServeEnd → Type 0
@@ -22,15 +23,15 @@ ServeFinishes held count status old new (end.TooLarge name) = TooLargeEnds held 
 ServeFinishes held count status old new end.Memory = (status ≡ 6) × NotesFor held count status old new
 
 module _ {S K F N D C L : Type 0} (m : Meanings S K F N D C L) where
-  -- A run under the key, the base and the numbers of the words: what it did, the cause of a write's fault, the status's line on the notes;
+  -- A run under the keys, the base and the numbers of the words: what it did, the cause of a write's fault, the status's line on the notes;
   -- and all else stays.
   pub record ServeRan (words : List (List ℕ)) (status : ℕ) (old new : Outside S K F N D C) : Type 0 where
     pub end : ServeEnd
-    pub key : List ℕ
+    pub keys : Keys
     pub base : List ℕ
     pub ask : ServeAsk
-    pub row : IsServeRow words key base ask
-    pub runs : ServeRuns m key base ask end old new
+    pub row : IsServeRow words keys base ask
+    pub runs : ServeRuns m keys base ask end old new
     pub write_cause : status ≡ 4 → Rose (m.write_faults old.output) (m.write_faults new.output)
     pub finishes : ServeFinishes m.held m.write_faults status old.notes new.notes end
     pub others : new ≡ record old { output = new.output; notes = new.notes; folders = new.folders; listeners = new.listeners; clocks = new.clocks }

@@ -1,6 +1,6 @@
 -- The words of the command line, and the commands whose rows they are. (Own.)
 use Rattle.std.specs.Prelude.{◌≡◌, ◌<◌, ℕ, true, List, [], ◌∷◌, length, codes, decimal}
-use Rattle.access_tokens.specs.Key.{IsHexOf}
+use Rattle.access_tokens.specs.Keys.{IsWordOf}
 use Rattle.access_tokens.specs.TokenText.{IsWritable, rights_of}
 use Rattle.host_server.specs.Bases.{is_base}
 use Rattle.wopi_model.specs.declared.token.Token.{Token}
@@ -9,14 +9,15 @@ use Rattle.wopi_program.specs.declared.command.Command.TheVariants as command
 use Rattle.wopi_program.specs.EditWords.{IsEdit}
 use Rattle.wopi_program.specs.ReplayWords.{IsReplay}
 use Rattle.wopi_program.specs.ServeWords.{IsServe}
+use Rattle.access_tokens.specs.declared.keys.Keys.{Keys}
 
 -- once FOLDER KEY BASE
-pub record IsOnceRow (words : List (List ℕ)) (key base : List ℕ) : Type 0 where
+pub record IsOnceRow (words : List (List ℕ)) (keys : Keys) (base : List ℕ) : Type 0 where
   pub folder : List ℕ
-  pub digits : List ℕ
-  pub words_are : words ≡ codes "once" ∷ folder ∷ digits ∷ base ∷ []
+  pub key_word : List ℕ
+  pub words_are : words ≡ codes "once" ∷ folder ∷ key_word ∷ base ∷ []
   pub folder_is : 0 < length folder
-  pub key_is : IsHexOf key digits
+  pub keys_are : IsWordOf keys key_word
   pub base_is : is_base base ≡ true
 
 -- USER NAME RIGHTS SERIAL ISSUED EXPIRES: a token in words, its numbers in decimal
@@ -25,21 +26,21 @@ words_of token =
     token.user ∷ token.file ∷ rights_of token.write ∷ decimal token.serial ∷ decimal token.issued ∷ decimal token.expires ∷ []
 
 -- token KEY USER NAME RIGHTS SERIAL ISSUED EXPIRES
-pub record IsTokenRow (words : List (List ℕ)) (key : List ℕ) (token : Token) : Type 0 where
-  pub digits : List ℕ
-  pub words_are : words ≡ codes "token" ∷ digits ∷ words_of token
-  pub key_is : IsHexOf key digits
+pub record IsTokenRow (words : List (List ℕ)) (keys : Keys) (token : Token) : Type 0 where
+  pub key_word : List ℕ
+  pub words_are : words ≡ codes "token" ∷ key_word ∷ words_of token
+  pub keys_are : IsWordOf keys key_word
   pub token_is : IsWritable token
 
 -- the words are a row of this command
 abbrev pub IsRow : List (List ℕ) → Command → Type 0
 IsRow words command.Help = words ≡ codes "--help" ∷ []
 IsRow words command.Version = words ≡ codes "--version" ∷ []
-IsRow words command.Once = (key : List ℕ) × (base : List ℕ) × IsOnceRow words key base
+IsRow words command.Once = (keys : Keys) × (base : List ℕ) × IsOnceRow words keys base
 IsRow words command.Serve = IsServe words
 IsRow words command.Edit = IsEdit words
 IsRow words command.Replay = IsReplay words
-IsRow words command.Token = (key : List ℕ) × (token : Token) × IsTokenRow words key token
+IsRow words command.Token = (keys : Keys) × (token : Token) × IsTokenRow words keys token
 
 -- the words are a row of some command
 abbrev pub IsCommand : List (List ℕ) → Type 0

@@ -4,6 +4,7 @@ ghost use Rattle.wopi_program.specs.Words.{IsCommand, IsRow};
 ghost use Rattle.wopi_program.specs.ServeWords.{IsServeRow};
 ghost use Rattle.wopi_program.specs.Telling.{UsageEnds};
 ghost use Rattle.wopi_program.specs.Runs.{RunEnds};
+ghost use Rattle.access_tokens.specs.declared.keys.Keys.{Keys};
 
 use crate::serve::run_serve;
 use crate::serve_words::ServeAsk;
@@ -28,7 +29,7 @@ pub fn run<
 >(rt: &R, alloc: Global, words: &[String], outside: &mut Outside<S, K, F, N, D, C>) -> u8
     requires once { IsRow (map string_bytes words.now) Command.Once
         → (length outside.old.folders.items ≡ 1) × (length outside.old.clocks.items ≡ 1) }
-    requires serve { (key : List ℕ) (base : List ℕ) (ask : ServeAsk) → IsServeRow (map string_bytes words.now) key base ask
+    requires serve { (keys : Keys) (base : List ℕ) (ask : ServeAsk) → IsServeRow (map string_bytes words.now) keys base ask
         → (length outside.old.folders.items ≡ 16) × (length outside.old.listeners.items ≡ ask.workers) × (length outside.old.clocks.items ≡ ask.workers) }
 
     ensures usage { result ≡ 2 ↔ (¬ IsCommand (map string_bytes words.now)) }

@@ -11,7 +11,7 @@ ghost use Rattle.wopi_program.specs.Once.{OnceEnds, ServesShard, OnceRuns, OnceR
 use crate::once_words::once_words;
 use crate::telling::want;
 use crate::{Command, Meant, Outside, note};
-use access_tokens::Key;
+use access_tokens::Keys;
 use host_core::{Shard, Single, StartFault};
 use host_server::{ConnEnd, Desk, serve_connection};
 use outside::{Clock, Dialer, Folder, Lent, Listener, Sink, Source};
@@ -96,14 +96,14 @@ fn end_of(fault: StartFault) -> OnceEnd
 /// Opens a shard over the folder at the clock's first moment, and serves the connection over it.
 fn once_over<S: Source, K: Sink, F: Folder, N: Listener, D: Dialer, C: Clock>(
     alloc: Global,
-    key: Key,
+    keys: Keys,
     base: Bytes,
     folder: F,
     clock: &mut C,
     outside: &mut Outside<S, K, F, N, D, C>,
 ) -> (F, OnceEnd)
     requires { is_base base ≡ true }
-    ensures runs { OnceRuns ⟦<Outside<S, K, F, N, D, C> as Meant<S, K, F, N, D, C, N::Link>>⟧.meanings key base result.1 folder result.0 clock.old clock.new outside.old outside.new }
+    ensures runs { OnceRuns ⟦<Outside<S, K, F, N, D, C> as Meant<S, K, F, N, D, C, N::Link>>⟧.meanings keys base result.1 folder result.0 clock.old clock.new outside.old outside.new }
     ensures others { outside.new ≡ record outside.old { input = outside.new.input; output = outside.new.output } }
     ensures untouched { Untouched result.1 outside.old outside.new }
     ensures read_fault { result.1 ≡ OnceEnd.Served ConnEnd.ReadFault → Rose (S.read_faults outside.old.input) (S.read_faults outside.new.input) }
@@ -111,7 +111,7 @@ fn once_over<S: Source, K: Sink, F: Folder, N: Listener, D: Dialer, C: Clock>(
     ensures nothing_read { result.1 ≡ OnceEnd.Served ConnEnd.Memory → S.left outside.new.input ≡ S.left outside.old.input }
 {
     let opened = clock.now();
-    let desk = Desk::new(key, base, opened);
+    let desk = Desk::new(keys, base, opened);
     match Shard::start(alloc, folder, None, CAPACITY, opened, 1) {
         Ok(shard) => {
             let (folder, end) = serve_over(alloc, &desk, shard, clock, outside);
@@ -127,14 +127,14 @@ fn once_over<S: Source, K: Sink, F: Folder, N: Listener, D: Dialer, C: Clock>(
 /// The same with the one folder and the one clock in their lists.
 fn once_in<S: Source, K: Sink, F: Folder, N: Listener, D: Dialer, C: Clock>(
     alloc: Global,
-    key: Key,
+    keys: Keys,
     base: Bytes,
     outside: &mut Outside<S, K, F, N, D, C>,
 ) -> OnceEnd
     requires base { is_base base ≡ true }
     requires folders { length outside.old.folders.items ≡ 1 }
     requires clocks { length outside.old.clocks.items ≡ 1 }
-    ensures runs { OnceRunsIn ⟦<Outside<S, K, F, N, D, C> as Meant<S, K, F, N, D, C, N::Link>>⟧.meanings key base result outside.old outside.new }
+    ensures runs { OnceRunsIn ⟦<Outside<S, K, F, N, D, C> as Meant<S, K, F, N, D, C, N::Link>>⟧.meanings keys base result outside.old outside.new }
     ensures others { outside.new
         ≡ record outside.old { input = outside.new.input; output = outside.new.output; folders = outside.new.folders; clocks = outside.new.clocks } }
     ensures untouched { Untouched result outside.old outside.new }
@@ -148,7 +148,7 @@ fn once_in<S: Source, K: Sink, F: Folder, N: Listener, D: Dialer, C: Clock>(
     let Some(mut clock) = outside.clocks.pop() else {
         unreachable!()
     };
-    let (folder, end) = once_over(alloc, key, base, folder, &mut clock, outside);
+    let (folder, end) = once_over(alloc, keys, base, folder, &mut clock, outside);
     outside.folders.push_reserved(folder);
     outside.clocks.push_reserved(clock);
     end
@@ -236,12 +236,12 @@ pub fn run_once<S: Source, K: Sink, F: Folder, N: Listener, D: Dialer, C: Clock>
 
     ensures { OnceEnds ⟦<Outside<S, K, F, N, D, C> as Meant<S, K, F, N, D, C, N::Link>>⟧.meanings (map string_bytes words.now) result outside.old outside.new }
 {
-    let Some((key, base)) = once_words(words) else {
+    let Some((keys, base)) = once_words(words) else {
         unreachable!()
     };
     let Ok(base) = Bytes::from_slice(alloc, base.as_bytes()) else {
         return want(outside);
     };
-    let end = once_in(alloc, key, base, outside);
+    let end = once_in(alloc, keys, base, outside);
     finish(alloc, &mut outside.notes, &end)
 }

@@ -3,6 +3,7 @@ ghost use Rattle.std.specs.Prelude.{◌≡◌, ℕ, List, length, map, string_by
 ghost use Rattle.wopi_program.specs.ServeEnds.{ServeEnds, ServeFinishes};
 ghost use Rattle.wopi_program.specs.ServeWords.{IsServeRow};
 ghost use Rattle.wopi_program.specs.Words.{IsRow};
+ghost use Rattle.access_tokens.specs.declared.keys.Keys.{Keys};
 
 use crate::once::finish_too_large;
 use crate::serve_words::{ServeAsk, serve_words};
@@ -53,16 +54,16 @@ pub fn run_serve<
 >(rt: &R, alloc: Global, words: &[String], outside: &mut Outside<S, K, F, N, D, C>) -> u8
     requires words { IsRow (map string_bytes words.now) Command.Serve }
     requires folders { length outside.old.folders.items ≡ 16 }
-    requires workers { (key : List ℕ) (base : List ℕ) (ask : ServeAsk) → IsServeRow (map string_bytes words.now) key base ask
+    requires workers { (keys : Keys) (base : List ℕ) (ask : ServeAsk) → IsServeRow (map string_bytes words.now) keys base ask
         → (length outside.old.listeners.items ≡ ask.workers) × (length outside.old.clocks.items ≡ ask.workers) }
     ensures { ServeEnds ⟦<Outside<S, K, F, N, D, C> as Meant<S, K, F, N, D, C, N::Link>>⟧.meanings (map string_bytes words.now) result outside.old outside.new }
 {
-    let Some((key, base, ask)) = serve_words(words) else {
+    let Some((keys, base, ask)) = serve_words(words) else {
         unreachable!()
     };
     let Ok(base) = Bytes::from_slice(alloc, base.as_bytes()) else {
         return want(outside);
     };
-    let end = serve_in(rt, alloc, key, base, ask, outside);
+    let end = serve_in(rt, alloc, keys, base, ask, outside);
     finish(alloc, &mut outside.notes, &end)
 }

@@ -1,9 +1,10 @@
 //! The words of the command `serve`.
 ghost use Rattle.std.specs.Prelude.{◌≡◌, ◌≤◌, ◌^◌, ◌↔◌, ℕ, List, map, string_bytes, IfSome, IfNone, Some};
 ghost use Rattle.wopi_program.specs.ServeWords.{AreBounded, IsServe, IsServeRow, asked, asked_of, number_in, option_before, options_of, unless_told, with_each, with_first, with_journal};
+ghost use Rattle.access_tokens.specs.declared.keys.Keys.{Keys};
 
 use crate::once_words::is_base;
-use access_tokens::Key;
+use access_tokens::Keys;
 use wopi_text::decimal_read;
 
 /// The most entries of a shard.
@@ -197,8 +198,8 @@ fn asked_of(port: &str, workers: &str, rest: &[String]) -> Option<ServeAsk>
     asked(small_in(port, 65535), small_in(workers, 16), options(rest))
 }
 
-/// The key, the base and the numbers in the words of `serve`, if the words are that command's.
-pub(crate) fn serve_words(words: &[String]) -> Option<(Key, &str, ServeAsk)>
+/// The keys, the base and the numbers in the words of `serve`, if the words are that command's.
+pub(crate) fn serve_words(words: &[String]) -> Option<(Keys, &str, ServeAsk)>
     ensures some { IfSome result (λ row. IsServeRow (map string_bytes words.now) row.0 row.1.now row.2) }
     ensures workers { IfSome result (λ row. (1 ≤ row.2.workers) × (row.2.workers ≤ 16)) }
     ensures capacity { IfSome result (λ row. (1 ≤ row.2.capacity) × (row.2.capacity ≤ 32768)) }
@@ -216,9 +217,9 @@ pub(crate) fn serve_words(words: &[String]) -> Option<(Key, &str, ServeAsk)>
             if !is_base(base.as_str()) {
                 return None;
             }
-            let key = Key::read(key.as_bytes())?;
+            let keys = Keys::read(key.as_bytes())?;
             let ask = asked_of(port.as_str(), workers.as_str(), rest)?;
-            Some((key, base.as_str(), ask))
+            Some((keys, base.as_str(), ask))
         }
         _ => None,
     }
@@ -227,7 +228,7 @@ pub(crate) fn serve_words(words: &[String]) -> Option<(Key, &str, ServeAsk)>
 /// The numbers in the words of `serve`, if the words are that command's.
 pub fn serve_ask(words: &[String]) -> Option<ServeAsk>
     ensures { (ask : ServeAsk) → (result ≡ Some ask)
-        ↔ ((key : List ℕ) × (base : List ℕ) × IsServeRow (map string_bytes words.now) key base ask) }
+        ↔ ((keys : Keys) × (base : List ℕ) × IsServeRow (map string_bytes words.now) keys base ask) }
 {
     match serve_words(words) {
         Some((_key, _base, ask)) => Some(ask),

@@ -6,21 +6,21 @@ ghost use Rattle.wopi_program.specs.Token.{TokenEnds, token_line};
 use crate::telling::{tell, want};
 use crate::token_words::token_words;
 use crate::{Command, Meant, Outside};
-use access_tokens::{Key, Token, mint};
+use access_tokens::{Keys, Token, mint};
 use outside::{Clock, Dialer, Folder, Listener, Sink, Source};
 use std::alloc::Global;
 use wopi_text::Memory;
 
-/// The token's text under the key, and a line feed.
-fn token_line(alloc: Global, key: &Key, token: &Token) -> Result<Vec<u8>, Memory>
-    ensures { IfOk result (λ line. line.items ≡ token_line key.now token.now) }
+/// The token's text under the current key, and a line feed.
+fn token_line(alloc: Global, keys: &Keys, token: &Token) -> Result<Vec<u8>, Memory>
+    ensures { IfOk result (λ line. line.items ≡ token_line keys.now token.now) }
 {
-    let mut line = mint(alloc, key, token)?.into_vec();
+    let mut line = mint(alloc, keys, token)?.into_vec();
     line.push(b'\n')?;
     Ok(line)
 }
 
-/// Writes the text of the words' token under their key, and a line feed, to the output.
+/// Writes the text of the words' token under the current one of their keys, and a line feed, to the output.
 pub fn run_token<S: Source, K: Sink, F: Folder, N: Listener, D: Dialer, C: Clock>(
     alloc: Global,
     words: &[String],
@@ -29,10 +29,10 @@ pub fn run_token<S: Source, K: Sink, F: Folder, N: Listener, D: Dialer, C: Clock
     requires { IsRow (map string_bytes words.now) Command.Token }
     ensures { TokenEnds ⟦<Outside<S, K, F, N, D, C> as Meant<S, K, F, N, D, C, N::Link>>⟧.meanings (map string_bytes words.now) result outside.old outside.new }
 {
-    let Some((key, token)) = token_words(words) else {
+    let Some((keys, token)) = token_words(words) else {
         unreachable!()
     };
-    match token_line(alloc, &key, &token) {
+    match token_line(alloc, &keys, &token) {
         Ok(line) => tell(outside, &line),
         Err(Memory) => want(outside),
     }

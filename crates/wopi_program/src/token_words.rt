@@ -5,11 +5,11 @@ ghost use Rattle.wopi_program.specs.Words.{IsRow, IsTokenRow, words_of};
 ghost use Rattle.wopi_model.specs.declared.token.Token.{Token};
 
 use crate::Command;
-use access_tokens::{Key, Token, User, may_write, moment_read};
+use access_tokens::{Keys, Token, User, may_write, moment_read};
 use wopi_text::{FileName, decimal_read};
 
-/// The key and the token in the words of `token`, if the words are that command's.
-pub(crate) fn token_words(words: &[String]) -> Option<(Key, Token)>
+/// The keys and the token in the words of `token`, if the words are that command's.
+pub(crate) fn token_words(words: &[String]) -> Option<(Keys, Token)>
     ensures some { IfSome result (λ row. IsTokenRow (map string_bytes words.now) row.0 row.1) }
     ensures none { IfNone result (¬ IsRow (map string_bytes words.now) Command.Token) }
 {
@@ -18,9 +18,9 @@ pub(crate) fn token_words(words: &[String]) -> Option<(Key, Token)>
             if word.as_str() != "token" {
                 return None;
             }
-            let key = Key::read(key.as_bytes())?;
+            let keys = Keys::read(key.as_bytes())?;
             let token = token_from(user.as_str(), name.as_str(), rest)?;
-            Some((key, token))
+            Some((keys, token))
         }
         _ => None,
     }

@@ -297,7 +297,7 @@ fn tokens_words_spoiled_anywhere_are_refused_or_written(rt: HostRuntime) -> Resu
         ];
         let left = run_with(&rt, alloc, &words, &whole(b""))?;
         assert!(rt; [0, 2].contains(&left.status), "round {round}");
-        let is_written = left.output.as_slice().starts_with(b"v1.");
+        let is_written = left.output.as_slice().starts_with(b"v2.0.");
         assert_eq!(rt; is_written, left.status == 0, "round {round}");
     }
     Ok(())

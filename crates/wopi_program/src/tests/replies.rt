@@ -184,8 +184,8 @@ const ROWS: [Row; 12] = [
             ],
         ],
         replies: &[
-            "HTTP/1.1 200 OK\r\nContent-Length: 186\r\nContent-Type: application/json\r\n\r\n{\"Name\":\"a.txt\",\"Url\":\"http://localhost:8880/wopi/files/612e747874?access_token=v1.ann.612e747874.w.1.0.253402300799999.83d0a92cf0af9771c798d3e4b6294a1661679c00d9aa87e6e26b4f8265e06d10\"}",
-            "HTTP/1.1 200 OK\r\nContent-Length: 206\r\nContent-Type: application/json\r\n\r\n{\"Name\":\"a (1).csv\",\"Url\":\"http://localhost:8880/wopi/files/61202831292e637376?access_token=v1.ann.61202831292e637376.w.1.1.253402300799999.a639867c6942f1df6e04bd94f6481e9f99052566a536a387172e316cc8efb582\"}",
+            "HTTP/1.1 200 OK\r\nContent-Length: 188\r\nContent-Type: application/json\r\n\r\n{\"Name\":\"a.txt\",\"Url\":\"http://localhost:8880/wopi/files/612e747874?access_token=v2.0.ann.612e747874.w.1.0.253402300799999.96a5b061d5b86785edf68549bb66ebac461dda2df9fcf94f6ba13ae8691ce213\"}",
+            "HTTP/1.1 200 OK\r\nContent-Length: 208\r\nContent-Type: application/json\r\n\r\n{\"Name\":\"a (1).csv\",\"Url\":\"http://localhost:8880/wopi/files/61202831292e637376?access_token=v2.0.ann.61202831292e637376.w.1.1.253402300799999.ccb360db1cad054c9a4da29df281c359ae34a9ed6a60abdfc692b56b582a04f2\"}",
         ],
         name: "a.txt",
         kept: "x",

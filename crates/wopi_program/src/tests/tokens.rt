@@ -1,9 +1,7 @@
 //! The command `token`, and what `once` answers to the tokens that it writes.
 ghost use Rattle.std.specs.Prelude.{◌≡◌, IfOk, length};
 
-use super::{
-    Fakes, Left, ONCE, TOKEN, clocks, fakes, joined, once, request_by, run_in, run_with, whole,
-};
+use super::{Fakes, Left, ONCE, clocks, fakes, joined, once, request_by, run_in, run_with, whole};
 use outside::MemSink;
 use std::alloc::Global;
 use std::sync::Wait;
@@ -21,6 +19,14 @@ const WORDS: [&str; 8] = [
     "253402300000000",
     "253402300799999",
 ];
+
+/// What the command writes of them.
+const TEXT: &str =
+    "v2.0.ann.612e637376.w.1.253402300000000.253402300799999.d3b4214de337cbf0652f67ed52815e0780b10913047024cbdc4448712c891e48";
+
+/// A token for `a.csv` that version 1 wrote under the key `k`.
+const FIRST_TEXT: &str =
+    "v1.ann.612e637376.w.1.253402300000000.253402300799999.cc2a63af1977455f07844c926dffa4b64cbdc55115b559283b5df65b09d8289a";
 
 const LOCK: [&str; 4] = [
     "POST",
@@ -44,7 +50,7 @@ const USER_INFO: [&str; 4] = ["POST", "", "X-WOPI-Override: PUT_USER_INFO\r\n", 
 fn a_token_is_written_with_a_line_feed(rt: HostRuntime) -> Result<(), Fail> {
     let alloc = rt.alloc();
     let left = run_with(&rt, alloc, &WORDS, &whole(b""))?;
-    let wanted = joined(alloc, &[TOKEN, "\n"])?;
+    let wanted = joined(alloc, &[TEXT, "\n"])?;
     assert_eq!(rt; left.status, 0);
     assert_eq!(rt; left.output.as_slice(), wanted.as_slice());
     assert_eq!(rt; left.notes.as_slice(), b"".as_slice());
@@ -71,7 +77,7 @@ fn full_streams_have_a_front_of_their_texts(rt: HostRuntime) -> Result<(), Fail>
     for (room, told) in [(100, "write fault\n"), (5, "write"), (0, "")] {
         let left = run_into(&rt, alloc, &WORDS, 20, room)?;
         assert_eq!(rt; left.status, 4, "{room}");
-        assert_eq!(rt; left.output.as_slice(), b"v1.ann.612e637376.w.".as_slice());
+        assert_eq!(rt; left.output.as_slice(), b"v2.0.ann.612e637376.".as_slice());
         assert_eq!(rt; left.notes.as_slice(), told.as_bytes());
     }
     let left = run_into(&rt, alloc, &["token"], 20, 0)?;
@@ -114,6 +120,85 @@ fn a_token_counts_for_its_key_its_file_and_its_rights(rt: HostRuntime) -> Result
             left.output.as_slice().starts_with(line.as_bytes()),
             "{line}"
         );
+    }
+    Ok(())
+}
+
+/// The keys of a host, the keys under which a token is written, and what the reply to its lock begins with.
+const EXCHANGES: [[&str; 3]; 6] = [
+    ["1:4a656665,0:6b", "6b", "HTTP/1.1 200 "],
+    ["1:4a656665,0:6b", "1:4a656665", "HTTP/1.1 200 "],
+    ["1:4a656665,0:6b", "1:4a656665,0:6b", "HTTP/1.1 200 "],
+    ["1:4a656665,0:6b", "1:6b", "HTTP/1.1 401 "],
+    ["1:4a656665", "6b", "HTTP/1.1 401 "],
+    ["1:4a656665", "255:4a656665", "HTTP/1.1 401 "],
+];
+
+#[test]
+fn a_key_is_exchanged_while_the_former_one_stays(rt: HostRuntime) -> Result<(), Fail> {
+    let alloc = rt.alloc();
+    let (issued, expires) = ("253402300000000", "253402300799999");
+    for [host, keys, line] in &EXCHANGES {
+        let words = ["token", keys, "ann", "a.csv", "w", "7", issued, expires];
+        let token = written(&rt, alloc, &words)?;
+        let input = request_by(alloc, token.as_str(), &LOCK)?;
+        let words = ["once", ".", host, "http://localhost:8880"];
+        let left = run_with(&rt, alloc, &words, &whole(&input))?;
+        assert!(rt;
+            left.output.as_slice().starts_with(line.as_bytes()),
+            "{host} {keys}"
+        );
+    }
+    Ok(())
+}
+
+#[test]
+fn a_token_of_version_1_counts_under_the_key_0(rt: HostRuntime) -> Result<(), Fail> {
+    let alloc = rt.alloc();
+    let input = request_by(alloc, FIRST_TEXT, &LOCK)?;
+    for (keys, line) in [
+        ("6b", "HTTP/1.1 200 "),
+        ("1:4a656665,0:6b", "HTTP/1.1 200 "),
+        ("1:4a656665", "HTTP/1.1 401 "),
+        ("0:4a656665,1:6b", "HTTP/1.1 401 "),
+    ] {
+        let words = ["once", ".", keys, "http://localhost:8880"];
+        let left = run_with(&rt, alloc, &words, &whole(&input))?;
+        assert!(rt;
+            left.output.as_slice().starts_with(line.as_bytes()),
+            "{keys}"
+        );
+    }
+    Ok(())
+}
+
+/// Words that are no keys.
+const NO_KEYS: [&str; 9] = [
+    "",
+    "1:4a,1:6b",
+    "2:4a,1:6b,0:6c",
+    "4a,6b",
+    "256:4a",
+    "01:4a",
+    "1:",
+    ":4a",
+    "1:4a,",
+];
+
+#[test]
+fn keys_out_of_form_are_no_command(rt: HostRuntime) -> Result<(), Fail> {
+    let alloc = rt.alloc();
+    for keys in &NO_KEYS {
+        let lists: [&[&str]; 3] = [
+            &["once", ".", keys, "http://localhost"],
+            &["serve", ".", "8880", keys, "http://localhost", "1"],
+            &["token", keys, "ann", "a.csv", "w", "1", "0", "1"],
+        ];
+        for words in &lists {
+            let left = run_with(&rt, alloc, words, &whole(b""))?;
+            assert_eq!(rt; left.status, 2, "{keys}");
+            assert_eq!(rt; left.notes.as_slice(), b"usage\n".as_slice());
+        }
     }
     Ok(())
 }

@@ -5,6 +5,7 @@ use Rattle.wopi_program.proofs.OnceLemmas.{OnceEnds-known}
 use Rattle.wopi_program.proofs.EditLemmas.{EditEnds-known}
 use Rattle.wopi_program.proofs.ReplayLemmas.{ReplayEnds-known}
 use Rattle.wopi_program.proofs.EndLemmas.{ServeEnds-known}
+use Rattle.wopi_program.proofs.TokenLemmas.{TokenEnds-known}
 use Rattle.wopi_program.proofs.dispatch.run.Goals as goal
 
 pub run_once-requires-clause-words : goal.run_once-requires-clause-words
@@ -20,6 +21,15 @@ run_once-requires-clause-clocks g c κs within =
 
 pub run_token-requires-after_bounds : goal.run_token-requires-after_bounds
 run_token-requires-after_bounds g c κs within = (c.read_words.ensures Token).0 (c.in-Some-Token.is ∙ ap Some c.in-Some-Token.field-0-is)
+
+pub returns-in-Some-Token-clause-usage : goal.returns-in-Some-Token-clause-usage
+returns-in-Some-Token-clause-usage g c =
+    known _ Token ((c.read_words.ensures Token).0 (c.in-Some-Token.is ∙ ap Some c.in-Some-Token.field-0-is)) c.run_token.result
+    (TokenEnds-known _ _ _ _ _ c.run_token.ensures)
+
+pub returns-in-Some-Token-clause-usage_leaves : goal.returns-in-Some-Token-clause-usage_leaves
+returns-in-Some-Token-clause-usage_leaves g c =
+    λ none. absurd (none (Token, (c.read_words.ensures Token).0 (c.in-Some-Token.is ∙ ap Some c.in-Some-Token.field-0-is)))
 
 pub returns-in-Some-Once-clause-usage : goal.returns-in-Some-Once-clause-usage
 returns-in-Some-Once-clause-usage g c =
@@ -39,7 +49,7 @@ run_serve-requires-clause-folders g c κs within =
     (c.requires.serve row.0 row.1 row.2 row.3).0
 
 pub run_serve-requires-clause-workers : goal.run_serve-requires-clause-workers
-run_serve-requires-clause-workers g c κs within = λ key base ask row. let all = c.requires.serve key base ask row in (all.1, all.2)
+run_serve-requires-clause-workers g c κs within = λ keys base ask row. let all = c.requires.serve keys base ask row in (all.1, all.2)
 
 pub returns-in-Some-Serve-clause-usage : goal.returns-in-Some-Serve-clause-usage
 returns-in-Some-Serve-clause-usage g c =

@@ -15,10 +15,10 @@ returns g c =
     in
     inr (record {
       end = ran.result;
-      key = c.in-Some.key;
+      keys = c.in-Some.keys;
       base = c.in-Some.base.now;
       row = c.in-Some.ensures.some;
-      runs = once_noted _ c.in-Some.key _ c.in-Some.base.now ran.result _ _ notes' (c.in-Ok.ensures ∙ c.as_bytes.ensures.value) ran.ensures.runs;
+      runs = once_noted _ c.in-Some.keys _ c.in-Some.base.now ran.result _ _ notes' (c.in-Ok.ensures ∙ c.as_bytes.ensures.value) ran.ensures.runs;
       untouched = untouched_noted ran.result _ _ notes' ran.ensures.untouched;
       nothing_read = ran.ensures.nothing_read;
       read_cause = by_read_fault _ g.K.Sink.held g.K.Sink.write_faults status notes notes' ran.result finishes ran.ensures.read_fault;

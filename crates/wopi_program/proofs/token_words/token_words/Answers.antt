@@ -1,6 +1,7 @@
-use Rattle.std.proofs.Common.{◌≡◌, codes, map, string_bytes, ap, subst, arith, rules}
+use Rattle.std.proofs.Common.{◌≡◌, codes, map, string_bytes, ap, sym, subst, arith, rules}
 use Rattle.std.proofs.lemmas.List.{take_rest}
-use Rattle.access_tokens.specs.Key.{IsHexOf}
+use Rattle.access_tokens.specs.Keys.{IsWordOf}
+use Rattle.wopi_program.proofs.KeyRows.{keyless, tokenless}
 use Rattle.wopi_program.proofs.Rows.{four_items, token_row}
 use Rattle.wopi_program.proofs.token_words.token_words.Goals as goal
 
@@ -11,8 +12,23 @@ returns-in_ok-token-in-len4-up-clause-some c =
     (omega arith) c.word-item.is c.key-item.is c.user-item.is c.name-item.is) in
     let told = c.in_ok-token-in-len4-up.ensures.some in
     record {
-      digits = string_bytes c.key-item.result;
+      key_word = string_bytes c.key-item.result;
       words_are = token_row _ _ _ _ _ _ _ _ _ are word c.as_str-in-len4-up.ensures.value c.as_str-in-len4-up-2.ensures.value (rw take_rest at told.1);
-      key_is = subst (IsHexOf c.in_ok-key-in-len4-up.key) c.as_bytes.ensures.value c.in_ok-key-in-len4-up.ensures.value;
+      keys_are = subst (IsWordOf c.in_ok-keys-in-len4-up.keys) c.as_bytes.ensures.value c.in_ok-keys-in-len4-up.ensures.value;
       token_is = told.0;
     }
+
+pub returns-in_err-keys-in-len4-up-clause-none : goal.returns-in_err-keys-in-len4-up-clause-none
+returns-in_err-keys-in-len4-up-clause-none c =
+    let are = ap (map string_bytes) (four_items c.args.words.now c.word-item.result c.key-item.result c.user-item.result c.name-item.result
+    (omega arith) c.word-item.is c.key-item.is c.user-item.is c.name-item.is) in
+    rw c.from_residual.ensures (keyless _ _ _ _ _ _ are (λ keys told.
+    cc (c.in_err-keys-in-len4-up.ensures.exact.1 (keys, subst (IsWordOf keys) (sym c.as_bytes.ensures.value) told))))
+
+pub returns-in_err-token-in-len4-up-clause-none : goal.returns-in_err-token-in-len4-up-clause-none
+returns-in_err-token-in-len4-up-clause-none c =
+    let are = ap (map string_bytes) (four_items c.args.words.now c.word-item.result c.key-item.result c.user-item.result c.name-item.result
+    (omega arith) c.word-item.is c.key-item.is c.user-item.is c.name-item.is) in
+    let none = rw take_rest at c.in_err-token-in-len4-up.ensures.none in
+    rw c.from_residual-in_err-token-in-len4-up.ensures (tokenless _ _ _ _ _ _ _ _ are c.as_str-in-len4-up.ensures.value
+    c.as_str-in-len4-up-2.ensures.value none)
