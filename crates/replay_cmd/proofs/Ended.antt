@@ -152,7 +152,7 @@ counts_shown setting desk book history requests replies members world shows sess
 -- the trace of a run, once the files are told behind what its events showed
 pub trace_told : (lines : Lines) (kept : KeptWorld) → IsRunOf lines kept → (old new : List ℕ) → old ≡ kept.trace → TellsEnds kept.stage.host.shard old new → IsTextOf trace_text lines new
 trace_told lines kept run old new is told =
-    let ends = ends_shown kept.stage.host.shard (world_of lines) run.stage.host old new told in
+    let ends = ends_shown kept.stage.host.shard (world_of lines) run.stage.shows.host old new told in
     (ends.0, ends.1, ends.2 ∙ ap (λ (t : List ℕ). t ++ ends_text ends.0 (world_of lines)) (is ∙ run.trace))
 
 -- and its summary, once they are told behind the counts
@@ -161,6 +161,6 @@ pub summary_told : (lines : Lines) (kept : KeptWorld) → IsRunOf lines kept →
     → TellsEnds kept.stage.host.shard old new → IsTextOf summary_text lines new
 summary_told lines kept run old new is told =
     let stage = kept.stage in
-    let ends = ends_shown stage.host.shard (world_of lines) run.stage.host old new told in
-    let counts = counts_shown (setting_of lines) stage.desk stage.host.shard stage.history.items stage.requests.items stage.replies.items stage.members.items (world_of lines) run.stage lines.sessions refl in
+    let ends = ends_shown stage.host.shard (world_of lines) run.stage.shows.host old new told in
+    let counts = counts_shown (setting_of lines) stage.desk stage.host.shard stage.history.items stage.requests.items stage.replies.items stage.members.items (world_of lines) run.stage.shows lines.sessions refl in
     (ends.0, ends.1, ends.2 ∙ ap (λ (t : List ℕ). t ++ ends_text ends.0 (world_of lines)) (is ∙ counts))

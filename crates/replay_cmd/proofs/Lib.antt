@@ -30,6 +30,7 @@ pub mod Greatest
 pub mod Anew
 pub mod Roomy
 pub mod Chosen
+pub mod EndedHosts
 pub mod WorkedRows
 pub mod Generated
 mod CarriedLemmas

@@ -2,6 +2,7 @@ pub mod Schedules
 pub mod Runs
 pub mod Folders
 pub mod Hosts
+pub mod Pasts
 pub mod Stages
 pub mod Starts
 pub mod Steps

@@ -2,13 +2,13 @@
 //!
 //! A [`Schedule`] has the files and the sessions at the opening, and the events in their order;
 //! [`Schedule::read`] reads one from a text, or names the first bad line, and [`generate`] makes a
-//! large one from two numbers. [`World::run`] runs it. Each request goes to the host as the bytes
-//! that a client writes, and the host's reader takes it from them; each reply that a session takes
-//! goes back as bytes in the same way. At a restart the host's shard ends, and another one opens over
-//! the files that it left. Between the two ends lies a [`Wire`]. Over one that gives back
-//! what it is given, the run shows the world of wopi_world to which the schedule leads, and that
-//! world is safe. [`trace_text`] writes what each event showed and how the files were left,
-//! [`summary_text`] how much was sent, answered, refused and saved.
+//! large one from two numbers. [`World::run`] runs it. Each request goes to the host as the bytes that
+//! a client writes, and the host's reader takes it from them; each reply that a session takes goes back
+//! as bytes in the same way. At a restart the host's shard ends, what it leaves is kept, and another
+//! one opens over its files. Between the two ends lies a [`Wire`]. Over one that gives back what it is
+//! given, the run shows the world of wopi_world to which the schedule leads, and that world is safe.
+//! [`trace_text`] writes what each event showed and how the files were left, [`summary_text`] how much
+//! was sent, answered, refused and saved.
 #![tactic(auto)]
 
 mod acting;

@@ -41,10 +41,9 @@ impl World {
     {
         safe_always();
         let stage = start(alloc, schedule)?;
-        let Some(done) = stage.lines(wire, schedule.events())? else {
+        let Some(world) = stage.lines(wire, schedule.events())? else {
             return Err(Memory);
         };
-        let (stage, trace) = done;
-        Ok(World { stage, trace })
+        Ok(world)
     }
 }

@@ -1,6 +1,7 @@
 //! Schedules with restarts of the host.
 use super::traces::expect_over;
-use crate::{Item, Schedule, Straight, World};
+use crate::{FaultlessFolder, Item, Schedule, Straight, World};
+use host_core::{EntryAct, Past};
 use std::test::Fail;
 
 /// A session saves; its next request arrives after a restart, and another session opens the file then.
@@ -72,4 +73,101 @@ foreign 7 9000000 put 612e637376 L2 42\n";
     let shown = b"reply 1 200 v1\nrestarted 2\nreply 2 200 v2\nreply 3 409 L2 locked\n\
 reply 4 200 v3\nend 612e637376 v3 L2 42\n";
     expect_over(&rt, rt.alloc(), &mut Straight, text, shown)
+}
+
+/// Three hosts: the first stores under a lock, the second refuses that lock and deletes the file.
+const THREE_HOSTS: &[u8] = b"file 612e637376 31\nfile 622e637376 32\n\
+foreign 0 9000000 lock 612e637376 L1\nforeign 1 9000000 put 612e637376 L1 41\nrestart 5\n\
+foreign 6 9000000 put 612e637376 L1 42\nforeign 7 9000000 delete 612e637376\nrestart 8\n\
+foreign 9 9000000 info 622e637376\n";
+
+/// What the entry at a place asked.
+fn act_at(past: &Past<FaultlessFolder>, place: u64) -> &'static str {
+    let Some(entry) = past.entry(place) else {
+        return "none";
+    };
+    match entry.act() {
+        EntryAct::Put { .. } => "put",
+        EntryAct::Lock { .. } => "lock",
+        EntryAct::Delete => "delete",
+        _ => "other",
+    }
+}
+
+/// The entry at a place is of that file, and was ruled so.
+fn was_ruled(past: &Past<FaultlessFolder>, place: u64, name: &[u8], status: u16) -> bool {
+    match past.entry(place) {
+        Some(entry) => entry.name().as_slice() == name && entry.status() == status,
+        None => false,
+    }
+}
+
+/// The file at a place of the opening has that name and these contents.
+fn stood(past: &Past<FaultlessFolder>, place: u64, name: &[u8], contents: &[u8]) -> bool {
+    match past.opening(place) {
+        Some((found, bytes)) => found.as_slice() == name && bytes == contents,
+        None => false,
+    }
+}
+
+/// The entry at a place brought these contents, and they were accepted.
+fn has_brought(past: &Past<FaultlessFolder>, place: u64, contents: &[u8]) -> bool {
+    match past.contents(place) {
+        Some(bytes) => bytes == contents,
+        None => false,
+    }
+}
+
+#[test]
+fn what_ran_before_each_restart_is_kept(rt: HostRuntime) -> Result<(), Fail> {
+    let alloc = rt.alloc();
+    let schedule = Schedule::read(alloc, THREE_HOSTS)?;
+    let world = World::run(alloc, &schedule, &mut Straight)?;
+    let stage = &world.stage;
+    assert!(rt; stage.pasts.len() == 2);
+    let first = &stage.pasts[0];
+    assert_eq!(rt; act_at(first, 0), "lock");
+    assert_eq!(rt; act_at(first, 1), "put");
+    assert_eq!(rt; act_at(first, 2), "none");
+    assert!(rt; was_ruled(first, 0, b"a.csv", 200));
+    assert!(rt; was_ruled(first, 1, b"a.csv", 200));
+    assert!(rt; has_brought(first, 1, b"A"));
+    let second = &stage.pasts[1];
+    assert_eq!(rt; act_at(second, 0), "put");
+    assert_eq!(rt; act_at(second, 1), "delete");
+    assert_eq!(rt; act_at(second, 2), "none");
+    assert!(rt; was_ruled(second, 0, b"a.csv", 409));
+    assert!(rt; was_ruled(second, 1, b"a.csv", 200));
+    assert!(rt; stage.host.len() == 1);
+    Ok(())
+}
+
+#[test]
+fn the_files_over_which_each_host_opened_are_kept(rt: HostRuntime) -> Result<(), Fail> {
+    let alloc = rt.alloc();
+    let schedule = Schedule::read(alloc, THREE_HOSTS)?;
+    let world = World::run(alloc, &schedule, &mut Straight)?;
+    let stage = &world.stage;
+    assert!(rt; stage.pasts.len() == 2);
+    let first = &stage.pasts[0];
+    assert!(rt; first.files() == 2);
+    assert!(rt; stood(first, 0, b"a.csv", b"1"));
+    assert!(rt; stood(first, 1, b"b.csv", b"2"));
+    let second = &stage.pasts[1];
+    assert!(rt; second.files() == 2);
+    assert!(rt; stood(second, 0, b"a.csv", b"A"));
+    assert!(rt; stood(second, 1, b"b.csv", b"2"));
+    Ok(())
+}
+
+#[test]
+fn a_run_without_a_restart_has_no_past(rt: HostRuntime) -> Result<(), Fail> {
+    let alloc = rt.alloc();
+    let schedule = Schedule::read(
+        alloc,
+        b"file 612e637376 31\nforeign 0 9000000 info 612e637376\n",
+    )?;
+    let world = World::run(alloc, &schedule, &mut Straight)?;
+    assert!(rt; world.stage.pasts.is_empty());
+    Ok(())
 }

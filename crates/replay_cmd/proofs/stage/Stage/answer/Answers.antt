@@ -1,7 +1,9 @@
-use Rattle.std.proofs.Common.{subst, sym}
+use Rattle.std.proofs.Common.{refl, subst, sym}
 use Rattle.std.proofs.lemmas.Option.{slice_get_within}
 use Rattle.save_session.specs.declared.input.Input.{Input}
 use Rattle.replay_cmd.specs.Members.{StepsIn}
+use Rattle.wopi_world.specs.World.{Answer}
+use Rattle.replay_cmd.proofs.EndedHosts.{with_hosts}
 use Rattle.replay_cmd.proofs.Turning.{is_none, looked_up, not_found}
 use Rattle.replay_cmd.proofs.Taken.{absent, late_foreign, late_request, late_member, late_waiting, took_answer}
 use Rattle.replay_cmd.proofs.stage.Stage.answer.Goals as goal
@@ -9,27 +11,36 @@ use Rattle.replay_cmd.proofs.stage.Stage.answer.Goals as goal
 pub returns-in_default-clause-follows : goal.returns-in_default-clause-follows
 returns-in_default-clause-follows g c =
     let stage = c.args.self.now in
-    λ straight setting world shows space reached.
+    λ straight setting world was space reached.
+    let shows = was.shows in
+    with_hosts setting stage _ world (Answer c.args.place) tt refl refl was (
     absent setting stage.desk stage.host.shard stage.history.items stage.requests.items stage.replies.items stage.members.items world shows c.args.place
     c.in_ok-absent.absent.items (not_found c.deref.result.now stage.replies.items c.args.place c.deref.ensures.value c.in_default.ensures) c.in_ok-absent.ensures
+    )
 
 pub returns-in_default-request-clause-follows : goal.returns-in_default-request-clause-follows
 returns-in_default-request-clause-follows g c =
     let stage = c.args.self.now in
     let reply = c.in-Some.reply.now in
-    λ straight setting world shows space reached.
+    λ straight setting world was space reached.
+    let shows = was.shows in
+    with_hosts setting stage _ world (Answer c.args.place) tt refl refl was (
     late_foreign setting stage.desk stage.host.shard stage.history.items stage.requests.items stage.replies.items stage.members.items world shows c.args.place
     reply (looked_up c.deref.result.now stage.replies.items c.args.place reply c.deref.ensures.value c.in-Some.ensures) c.in_ok-late.late.items (is_none reply.request c.in_default-request.not-Some) c.in_ok-late.ensures
+    )
 
 pub returns-in_default-request_at-clause-follows : goal.returns-in_default-request_at-clause-follows
 returns-in_default-request_at-clause-follows g c =
     let stage = c.args.self.now in
     let reply = c.in-Some.reply.now in
     let asked = c.in-Some-request.asked in
-    λ straight setting world shows space reached.
+    λ straight setting world was space reached.
+    let shows = was.shows in
+    with_hosts setting stage _ world (Answer c.args.place) tt refl refl was (
     late_request setting stage.desk stage.host.shard stage.history.items stage.requests.items stage.replies.items stage.members.items world shows c.args.place
     reply (looked_up c.deref.result.now stage.replies.items c.args.place reply c.deref.ensures.value c.in-Some.ensures) asked c.in-Some-request.is
     c.in_ok-late-2.late.items (not_found c.deref-2.result.now stage.requests.items asked c.deref-2.ensures.value c.in_default-request_at.ensures) c.in_ok-late-2.ensures
+    )
 
 pub returns-in_default-member_at-clause-follows : goal.returns-in_default-member_at-clause-follows
 returns-in_default-member_at-clause-follows g c =
@@ -37,11 +48,14 @@ returns-in_default-member_at-clause-follows g c =
     let reply = c.in-Some.reply.now in
     let asked = c.in-Some-request.asked in
     let request = c.in-Some-request_at.request.now in
-    λ straight setting world shows space reached.
+    λ straight setting world was space reached.
+    let shows = was.shows in
+    with_hosts setting stage _ world (Answer c.args.place) tt refl refl was (
     late_member setting stage.desk stage.host.shard stage.history.items stage.requests.items stage.replies.items stage.members.items world shows c.args.place
     reply (looked_up c.deref.result.now stage.replies.items c.args.place reply c.deref.ensures.value c.in-Some.ensures) asked c.in-Some-request.is
     request (looked_up c.deref-2.result.now stage.requests.items asked request c.deref-2.ensures.value c.in-Some-request_at.ensures)
     c.in_ok-late-3.late.items (not_found c.deref-3.result.now stage.members.items request.sender c.deref-3.ensures.value c.in_default-member_at.ensures) c.in_ok-late-3.ensures
+    )
 
 pub returns-then-not-waits_for-clause-follows : goal.returns-then-not-waits_for-clause-follows
 returns-then-not-waits_for-clause-follows g c =
@@ -50,11 +64,14 @@ returns-then-not-waits_for-clause-follows g c =
     let asked = c.in-Some-request.asked in
     let request = c.in-Some-request_at.request.now in
     let member = c.in-Some-member_at.member.now in
-    λ straight setting world shows space reached.
+    λ straight setting world was space reached.
+    let shows = was.shows in
+    with_hosts setting stage _ world (Answer c.args.place) tt refl refl was (
     late_waiting setting stage.desk stage.host.shard stage.history.items stage.requests.items stage.replies.items stage.members.items world shows c.args.place
     reply (looked_up c.deref.result.now stage.replies.items c.args.place reply c.deref.ensures.value c.in-Some.ensures) asked c.in-Some-request.is
     request (looked_up c.deref-2.result.now stage.requests.items asked request c.deref-2.ensures.value c.in-Some-request_at.ensures)
     member (looked_up c.deref-3.result.now stage.members.items request.sender member c.deref-3.ensures.value c.in-Some-member_at.ensures) c.in_ok-late-4.late.items (sym c.if-not-waits_for.ensures) c.in_ok-late-4.ensures
+    )
 
 pub step_at-requires : goal.step_at-requires
 step_at-requires g c =
@@ -72,10 +89,13 @@ returns-clause-follows g c =
     let request = c.in-Some-request_at.request.now in
     let member = c.in-Some-member_at.member.now in
     let after = c.step_at.new in
-    λ straight setting world shows space reached.
+    λ straight setting world was space reached.
+    let shows = was.shows in
+    with_hosts setting stage _ world (Answer c.args.place) tt refl refl was (
     took_answer setting stage.desk stage.host.shard stage.history.items stage.requests.items stage.replies.items stage.members.items world shows c.args.place
     reply (looked_up c.deref.result.now stage.replies.items c.args.place reply c.deref.ensures.value c.in-Some.ensures) asked c.in-Some-request.is
     request (looked_up c.deref-2.result.now stage.requests.items asked request c.deref-2.ensures.value c.in-Some-request_at.ensures)
     member (looked_up c.deref-3.result.now stage.members.items request.sender member c.deref-3.ensures.value c.in-Some-member_at.ensures)
     after.requests.items after.members.items c.in_ok-carry_answer.field-0 c.in_ok-words.words.items (sym c.if-not-waits_for.ensures) (c.in_ok-carry_answer.ensures.back straight)
     (subst (λ (given : Input). StepsIn stage.members.items after.members.items stage.requests.items after.requests.items request.sender given c.in_ok-words.words.items) c.input_of-given.ensures c.in_ok-words.ensures)
+    )

@@ -6,9 +6,10 @@ use Rattle.host_core.specs.Opening.{IsOpening, IsTooLarge}
 use Rattle.host_core.specs.Value.{Book, Agrees, state_of, is_torn, faults_in}
 use Rattle.replay_cmd.specs.declared.faultless.FaultlessFolder.{FaultlessFolder}
 use Rattle.replay_cmd.specs.Hosts.{Watch, HasFileNames}
+use Rattle.replay_cmd.specs.Pasts.{left_by}
 use Rattle.replay_cmd.specs.Starts.{LeavesTooMuch, Reopens}
 use Rattle.replay_cmd.proofs.Anew.{left_over, left_too_much}
-use Rattle.replay_cmd.proofs.Chosen.{some_then, none_then}
+use Rattle.replay_cmd.proofs.Chosen.{of_some, of_none}
 use Rattle.replay_cmd.proofs.watched.Watched.restart.Goals as goal
 
 abbrev files : FaultlessFolder → Files
@@ -33,20 +34,25 @@ returns-clause-reopens c =
     let agrees = whole_folder book c.end.ensures.whole lawful.folder in
     let stored = none_failed (faults_in book.made) lawful.faults in
     let same = c.end.ensures.same ∙ ap (λ (w : Watch FaultlessFolder). w.shard) c.self.view_is in
-    some_then c.in_ok-opened.opened c.in_ok-opened.ensures.opens (λ host opens.
+    let opens = of_some c.in_ok-opened.opened _ c.in_ok-opened.ensures.opens c.in-Some.host c.in-Some.is in
+    let host = c.in-Some.host in
     let opening : IsOpening None (Some (files book.folder)) host.shard.opening =
     subst (λ (f : FaultlessFolder). IsOpening None (Some (files f)) host.shard.opening) c.end-folder.ensures.folder opens.opening in
     subst (λ (b : Book FaultlessFolder). Reopens b c.args.moment c.args.first host.shard) same
-    (left_over book names (files book.start) (files book.folder) agrees stored host.shard.opening opening c.args.moment c.args.first host.shard refl opens.has lawful.legal))
+    (left_over book names (files book.start) (files book.folder) agrees stored host.shard.opening opening c.args.moment c.args.first host.shard refl opens.has lawful.legal)
 
-pub returns-clause-none : goal.returns-clause-none
-returns-clause-none c =
+pub returns-in_default-clause-none : goal.returns-in_default-clause-none
+returns-in_default-clause-none c =
     let book = c.end.result in
     let lawful = c.end-folder.ensures.lawful in
     let names : HasFileNames book = subst HasFileNames (sym c.end.ensures.same) c.self.invariant.3 in
     let agrees = whole_folder book c.end.ensures.whole lawful.folder in
     let stored = none_failed (faults_in book.made) lawful.faults in
     let same = c.end.ensures.same ∙ ap (λ (w : Watch FaultlessFolder). w.shard) c.self.view_is in
-    none_then c.in_ok-opened.opened c.in_ok-opened.ensures.none (λ told.
+    let told = of_none c.in_ok-opened.opened c.in_ok-opened.ensures.none c.in_default.is in
     let large : IsTooLarge None (Some (files book.folder)) told.0 = subst (λ (f : FaultlessFolder). IsTooLarge None (Some (files f)) told.0) c.end-folder.ensures.folder told.1 in
-    subst (λ (b : Book FaultlessFolder). LeavesTooMuch b) same (left_too_much book names (files book.start) (files book.folder) agrees stored lawful.legal told.0 large))
+    subst (λ (b : Book FaultlessFolder). LeavesTooMuch b) same (left_too_much book names (files book.start) (files book.folder) agrees stored lawful.legal told.0 large)
+
+pub returns-clause-past : goal.returns-clause-past
+returns-clause-past c =
+    c.end-folder.ensures.past ∙ ap left_by (c.end.ensures.same ∙ ap (λ (w : Watch FaultlessFolder). w.shard) c.self.view_is)
