@@ -8,3 +8,4 @@ pub mod Reader
 pub mod SoFar
 pub mod Written
 pub mod Told
+pub mod Inputs

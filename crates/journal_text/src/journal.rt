@@ -15,7 +15,7 @@ use thiserror::Error;
 use wopi_text::Memory;
 
 /// The most bytes of a journal.
-const MOST_BYTES: usize = 268_435_456;
+pub(crate) const MOST_BYTES: usize = 268_435_456;
 
 /// Why bytes are no journal.
 #[derive(Clone, Copy, Debug, PartialEq, Eq, Error)]

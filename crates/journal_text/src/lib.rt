@@ -5,13 +5,15 @@
 //! version of the opening files, nor how many entries there are. A shard's time is then the greatest of when the host opened and the
 //! moments of the shard's entries so far, and the version is 1.
 //!
-//! [`read_journal`] reads both forms, and names the first line that can't stand where it does. [`write_lines`] writes the second form.
+//! [`read_journal`] reads both forms, and names the first line that can't stand where it does. [`read_input`] does so with the bytes
+//! of a whole input. [`write_lines`] writes the second form.
 //! Bytes read as one text at most, and what is written of a text that keeps a reading's bounds is read as that text: see [`laws`].
 #![tactic(auto)]
 
 mod acts;
 mod contents;
 mod entry;
+mod input;
 mod journal;
 pub mod laws;
 mod opening;
@@ -26,6 +28,7 @@ mod values;
 mod writing;
 
 pub use host_core::EntryAct as LineAct;
+pub use input::{InputFault, read_input};
 pub use journal::{JournalFault, read_journal};
 pub use text::{Files, Format, JournalText, Line, Lines};
 pub use writing::write_lines;

@@ -1,9 +1,10 @@
 //! Texts of journals, read and written.
-use crate::{JournalFault, read_journal, write_lines};
+use crate::{InputFault, JournalFault, read_input, read_journal, write_lines};
 use host_table::WriteRoom;
-use outside::MemSink;
+use outside::{MemSink, MemSource};
 use std::alloc::Global;
 use std::test::Fail;
+use wopi_text::Bytes;
 
 const FIRST_FORM: &[u8] =
     b"wopi journal 1 opened 0\nfile 612e637376 312c320a\n1 11 0 5 612e637376 lock 4c31 ann.612e637376.w.2.0.9000000 200 - - v1 -\nend\n";
@@ -138,6 +139,51 @@ fn an_entry_that_breaks_a_bound_is_bad(rt: HostRuntime) -> Result<(), Fail> {
         "1 11 0 5 5  612e637376 info u.612e637376.w.2.0.9 200 - - v1 -\n",
     ] {
         assert_eq!(rt; bad_line(rt.alloc(), line.as_bytes())?, Some(2), "{line}");
+    }
+    Ok(())
+}
+
+/// An input of these bytes, so many at a read, whose n-th read fails where one is given.
+fn input(alloc: Global, text: &[u8], piece: usize, failing: u64) -> Result<MemSource, Fail> {
+    let Ok(bytes) = Bytes::from_slice(alloc, text) else {
+        return Err("bytes".into());
+    };
+    Ok(MemSource::new(bytes, piece.max(1), [failing].to_vec(alloc)?))
+}
+
+#[test]
+fn an_input_is_read_whole(rt: HostRuntime) -> Result<(), Fail> {
+    let alloc = rt.alloc();
+    for piece in [1, 7, 1_000] {
+        let mut source = input(alloc, SECOND_FORM, piece, 0)?;
+        let Ok(text) = read_input(alloc, &mut source) else {
+            return Err("a journal".into());
+        };
+        assert_eq!(rt; text.lines.as_slice().len(), 1);
+    }
+    Ok(())
+}
+
+#[test]
+fn an_input_has_its_first_bad_line(rt: HostRuntime) -> Result<(), Fail> {
+    let alloc = rt.alloc();
+    let mut source = input(alloc, UNENDED, 100, 0)?;
+    match read_input(alloc, &mut source) {
+        Err(InputFault::BadLine { line }) => assert_eq!(rt; line, 4),
+        _ => return Err("a bad line".into()),
+    }
+    Ok(())
+}
+
+#[test]
+fn an_input_whose_read_fails_is_no_journal(rt: HostRuntime) -> Result<(), Fail> {
+    let alloc = rt.alloc();
+    for failing in [1, 2, 3] {
+        let mut source = input(alloc, SECOND_FORM, 70, failing)?;
+        match read_input(alloc, &mut source) {
+            Err(InputFault::Read) => {}
+            _ => return Err("a fault".into()),
+        }
     }
     Ok(())
 }

@@ -1,0 +1,55 @@
+-- A journal that is the whole of an input. (Own.)
+use Rattle.std.specs.Prelude.{◌≡◌, ◌≤◌, ◌+◌, ⊤, ℕ, List, length, Option, Result, Ok, Err}
+use Rattle.std.specs.Io.KnownBytes.{Consumes, IsAtEnd}
+use Rattle.journal_text.specs.declared.input.InputFault.{InputFault}
+use Rattle.journal_text.specs.declared.input.InputFault.TheVariants as fault
+use Rattle.journal_text.specs.declared.journal.JournalFault.{JournalFault}
+use Rattle.journal_text.specs.declared.journal.JournalFault.TheVariants as journal
+use Rattle.journal_text.specs.declared.text.JournalText.{JournalText}
+use Rattle.journal_text.specs.Journals.{IsBadLine, IsReading, most_bytes}
+
+-- These are all the bytes of the input, which was read to its end, and they are no more than those of a journal.
+pub record IsWhole (left left' : Option (List ℕ)) (bytes : List ℕ) : Type 0 where
+  pub consumed : Consumes left left' bytes
+  pub end : IsAtEnd left'
+  pub short : length bytes ≤ most_bytes
+
+-- The input has more bytes than a journal: one more was read.
+pub record IsLong (left left' : Option (List ℕ)) : Type 0 where
+  pub bytes : List ℕ
+  pub consumed : Consumes left left' bytes
+  pub many : length bytes ≡ most_bytes + 1
+
+-- The whole input is the text of this journal.
+pub record IsWholeInput (left left' : Option (List ℕ)) (text : JournalText) : Type 0 where
+  pub bytes : List ℕ
+  pub whole : IsWhole left left' bytes
+  pub read : IsReading bytes text
+
+-- The whole input has its first bad line here.
+pub record IsBadInput (left left' : Option (List ℕ)) (number : ℕ) : Type 0 where
+  pub bytes : List ℕ
+  pub whole : IsWhole left left' bytes
+  pub bad : IsBadLine bytes number
+
+-- an input read as a journal
+abbrev pub IsInputRead : Option (List ℕ) → Option (List ℕ) → Result JournalText InputFault → Type 0
+IsInputRead left left' (Ok text) = IsWholeInput left left' text
+IsInputRead left left' (Err fault.TooLong) = IsLong left left'
+IsInputRead left left' (Err (fault.BadLine number)) = IsBadInput left left' number
+IsInputRead left left' (Err fault.Read) = ⊤
+IsInputRead left left' (Err fault.Memory) = ⊤
+
+-- the bytes of an input
+abbrev pub IsTaken : Option (List ℕ) → Option (List ℕ) → Result (List ℕ) InputFault → Type 0
+IsTaken left left' (Ok bytes) = IsWhole left left' bytes
+IsTaken left left' (Err fault.TooLong) = IsLong left left'
+IsTaken left left' (Err (fault.BadLine number)) = ⊥
+IsTaken left left' (Err fault.Read) = ⊤
+IsTaken left left' (Err fault.Memory) = ⊤
+
+-- the fault of an input whose bytes are no journal
+abbrev pub fault_of : JournalFault → InputFault
+fault_of journal.TooLong = fault.TooLong
+fault_of (journal.BadLine number) = fault.BadLine number
+fault_of journal.Memory = fault.Memory

@@ -1,0 +1,117 @@
+//! A journal that is a whole input.
+ghost use Rattle.std.specs.Prelude.{◌≡◌, ◌⊎◌, ◌≤◌, ◌+◌, ◌++◌, ℕ, List, Option, Err, IfOk, OnOk, length, vec_len};
+ghost use Rattle.std.specs.Io.KnownBytes.{Consumes, IsAtEnd};
+ghost use Rattle.outside.specs.Faults.{Rose};
+ghost use Rattle.journal_text.specs.Inputs.{IsInputRead, IsTaken, fault_of};
+ghost use Rattle.journal_text.specs.Journals.{most_bytes};
+
+use crate::journal::{JournalFault, MOST_BYTES, read_journal};
+use crate::text::JournalText;
+use outside::{Failed, Source, piece_room};
+use std::alloc::Global;
+use wopi_text::Memory;
+
+/// How many bytes are read at once.
+const PIECE: usize = 65_536;
+
+/// Why an input gave no journal.
+#[derive(Clone, Copy, Debug, PartialEq, Eq)]
+pub enum InputFault {
+    /// There are more bytes than a journal may have.
+    TooLong,
+    /// The line with this number, counted from 1, is the first that can't stand where it does, or that is missing there.
+    BadLine { line: u64 },
+    /// The input could not be read.
+    Read,
+    Memory,
+}
+
+/// What the journal tells that all the bytes of an input are. Of a longer input than a journal may be one byte more is read than a
+/// journal may have, and no further one. The bytes take at most two and a quarter times their number while they come, and are given
+/// back before this returns.
+pub fn read_input<S: Source>(alloc: Global, source: &mut S) -> Result<JournalText, InputFault>
+    ensures read { IsInputRead (S.left source.old) (S.left source.new) result }
+    ensures beside { S.beside_reads source.new ≡ S.beside_reads source.old }
+    ensures never_falls { S.read_faults source.old ≤ S.read_faults source.new }
+    ensures failed { result ≡ Err InputFault.Read → Rose (S.read_faults source.old) (S.read_faults source.new) }
+{
+    match read_bytes(alloc, source) {
+        Ok(bytes) => match read_journal(alloc, &bytes) {
+            Ok(text) => return Ok(text),
+            Err(fault) => return Err(fault_of(fault)),
+        },
+        Err(fault) => return Err(fault),
+    }
+}
+
+/// All bytes of an input, where they are no more than those of a journal.
+fn read_bytes<S: Source>(alloc: Global, source: &mut S) -> Result<Vec<u8>, InputFault>
+    ensures taken { IsTaken (S.left source.old) (S.left source.new) result.entry }
+    ensures beside { S.beside_reads source.new ≡ S.beside_reads source.old }
+    ensures never_falls { S.read_faults source.old ≤ S.read_faults source.new }
+    ensures failed { result ≡ Err InputFault.Read → Rose (S.read_faults source.old) (S.read_faults source.new) }
+{
+    let Ok(mut piece) = piece_room(alloc) else {
+        return Err(InputFault::Memory);
+    };
+    let mut bytes = Vec::new(alloc);
+    'pieces: while bytes.len() <= MOST_BYTES {
+        match take_piece(source, &mut piece, &mut bytes) {
+            Ok(0) => return Ok(bytes),
+            Ok(_) => {}
+            Err(fault) => return Err(fault),
+        }
+    }
+    Err(InputFault::TooLong)
+}
+
+/// Reads once, behind the bytes that came, and says how many came; 0 only at the end.
+fn take_piece<S: Source>(
+    source: &mut S,
+    piece: &mut Vec<u8>,
+    bytes: &mut Vec<u8>,
+) -> Result<usize, InputFault>
+    requires short { length bytes.old.items ≤ most_bytes }
+    requires room { vec_len piece.old ≡ 65536 }
+    ensures on { IfOk result (λ count. (left : Option (List ℕ)) → Consumes left (S.left source.old) bytes.old.items → Consumes left (S.left source.new) bytes.new.items) }
+    ensures count { IfOk result (λ count. length bytes.new.items ≡ length bytes.old.items + count) }
+    ensures most { OnOk result (length bytes.new.items ≤ most_bytes + 1) }
+    ensures end { IfOk result (λ count. count ≡ 0 → IsAtEnd (S.left source.new)) }
+    ensures fault { (fault : InputFault) → result ≡ Err fault → (fault ≡ InputFault.Read) ⊎ (fault ≡ InputFault.Memory) }
+    ensures room { vec_len piece.new ≡ vec_len piece.old }
+    ensures beside { S.beside_reads source.new ≡ S.beside_reads source.old }
+    ensures never_falls { S.read_faults source.old ≤ S.read_faults source.new }
+    ensures failed { result ≡ Err InputFault.Read → Rose (S.read_faults source.old) (S.read_faults source.new) }
+{
+    let room = PIECE.min(MOST_BYTES + 1 - bytes.len());
+    match source.read(&mut piece[..room]) {
+        Ok(count) => match add(bytes, &piece[..count]) {
+            Ok(()) => return Ok(count),
+            Err(Memory) => return Err(InputFault::Memory),
+        },
+        Err(Failed) => return Err(InputFault::Read),
+    }
+}
+
+/// Adds a piece. Where there is no room for it, the vector grows by a quarter of itself, or by the piece where that is more.
+fn add(bytes: &mut Vec<u8>, piece: &[u8]) -> Result<(), Memory>
+    requires short { length bytes.old.items ≤ most_bytes }
+    requires piece { length piece.now ≤ 65536 }
+    ensures { OnOk result (bytes.new.items ≡ bytes.old.items ++ piece.now) }
+{
+    if bytes.capacity() - bytes.len() < piece.len() {
+        bytes.reserve_exact(piece.len().max(bytes.len() / 4))?;
+    }
+    bytes.extend_from_slice(piece)?;
+    Ok(())
+}
+
+fn fault_of(fault: JournalFault) -> InputFault
+    ensures { result ≡ fault_of fault }
+{
+    match fault {
+        JournalFault::TooLong => InputFault::TooLong,
+        JournalFault::BadLine { line } => InputFault::BadLine { line },
+        JournalFault::Memory => InputFault::Memory,
+    }
+}
