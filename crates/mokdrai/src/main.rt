@@ -71,6 +71,7 @@ fn parts_of(words: &[String]) -> Parts
         Some(Command::Edit) => NONE,
         Some(Command::Replay) => NONE,
         Some(Command::Token) => NONE,
+        Some(Command::Upgrade) => NONE,
         Some(Command::Help) => NONE,
         Some(Command::Version) => NONE,
         None => NONE,

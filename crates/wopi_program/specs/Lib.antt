@@ -15,3 +15,4 @@ pub mod EditWords
 pub mod Edit
 pub mod ReplayWords
 pub mod Replay
+pub mod Upgrade

@@ -10,6 +10,7 @@ use Rattle.wopi_program.specs.Edit.{EditEnds}
 use Rattle.wopi_program.specs.Replay.{ReplayEnds}
 use Rattle.wopi_program.specs.ServeEnds.{ServeEnds}
 use Rattle.wopi_program.specs.Token.{TokenEnds}
+use Rattle.wopi_program.specs.Upgrade.{UpgradeEnds}
 
 -- how a run of a command ends, with which status and what it leaves
 abbrev pub RunEnds : {S K F N D C L : Type 0} → Meanings S K F N D C L → List (List ℕ) → ℕ → Outside S K F N D C → Outside S K F N D C → Command → Type 0
@@ -20,3 +21,4 @@ RunEnds m words status old new command.Serve = ServeEnds m words status old new
 RunEnds m words status old new command.Edit = EditEnds m words status old new
 RunEnds m words status old new command.Replay = ReplayEnds m words status old new
 RunEnds m words status old new command.Token = TokenEnds m words status old new
+RunEnds m words status old new command.Upgrade = UpgradeEnds m status old new

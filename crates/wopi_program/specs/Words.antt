@@ -41,6 +41,7 @@ IsRow words command.Serve = IsServe words
 IsRow words command.Edit = IsEdit words
 IsRow words command.Replay = IsReplay words
 IsRow words command.Token = (keys : Keys) × (token : Token) × IsTokenRow words keys token
+IsRow words command.Upgrade = words ≡ codes "upgrade" ∷ []
 
 -- the words are a row of some command
 abbrev pub IsCommand : List (List ℕ) → Type 0

@@ -25,6 +25,8 @@ pub enum Command {
     Replay,
     /// The text of an access token, on the output.
     Token,
+    /// The journal of the input, in today's form on the output.
+    Upgrade,
 }
 
 /// Whether the words are this one alone.
@@ -100,6 +102,8 @@ pub fn read_words(words: &[String]) -> Option<Command>
         Some(Command::Replay)
     } else if is_token(words) {
         Some(Command::Token)
+    } else if is_word(words, "upgrade") {
+        Some(Command::Upgrade)
     } else {
         None
     }

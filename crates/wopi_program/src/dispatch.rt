@@ -10,7 +10,7 @@ use crate::serve::run_serve;
 use crate::serve_words::ServeAsk;
 use crate::{
     Command, Meant, Outside, help, read_words, refuse, run_edit, run_once, run_replay, run_token,
-    tell, version,
+    run_upgrade, tell, version,
 };
 use outside::{Clock, Dialer, Folder, Listener, Sink, Source};
 use std::alloc::Global;
@@ -43,6 +43,7 @@ pub fn run<
         Some(Command::Edit) => run_edit(alloc, words, outside),
         Some(Command::Replay) => run_replay(alloc, words, outside),
         Some(Command::Token) => run_token(alloc, words, outside),
+        Some(Command::Upgrade) => run_upgrade(alloc, words, outside),
         Some(Command::Help) => tell(outside, help()),
         Some(Command::Version) => tell(outside, version()),
         None => refuse(outside),

@@ -6,7 +6,7 @@
 //! output; `serve` answers those of many connections by workers, and then writes its host's journal
 //! on the output; `edit` runs the script of its input over a sheet at a host; `replay` runs a
 //! schedule of sessions in memory and writes what it shows; `token` writes the text of an access
-//! token.
+//! token; `upgrade` reads a journal from its input and writes it in today's form.
 #![tactic(auto)]
 
 mod command;
@@ -25,6 +25,7 @@ mod serving;
 mod telling;
 mod token;
 mod token_words;
+mod upgrade;
 
 pub use command::{Command, read_words};
 pub use dispatch::run;
@@ -40,6 +41,7 @@ pub use serve_words::{ServeAsk, serve_ask};
 pub use serving::ServeEnd;
 pub use telling::{help, refuse, tell, version};
 pub use token::run_token;
+pub use upgrade::run_upgrade;
 
 #[cfg(test)]
 mod tests;

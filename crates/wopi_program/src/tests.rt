@@ -17,6 +17,7 @@ mod serve_faults;
 mod smuggling;
 mod spoiling;
 mod tokens;
+mod upgrades;
 mod words;
 
 ghost use Rattle.std.specs.Prelude.{◌≡◌, ◌∷◌, IfOk, IsTrue, length};
