@@ -40,14 +40,6 @@ IsInputRead left left' (Err (fault.BadLine number)) = IsBadInput left left' numb
 IsInputRead left left' (Err fault.Read) = ⊤
 IsInputRead left left' (Err fault.Memory) = ⊤
 
--- the bytes of an input
-abbrev pub IsTaken : Option (List ℕ) → Option (List ℕ) → Result (List ℕ) InputFault → Type 0
-IsTaken left left' (Ok bytes) = IsWhole left left' bytes
-IsTaken left left' (Err fault.TooLong) = IsLong left left'
-IsTaken left left' (Err (fault.BadLine number)) = ⊥
-IsTaken left left' (Err fault.Read) = ⊤
-IsTaken left left' (Err fault.Memory) = ⊤
-
 -- the fault of an input whose bytes are no journal
 abbrev pub fault_of : JournalFault → InputFault
 fault_of journal.TooLong = fault.TooLong

@@ -1,18 +1,15 @@
 //! A journal that is a whole input.
-ghost use Rattle.std.specs.Prelude.{◌≡◌, ◌⊎◌, ◌≤◌, ◌+◌, ◌++◌, ℕ, List, Option, Err, IfOk, OnOk, length, vec_len};
+ghost use Rattle.std.specs.Prelude.{◌≡◌, ◌⊎◌, ◌≤◌, ◌<◌, ◌+◌, ◌++◌, ℕ, List, Option, Err, IfOk, OnErr, OnOk, length, take, vec_len};
 ghost use Rattle.std.specs.Io.KnownBytes.{Consumes, IsAtEnd};
 ghost use Rattle.outside.specs.Faults.{Rose};
-ghost use Rattle.journal_text.specs.Inputs.{IsInputRead, IsTaken, fault_of};
+ghost use Rattle.journal_text.specs.Inputs.{IsInputRead, IsLong, IsWhole, fault_of};
 ghost use Rattle.journal_text.specs.Journals.{most_bytes};
 
 use crate::journal::{JournalFault, MOST_BYTES, read_journal};
 use crate::text::JournalText;
-use outside::{Failed, Source, piece_room};
+use outside::{Failed, Source, piece_room, read_piece};
 use std::alloc::Global;
 use wopi_text::Memory;
-
-/// How many bytes are read at once.
-const PIECE: usize = 65_536;
 
 /// Why an input gave no journal.
 #[derive(Clone, Copy, Debug, PartialEq, Eq)]
@@ -46,7 +43,9 @@ pub fn read_input<S: Source>(alloc: Global, source: &mut S) -> Result<JournalTex
 
 /// All bytes of an input, where they are no more than those of a journal.
 fn read_bytes<S: Source>(alloc: Global, source: &mut S) -> Result<Vec<u8>, InputFault>
-    ensures taken { IsTaken (S.left source.old) (S.left source.new) result.entry }
+    ensures whole { IfOk result (λ bytes. IsWhole (S.left source.old) (S.left source.new) bytes.items) }
+    ensures long { result ≡ Err InputFault.TooLong → IsLong (S.left source.old) (S.left source.new) }
+    ensures good { (line : ℕ) → result ≡ Err (InputFault.BadLine line) → ⊥ }
     ensures beside { S.beside_reads source.new ≡ S.beside_reads source.old }
     ensures never_falls { S.read_faults source.old ≤ S.read_faults source.new }
     ensures failed { result ≡ Err InputFault.Read → Rose (S.read_faults source.old) (S.read_faults source.new) }
@@ -65,26 +64,28 @@ fn read_bytes<S: Source>(alloc: Global, source: &mut S) -> Result<Vec<u8>, Input
     Err(InputFault::TooLong)
 }
 
-/// Reads once, behind the bytes that came, and says how many came; 0 only at the end.
+/// Reads once, at most up to one byte more than a journal may have, and says how many came; 0 only at the end.
 fn take_piece<S: Source>(
     source: &mut S,
     piece: &mut Vec<u8>,
     bytes: &mut Vec<u8>,
 ) -> Result<usize, InputFault>
     requires short { length bytes.old.items ≤ most_bytes }
-    requires room { vec_len piece.old ≡ 65536 }
+    requires room { 0 < vec_len piece.old }
+    requires most { vec_len piece.old ≤ 65536 }
     ensures on { IfOk result (λ count. (left : Option (List ℕ)) → Consumes left (S.left source.old) bytes.old.items → Consumes left (S.left source.new) bytes.new.items) }
     ensures count { IfOk result (λ count. length bytes.new.items ≡ length bytes.old.items + count) }
     ensures most { OnOk result (length bytes.new.items ≤ most_bytes + 1) }
     ensures end { IfOk result (λ count. count ≡ 0 → IsAtEnd (S.left source.new)) }
     ensures fault { (fault : InputFault) → result ≡ Err fault → (fault ≡ InputFault.Read) ⊎ (fault ≡ InputFault.Memory) }
-    ensures room { vec_len piece.new ≡ vec_len piece.old }
+    ensures room { 0 < vec_len piece.new }
+    ensures still { vec_len piece.new ≤ 65536 }
     ensures beside { S.beside_reads source.new ≡ S.beside_reads source.old }
     ensures never_falls { S.read_faults source.old ≤ S.read_faults source.new }
     ensures failed { result ≡ Err InputFault.Read → Rose (S.read_faults source.old) (S.read_faults source.new) }
 {
-    let room = PIECE.min(MOST_BYTES + 1 - bytes.len());
-    match source.read(&mut piece[..room]) {
+    piece.truncate(MOST_BYTES + 1 - bytes.len());
+    match read_piece(source, piece) {
         Ok(count) => match add(bytes, &piece[..count]) {
             Ok(()) => return Ok(count),
             Err(Memory) => return Err(InputFault::Memory),

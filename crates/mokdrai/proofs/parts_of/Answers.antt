@@ -46,3 +46,9 @@ returns-in-Some-Replay-clause-once c = λ row. let is = (c.read_words.ensures On
 
 pub returns-in-Some-Replay-clause-serve : goal.returns-in-Some-Replay-clause-serve
 returns-in-Some-Replay-clause-serve c = λ keys base ask row. let is = (c.read_words.ensures Serve).1 (keys, base, ask, row) in absurd (cc is)
+
+pub returns-in-Some-Upgrade-clause-once : goal.returns-in-Some-Upgrade-clause-once
+returns-in-Some-Upgrade-clause-once c = λ row. let is = (c.read_words.ensures Once).1 row in absurd (cc is)
+
+pub returns-in-Some-Upgrade-clause-serve : goal.returns-in-Some-Upgrade-clause-serve
+returns-in-Some-Upgrade-clause-serve c = λ keys base ask row. let is = (c.read_words.ensures Serve).1 (keys, base, ask, row) in absurd (cc is)

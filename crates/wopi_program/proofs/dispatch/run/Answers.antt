@@ -1,11 +1,12 @@
 use Rattle.std.proofs.Common.{Some, ap, ◌∙◌}
-use Rattle.wopi_program.specs.declared.command.Command.TheVariants.{Edit, Once, Replay, Serve, Token}
+use Rattle.wopi_program.specs.declared.command.Command.TheVariants.{Edit, Once, Replay, Serve, Token, Upgrade}
 use Rattle.wopi_program.proofs.Rows.{known}
 use Rattle.wopi_program.proofs.OnceLemmas.{OnceEnds-known}
 use Rattle.wopi_program.proofs.EditLemmas.{EditEnds-known}
 use Rattle.wopi_program.proofs.ReplayLemmas.{ReplayEnds-known}
 use Rattle.wopi_program.proofs.EndLemmas.{ServeEnds-known}
 use Rattle.wopi_program.proofs.TokenLemmas.{TokenEnds-known}
+use Rattle.wopi_program.proofs.UpgradeLemmas.{UpgradeEnds-known}
 use Rattle.wopi_program.proofs.dispatch.run.Goals as goal
 
 pub run_once-requires-clause-words : goal.run_once-requires-clause-words
@@ -83,3 +84,15 @@ returns-in-Some-Replay-clause-usage g c =
 pub returns-in-Some-Replay-clause-usage_leaves : goal.returns-in-Some-Replay-clause-usage_leaves
 returns-in-Some-Replay-clause-usage_leaves g c =
     λ none. absurd (none (Replay, (c.read_words.ensures Replay).0 (c.in-Some-Replay.is ∙ ap Some c.in-Some-Replay.field-0-is)))
+
+pub run_upgrade-requires-after_bounds : goal.run_upgrade-requires-after_bounds
+run_upgrade-requires-after_bounds g c κs within = (c.read_words.ensures Upgrade).0 (c.in-Some-Upgrade.is ∙ ap Some c.in-Some-Upgrade.field-0-is)
+
+pub returns-in-Some-Upgrade-clause-usage : goal.returns-in-Some-Upgrade-clause-usage
+returns-in-Some-Upgrade-clause-usage g c =
+    known _ Upgrade ((c.read_words.ensures Upgrade).0 (c.in-Some-Upgrade.is ∙ ap Some c.in-Some-Upgrade.field-0-is)) c.run_upgrade.result
+    (UpgradeEnds-known _ _ _ _ c.run_upgrade.ensures)
+
+pub returns-in-Some-Upgrade-clause-usage_leaves : goal.returns-in-Some-Upgrade-clause-usage_leaves
+returns-in-Some-Upgrade-clause-usage_leaves g c =
+    λ none. absurd (none (Upgrade, (c.read_words.ensures Upgrade).0 (c.in-Some-Upgrade.is ∙ ap Some c.in-Some-Upgrade.field-0-is)))
