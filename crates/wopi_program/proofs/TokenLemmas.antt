@@ -1,5 +1,5 @@
 -- What a run of `token` tells.
-use Rattle.std.proofs.Common.{◌≡◌, ◌≢◌, ◌⊎◌, ℕ, List, inl, inr, subst, arith}
+use Rattle.std.proofs.Common.{◌≡◌, ◌≢◌, ℕ, List, inl, inr, subst, arith}
 use Rattle.access_tokens.specs.declared.keys.Keys.{Keys}
 use Rattle.wopi_model.specs.declared.token.Token.{Token}
 use Rattle.wopi_program.specs.declared.outside_world.Outside.{Outside}
