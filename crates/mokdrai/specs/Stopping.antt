@@ -43,6 +43,13 @@ module _ {N L : Type 0} (links_left finished_links : N → Option (List L)) (acc
   abbrev pub PassesOn : {P : Type 0} → Option P → N → Result (Accepted L) OutFault → Type 0
   PassesOn path old result = (new : N) × (Answers old new result ⊎ ((path ≢ None) × (result ≡ Ok Closed) × TurnsAway old new))
 
+module _ {N L : Type 0} (links_left finished_links : N → Option (List L)) (accepted finished faults : N → ℕ) where
+  -- the result is what the listener answered, or, where something is shared, the end in place of a fault
+  abbrev pub PassesOnShared : {S : Type 0} → Option S → N → N → Result (Accepted L) OutFault → Type 0
+  PassesOnShared shared old new result =
+      Answers links_left finished_links accepted finished faults old new result
+      ⊎ ((shared ≢ None) × (result ≡ Ok Closed) × (fault : OutFault) × Answers links_left finished_links accepted finished faults old new (Err fault))
+
 -- these are over those, in the same order, but for those that are closed
 abbrev pub AreOver : {S N : Type 0} → (S → Option N) → List S → List N → Type 0
 AreOver listener [] [] = ⊤

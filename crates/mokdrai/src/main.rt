@@ -10,16 +10,19 @@ ghost use Rattle.wopi_program.specs.EditWords.{IsEditRow};
 ghost use Rattle.wopi_program.specs.ServeWords.{IsServeRow};
 ghost use Rattle.wopi_program.specs.Words.{IsRow};
 
+mod sharing;
 mod stopping;
 
-use crate::stopping::{StopListener, stop_path, until_stopped};
+use crate::sharing::{SharedListener, bind, close_later, share};
+use crate::stopping::{StopListener, stop_path, until_stopped, wake_path};
 use outside::{DirFolder, StdSink, StdSource, SystemClock, TcpDialer, TcpListen};
 use std::alloc::Global;
 use std::env::{self, Args, Env};
-use std::fs::Files;
+use std::fs::{File, Files};
 use std::io::{self, ErrorKind};
 use std::net::{Net, TcpListener, TcpStream};
 use std::process::ExitCode;
+use std::thread::Threads;
 use std::time;
 use wopi_program::{Command, Outside, ServeAsk, edit_authority, read_words, run, serve_ask};
 use wopi_text::Memory;
@@ -113,45 +116,44 @@ fn clocks<'a, T: time::Clock>(
     Ok(all)
 }
 
-/// So many listeners over one socket at the port. Only this machine reaches it.
-fn listen<'a, R: Net<Stream = TcpStream, Listener = TcpListener> + Files>(
+/// So many listeners over one socket at the port, which a byte over the pipe at `wake` closes. Only
+/// this machine reaches it.
+fn listen<'a, R: Net<Stream = TcpStream, Listener = TcpListener> + Files<File = File> + Threads>(
     alloc: Global,
     rt: &'a R,
     ask: ServeAsk,
     stop: Option<&'a str>,
-) -> Result<Vec<StopListener<'a, R, TcpListen>>, Memory>
+    wake: Option<&str>,
+) -> Result<Vec<StopListener<'a, R, SharedListener<TcpListen>>>, Memory>
     ensures count { IfOk result (λ all. vec_len all ≡ ask.workers) }
-    ensures each { IfOk result (λ all. AllByRecursion (λ one. IfSome one.listener (λ own. (own.most ≡ ask.each) × (own.accepted ≡ 0))) all.items) }
+    ensures each { IfOk result (λ all. AllByRecursion (λ one. IfSome one.listener (λ own. (own.listener.most ≡ ask.each) × (own.listener.accepted ≡ 0))) all.items) }
     ensures begins { IfOk result (λ all. AllByRecursion (λ one. (one.path ≡ stop.entry) × (one.accepted ≡ 0)) all.items) }
     ensures untold { stop.entry ≡ None → IfOk result (λ all. AllByRecursion (λ one. IsSome one.listener) all.items) }
 {
     let address = format!(in alloc; "127.0.0.1:{}", ask.port)?;
-    let bound = TcpListen::bind(
-        alloc,
-        rt,
-        address.as_str(),
-        ask.workers as usize,
-        ask.each as u64,
-    )?;
+    let socket = bind(alloc, rt, address.as_str())?;
+    close_later(rt, wake, &socket)?;
+    let bound = share(alloc, &socket, ask.workers as usize, ask.each as u64)?;
     until_stopped(alloc, rt, stop, bound)
 }
 
 /// The listeners of the words' workers; they are closed once the stop file is there.
-fn listeners<'a, R: Net<Stream = TcpStream, Listener = TcpListener> + Files>(
+fn listeners<'a, R: Net<Stream = TcpStream, Listener = TcpListener> + Files<File = File> + Threads>(
     alloc: Global,
     rt: &'a R,
     words: &[String],
     stop: Option<&'a str>,
-) -> Result<Vec<StopListener<'a, R, TcpListen>>, Memory>
+    wake: Option<&str>,
+) -> Result<Vec<StopListener<'a, R, SharedListener<TcpListen>>>, Memory>
     ensures count { (keys : Keys) (base : List ℕ) (ask : ServeAsk) → IsServeRow (map string_bytes words.now) keys base ask
         → IfOk result (λ all. vec_len all ≡ ask.workers) }
     ensures each { (keys : Keys) (base : List ℕ) (ask : ServeAsk) → IsServeRow (map string_bytes words.now) keys base ask
-        → IfOk result (λ all. AllByRecursion (λ one. IfSome one.listener (λ own. (own.most ≡ ask.each) × (own.accepted ≡ 0))) all.items) }
+        → IfOk result (λ all. AllByRecursion (λ one. IfSome one.listener (λ own. (own.listener.most ≡ ask.each) × (own.listener.accepted ≡ 0))) all.items) }
     ensures begins { IfOk result (λ all. AllByRecursion (λ one. (one.path ≡ stop.entry) × (one.accepted ≡ 0)) all.items) }
     ensures untold { stop.entry ≡ None → IfOk result (λ all. AllByRecursion (λ one. IsSome one.listener) all.items) }
 {
     match serve_ask(words) {
-        Some(ask) => listen(alloc, rt, ask, stop),
+        Some(ask) => listen(alloc, rt, ask, stop, wake),
         None => Ok(Vec::new(alloc)),
     }
 }
@@ -223,7 +225,10 @@ fn main(rt: HostRuntime) -> ExitCode {
     let Ok(stop) = stop_path(&rt) else {
         return ExitCode::from(6);
     };
-    let Ok(listeners) = listeners(alloc, &rt, &words, stop.as_deref()) else {
+    let Ok(wake) = wake_path(&rt) else {
+        return ExitCode::from(6);
+    };
+    let Ok(listeners) = listeners(alloc, &rt, &words, stop.as_deref(), wake.as_deref()) else {
         return ExitCode::from(6);
     };
     let Ok(clocks) = clocks(alloc, &rt, parts.clocks) else {

@@ -1,7 +1,11 @@
 //! How a host is ended in order.
 //!
 //! The program can't hear a signal. Whoever wants it to end makes a file at a path that it was told
-//! when it began, and then connects to it once for each worker, so that each accept returns.
+//! when it began, and then writes a byte into a pipe at another such path. A thread that waits for
+//! that byte closes the socket, whether or not a worker is free.
+//!
+//! Without the pipe, or where no thread could be made, a connection does the same as soon as a
+//! worker takes it.
 ghost use Rattle.std.specs.Prelude.{◌≡◌, ◌≤◌, ◌<◌, ◌+◌, ◌↔◌, false, IfOk, IfErr, IfSome, IsSome, OnOk, IsErr, IsErrOf, None, Some, Ok, map, vec_len};
 ghost use Rattle.std.specs.List.{AllByRecursion};
 ghost use Rattle.std.specs.Option.{ForSome};
@@ -15,6 +19,9 @@ use wopi_text::Memory;
 
 // The environment's variable with the path of the stop file.
 const STOP: &str = "MOKDRAI_STOP";
+
+// That with the path of a pipe, over which a byte comes once the stop file is there.
+const WAKE: &str = "MOKDRAI_WAKE";
 
 /// What a variable comes to that could not be read: no path, or want of memory.
 pub(crate) fn no_path(error: VarError) -> Result<Option<String>, Memory>
@@ -45,14 +52,25 @@ pub(crate) fn stop_path<R: Env + AllocGlobal>(rt: &R) -> Result<Option<String>, 
     path_of(env::var(rt, STOP))
 }
 
+/// The path of that pipe, where the environment has one that is text.
+pub(crate) fn wake_path<R: Env + AllocGlobal>(rt: &R) -> Result<Option<String>, Memory> {
+    path_of(env::var(rt, WAKE))
+}
+
+/// A listener that can be closed for all that share where its links come from.
+pub(crate) trait CloseAll {
+    /// No link is given any more, by this listener or by another that shares with it.
+    fn close_all(&self);
+}
+
 /// Takes the links of another listener until the stop file is there.
 ///
 /// It looks for the file once when it is made and once after each link that it takes. That link is
 /// then turned away, and every later accept answers `Closed` and asks nothing. It tells no links,
 /// since what it takes is up to the file. A file that can't be looked for isn't there.
 ///
-/// As soon as it gives no more links it lets its listener go, so that a socket of many such
-/// listeners is closed when the last of them is.
+/// As soon as it sees the file it closes its listener for all that share with it, also for those
+/// that wait in an accept or serve a link. As soon as it gives no more links it lets its listener go.
 #[derive(Drop)]
 pub(crate) struct StopListener<'a, R, N: Listener> {
     rt: &'a R,
@@ -66,7 +84,7 @@ pub(crate) struct StopListener<'a, R, N: Listener> {
     ghost lent: { ForSome listener (λ one. N.finished one + accepted ≤ N.accepted one + finished) },
 }
 
-impl<'a, R: Files, N: Listener> StopListener<'a, R, N> {
+impl<'a, R: Files, N: Listener + CloseAll> StopListener<'a, R, N> {
     /// `path` is that of the stop file; with none only the listener's own end ends it.
     pub(crate) fn new(rt: &'a R, path: Option<&'a str>, listener: N) -> StopListener<'a, R, N>
         ensures listener { IfSome result.listener (λ one. one ≡ listener) }
@@ -75,6 +93,7 @@ impl<'a, R: Files, N: Listener> StopListener<'a, R, N> {
         ensures accepted { result.accepted ≡ 0 }
     {
         let listener = if is_there(rt, path) {
+            listener.close_all();
             None
         } else {
             Some(listener)
@@ -90,7 +109,7 @@ impl<'a, R: Files, N: Listener> StopListener<'a, R, N> {
     }
 }
 
-impl<'a, R: Files, N: Listener> Listener for StopListener<'a, R, N>
+impl<'a, R: Files, N: Listener + CloseAll> Listener for StopListener<'a, R, N>
 where
     N::Link: Drop,
 {
@@ -138,6 +157,7 @@ where
         match listener.accept() {
             Ok(Accepted::Link(link)) => {
                 if is_there(self.rt, self.path) {
+                    listener.close_all();
                     listener.finish(link);
                     return Ok(Accepted::Closed);
                 }
@@ -183,7 +203,7 @@ fn is_there<R: Files>(rt: &R, path: Option<&str>) -> bool
 }
 
 /// Each listener, until the stop file is there.
-pub(crate) fn until_stopped<'a, R: Files, N: Listener>(
+pub(crate) fn until_stopped<'a, R: Files, N: Listener + CloseAll>(
     alloc: Global,
     rt: &'a R,
     path: Option<&'a str>,

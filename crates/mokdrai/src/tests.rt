@@ -1,10 +1,16 @@
+use crate::sharing::{SharedListener, SharedSocket, bind, close_at_byte, share};
 use crate::stopping::{StopListener, no_path, until_stopped};
 use crate::unread;
-use outside::{Accepted, Listener, MemListener, MemSink, MemSource, OutFault, Pair};
+use outside::{
+    Accepted, Listener, MemListener, MemSink, MemSource, OutFault, Pair, TcpListen, read_link,
+    write_link,
+};
 use std::alloc::Global;
 use std::env::VarError;
 use std::fs;
-use std::io::{self, ErrorKind};
+use std::io::{self, ErrorKind, Read, Write};
+use std::net::TcpStream;
+use std::sync::Arc;
 use std::test::Fail;
 use wopi_text::Bytes;
 
@@ -28,14 +34,15 @@ fn want_of_memory_for_the_stop_file_is_no_missing_path(rt: HostRuntime) -> Resul
 }
 
 // A listener in memory with so many empty links, whose third accept fails.
-fn wires(alloc: Global, count: usize) -> Result<MemListener<Wire>, Fail> {
+fn wires(alloc: Global, count: usize) -> Result<SharedListener<MemListener<Wire>>, Fail> {
     let mut links = Vec::new(alloc);
     for _ in 0..count {
         let input = MemSource::new(Bytes::from_vec(Vec::new(alloc)), 1, Vec::new(alloc));
         let output = MemSink::new(alloc, 0, Vec::new(alloc))?;
         links.push(Pair::new(input, output))?;
     }
-    Ok(MemListener::new(alloc, links, [3u64].as_slice().to_vec(alloc)?)?)
+    let listener = MemListener::new(alloc, links, [3u64].as_slice().to_vec(alloc)?)?;
+    Ok(SharedListener::new(listener, None))
 }
 
 // Whether a link was accepted; it is finished at once.
@@ -92,5 +99,110 @@ fn with_no_stop_file_a_fault_of_a_listener_closes_it(rt: HostRuntime) -> Result<
     assert_eq!(rt; takes_one(&mut listener), Ok(true));
     assert_eq!(rt; takes_one(&mut listener), Err(OutFault::Failed));
     assert_eq!(rt; takes_one(&mut listener), Ok(false));
+    Ok(())
+}
+
+type Socket = Arc<SharedSocket, Global>;
+
+type Taken<'a> = StopListener<'a, HostRuntime, SharedListener<TcpListen>>;
+
+// A socket at a port that was free.
+fn socket(rt: &HostRuntime) -> Result<Socket, Fail> {
+    match bind(rt.alloc(), rt, "127.0.0.1:0")? {
+        Some(socket) => Ok(socket),
+        None => Err(Fail::from(io::Error::from(ErrorKind::AddrInUse))),
+    }
+}
+
+// Two listeners over the socket, until the stop file is there.
+fn two<'a>(
+    rt: &'a HostRuntime,
+    path: &'a str,
+    socket: &Socket,
+) -> Result<(Taken<'a>, Taken<'a>), Fail> {
+    let alloc = rt.alloc();
+    let bound = share(alloc, &Some(socket.clone()?), 2, 9)?;
+    let mut all = until_stopped(alloc, rt, Some(path), bound)?;
+    match (all.pop(), all.pop()) {
+        (Some(first), Some(second)) => Ok((first, second)),
+        _ => Err(Fail::from(io::Error::from(ErrorKind::NotFound))),
+    }
+}
+
+fn connect(rt: &HostRuntime, socket: &Socket) -> io::Result<TcpStream> {
+    TcpStream::connect(rt, socket.listening.local_addr()?)
+}
+
+// Whether somebody who connects is refused at once.
+fn is_refused(rt: &HostRuntime, socket: &Socket) -> bool {
+    match connect(rt, socket) {
+        Err(error) => error.kind() == ErrorKind::ConnectionRefused,
+        Ok(_) => false,
+    }
+}
+
+#[test]
+fn a_stop_that_one_listener_sees_closes_the_socket_of_all(rt: HostRuntime) -> Result<(), Fail> {
+    const PATH: &str = "mokdrai_test_stop_of_all";
+    no_file(&rt, PATH)?;
+    let socket = socket(&rt)?;
+    let (mut busy, mut idle) = two(&rt, PATH, &socket)?;
+    let mut client = connect(&rt, &socket)?;
+    let Ok(Accepted::Link(mut link)) = busy.accept() else {
+        return Err(Fail::from(io::Error::from(ErrorKind::NotConnected)));
+    };
+    fs::write(&rt, PATH, b"".as_slice())?;
+    let _woken = connect(&rt, &socket)?;
+    assert_eq!(rt; takes_one(&mut idle), Ok(false));
+    fs::remove_file(&rt, PATH)?;
+    assert!(rt; is_refused(&rt, &socket));
+    client.write_all(b"ask!".as_slice())?;
+    let mut into = [0u8; 4];
+    assert_eq!(rt; read_link(&mut link, &mut into), Ok(4));
+    assert!(rt; write_link(&mut link, b"fine").is_ok());
+    client.read_exact(&mut into)?;
+    assert_eq!(rt; into, *b"fine");
+    busy.finish(link);
+    assert_eq!(rt; takes_one(&mut busy), Ok(false));
+    Ok(())
+}
+
+#[test]
+fn a_byte_closes_the_socket_with_nobody_in_an_accept(rt: HostRuntime) -> Result<(), Fail> {
+    const PATH: &str = "mokdrai_test_no_stop";
+    no_file(&rt, PATH)?;
+    let socket = socket(&rt)?;
+    let (mut first, mut second) = two(&rt, PATH, &socket)?;
+    close_at_byte(b"".as_slice(), &socket);
+    let _client = connect(&rt, &socket)?;
+    assert_eq!(rt; takes_one(&mut first), Ok(true));
+    close_at_byte(b"\n".as_slice(), &socket);
+    assert!(rt; is_refused(&rt, &socket));
+    assert_eq!(rt; takes_one(&mut first), Ok(false));
+    assert_eq!(rt; takes_one(&mut second), Ok(false));
+    Ok(())
+}
+
+#[test]
+fn the_last_listener_that_is_let_go_closes_the_socket(rt: HostRuntime) -> Result<(), Fail> {
+    const PATH: &str = "mokdrai_test_never_stopped";
+    no_file(&rt, PATH)?;
+    let socket = socket(&rt)?;
+    let (first, second) = two(&rt, PATH, &socket)?;
+    drop(first);
+    assert!(rt; connect(&rt, &socket).is_ok());
+    drop(second);
+    assert!(rt; is_refused(&rt, &socket));
+    Ok(())
+}
+
+#[test]
+fn an_address_that_can_not_be_bound_makes_each_accept_fail(rt: HostRuntime) -> Result<(), Fail> {
+    let alloc = rt.alloc();
+    let none = bind(alloc, &rt, "no address")?;
+    assert!(rt; none.is_none());
+    for mut one in share(alloc, &none, 2, 9)? {
+        assert_eq!(rt; takes_one(&mut one), Err(OutFault::Failed));
+    }
     Ok(())
 }

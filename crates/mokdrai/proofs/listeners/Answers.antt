@@ -11,7 +11,7 @@ returns-in-Some-clause-count g c = λ keys base ask row.
 pub returns-in-Some-clause-each : goal.returns-in-Some-clause-each
 returns-in-Some-clause-each g c = λ keys base ask row.
     let is = (c.serve_ask.ensures ask).1 (keys, base, row) in let same : c.in-Some.ask ≡ ask = cc is in
-    subst (λ (a : ServeAsk). IfOk c.listen.result (λ all. AllByRecursion (λ one. IfSome one.listener (λ own. (own.most ≡ a.each) × (own.accepted ≡ 0))) all.items)) same
+    subst (λ (a : ServeAsk). IfOk c.listen.result (λ all. AllByRecursion (λ one. IfSome one.listener (λ own. (own.listener.most ≡ a.each) × (own.listener.accepted ≡ 0))) all.items)) same
     c.listen.ensures.each
 
 pub returns-in-None-clause-count : goal.returns-in-None-clause-count

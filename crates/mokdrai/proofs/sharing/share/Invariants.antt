@@ -1,0 +1,6 @@
+use Rattle.std.proofs.Common.{◌≡◌, vec_len}
+use Rattle.std.specs.List.{AllByRecursion}
+use Rattle.mokdrai.proofs.sharing.share.Given as goal
+
+abbrev pub invariant-loop : goal.invariant-loop
+invariant-loop l = (vec_len l.all ≡ l.counter) × AllByRecursion (λ one. (one.listener.most ≡ l.most) × (one.listener.accepted ≡ 0)) l.all.items
