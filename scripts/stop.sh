@@ -2,9 +2,10 @@
 # Shows that a signal ends a `serve` in order: scripts/stop.sh [PROGRAM]
 #
 # Starts PROGRAM (./mokdrai where it is left out) over a folder and a port of its own, with a connection that is in
-# the middle of a save when the signal comes, and finishes that save. The reply has to come, the save has to stand in
-# the folder and in the journal, no other connection may be served, and the status has to be 0. SIGTERM goes to the
-# script alone and to its group, as supervisors send it, SIGINT to the group, as a terminal sends it, and each also
+# the middle of a save when the signal comes, and finishes that save. Meanwhile who connects has to be refused at once,
+# and who waited for a worker has to be closed, also while every worker is busy. The reply has to come, the save has to
+# stand in the folder and in the journal, no other connection may be served, and the status has to be 0. SIGTERM goes to
+# the script alone and to its group, as supervisors send it, SIGINT to the group, as a terminal sends it, and each also
 # twice; SIGHUP and SIGQUIT go once. At last signals come before or as the host begins. It is no part of the gate.
 set -um
 top=$(cd "$(dirname "$(readlink -f "${BASH_SOURCE[0]}")")/.." && pwd)
@@ -64,6 +65,26 @@ begin_save() {
   printf 'POST %s HTTP/1.1\r\nHost: h\r\nX-WOPI-Override: PUT\r\nX-WOPI-Lock: L1\r\nContent-Length: 6\r\n\r\nhal' "$contents" >&3
 }
 
+# Keeps the other worker busy by a connection that stays open after a reply, and lets somebody wait for a worker.
+keep_other() {
+  exec 5<>"/dev/tcp/127.0.0.1/$port"
+  printf 'GET /wopi/files/612e637376?access_token=%s HTTP/1.1\r\nHost: h\r\n\r\n' "$token" >&5
+  IFS= read -r -t 30 -u 5 status_line
+  check 'the reply at the other worker' 'HTTP/1.1 200 OK' "${status_line%$'\r'}"
+  exec 6<>"/dev/tcp/127.0.0.1/$port"
+  printf 'GET / HTTP/1.1\r\nHost: h\r\n\r\n' >&6
+}
+
+# What somebody gets who waited for a worker when the signal came.
+read_waiting() {
+  timeout 2 cat <&6 2>/dev/null
+  [ $? -ne 124 ] || echo nothing yet
+}
+
+let_other_go() {
+  exec 5>&- 6>&-
+}
+
 finish_save() {
   printf 'ves' >&3
   read_reply
@@ -71,36 +92,44 @@ finish_save() {
   exec 3>&-
 }
 
-# What somebody gets who comes after the signal.
-ask_late() {
-  (
-    exec 4<>"/dev/tcp/127.0.0.1/$port" || exit
-    printf 'GET / HTTP/1.1\r\nHost: h\r\n\r\n' >&4
-    timeout 2 cat <&4
-  ) 2>/dev/null
+# How a connect ends after the signal.
+connect_late() {
+  local said
+  if said=$(LC_ALL=C timeout 2 bash -c ": <>/dev/tcp/127.0.0.1/$port" 2>&1); then
+    echo connected
+  elif [[ $said == *'Connection refused'* ]]; then
+    echo refused
+  else
+    echo "$said"
+  fi
 }
 
-# One run: its name, and the signals, each with the processes that it goes to.
+# One run: its name, how many of the two workers are busy, and the signals, each with the processes that it goes to.
 run() {
-  local name=$1 signal to
-  shift
+  local name=$1 busy=$2 signal to
+  shift 2
   echo "$name"
   begin_host
   begin_save
+  [ "$busy" -lt 2 ] || keep_other
   for signal in "$@"; do
     to=$host
     [ "${signal#*:}" = group ] && to=-$host
     kill -s "${signal%:*}" -- "$to"
     sleep 0.5
   done
-  check 'a later connection' '' "$(ask_late)"
+  check 'a later connect' refused "$(connect_late)"
+  if [ "$busy" -eq 2 ]; then
+    check 'who waited for a worker' '' "$(read_waiting)"
+    let_other_go
+  fi
   kill -0 "$host" 2>/dev/null || check 'the host before the save is whole' runs ended
   finish_save
   wait "$host"
   check 'the status' 0 $?
   check 'the file' halves "$(cat "$room/files/a.csv")"
   check "the journal's entries" 'lock put' "$(awk '$7 == "lock" || $7 == "put" { print $7 }' "$room/journal" | xargs)"
-  check "the journal's end" 'end 2' "$(tail -n 1 "$room/journal")"
+  check "the journal's end" "end $((busy + 1))" "$(tail -n 1 "$room/journal")"
   check 'the notes' '' "$(cat "$room/notes")"
 }
 
@@ -116,13 +145,15 @@ run_early() {
 }
 
 token=$("$program" token "$key" ann a.csv w 1 253402300000000 253402300799999) || exit 1
-run 'SIGTERM to the script' TERM:script
-run 'SIGTERM to the group' TERM:group
-run 'SIGINT to the group' INT:group
-run 'SIGHUP to the script' HUP:script
-run 'SIGQUIT to the group' QUIT:group
-run 'SIGTERM to the script, twice' TERM:script TERM:script
-run 'SIGINT to the group, twice' INT:group INT:group
+run 'SIGTERM to the script' 1 TERM:script
+run 'SIGTERM to the group' 1 TERM:group
+run 'SIGINT to the group' 1 INT:group
+run 'SIGHUP to the script' 1 HUP:script
+run 'SIGQUIT to the group' 1 QUIT:group
+run 'SIGTERM to the script, twice' 1 TERM:script TERM:script
+run 'SIGINT to the group, twice' 1 INT:group INT:group
+run 'SIGTERM to the script, with every worker busy' 2 TERM:script
+run 'SIGINT to the group, twice, with every worker busy' 2 INT:group INT:group
 echo 'SIGTERM within half a second'
 for seconds in 0.05 0.1 0.15 0.2 0.25 0.3 0.35 0.4 0.45 0.5; do
   run_early "$seconds"

@@ -4,7 +4,7 @@ use Rattle.std.proofs.lemmas.List.{map-append}
 use Rattle.std.specs.List.{AllByRecursion}
 use Rattle.std.specs.Prelude.{IfOk, IfSome, IsSome}
 use Rattle.outside.specs.declared.listener.Accepted.TheVariants.{Link, Closed}
-use Rattle.mokdrai.specs.Stopping.{Answers, AreOver, PassesOn, TakesBack, TurnsAway}
+use Rattle.mokdrai.specs.Stopping.{Answers, AreOver, PassesOn, TakesBack}
 
 module _ {N L P : Type 0} (links_left finished_links : N → Option (List L)) (accepted finished faults : N → ℕ) where
   -- it was handed back, and that ends the listener

@@ -1,5 +1,5 @@
 -- What a listener that can be stopped tells.
-use Rattle.std.specs.Prelude.{◌≡◌, ◌≢◌, ◌≤◌, ◌⊎◌, ⊤, ℕ, ◌+◌, List, [], ◌∷◌, Option, None, Some, IfSome, OnOk, IsErrOf, Result, Ok, Err}
+use Rattle.std.specs.Prelude.{◌≡◌, ◌≢◌, ◌≤◌, ◌⊎◌, ⊤, ℕ, ◌+◌, List, [], ◌∷◌, Option, None, IfSome, OnOk, IsErrOf, Result, Ok, Err}
 use Rattle.outside.specs.declared.faults.OutFault.{OutFault}
 use Rattle.outside.specs.declared.faults.OutFault.TheVariants.{Failed}
 use Rattle.outside.specs.declared.listener.Accepted.{Accepted}
