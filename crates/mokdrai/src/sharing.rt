@@ -229,8 +229,8 @@ pub(crate) fn close_at_byte<I: Read + Drop>(mut from: I, socket: &SharedSocket) 
     }
 }
 
-/// Does so in a thread of its own, which nobody waits for, with what it reads at the path. Where
-/// that can't be opened or no thread can be made, nothing is done.
+/// Has `close_at_byte` wait for what comes at the path, in a thread that nobody joins. Where the path
+/// can't be opened or no thread can be made, nothing does. A pipe is opened once somebody writes to it.
 pub(crate) fn close_later<R: Files<File = File> + Threads>(
     rt: &R,
     path: Option<&str>,
