@@ -1,4 +1,4 @@
-use Rattle.std.proofs.Common.{◌≡◌, ℕ, List, map, string_bytes, vec_len, length, ap, sym, subst, ◌∙◌, arith}
+use Rattle.std.proofs.Common.{ℕ, List, map, string_bytes, ap, sym, subst, ◌∙◌, arith}
 use Rattle.wopi_program.specs.declared.command.Command.TheVariants.{Once}
 use Rattle.wopi_program.specs.ServeWords.{IsServeRow}
 use Rattle.wopi_program.specs.Words.{IsRow}
