@@ -1,4 +1,4 @@
-use crate::sharing::{SharedListener, SharedSocket, bind, close_at_byte, share};
+use crate::sharing::{SharedListener, SharedSocket, bind, close_at_byte, close_later, share};
 use crate::stopping::{StopListener, no_path, until_stopped};
 use crate::unread;
 use outside::{
@@ -33,16 +33,20 @@ fn want_of_memory_for_the_stop_file_is_no_missing_path(rt: HostRuntime) -> Resul
     Ok(())
 }
 
-// A listener in memory with so many empty links, whose third accept fails.
-fn wires(alloc: Global, count: usize) -> Result<SharedListener<MemListener<Wire>>, Fail> {
+// A listener in memory with so many empty links, some of whose accepts fail.
+fn links(alloc: Global, count: usize, failing: &[u64]) -> Result<MemListener<Wire>, Fail> {
     let mut links = Vec::new(alloc);
     for _ in 0..count {
         let input = MemSource::new(Bytes::from_vec(Vec::new(alloc)), 1, Vec::new(alloc));
         let output = MemSink::new(alloc, 0, Vec::new(alloc))?;
         links.push(Pair::new(input, output))?;
     }
-    let listener = MemListener::new(alloc, links, [3u64].as_slice().to_vec(alloc)?)?;
-    Ok(SharedListener::new(listener, None))
+    Ok(MemListener::new(alloc, links, failing.to_vec(alloc)?)?)
+}
+
+// One that shares no socket, and whose third accept fails.
+fn wires(alloc: Global, count: usize) -> Result<SharedListener<MemListener<Wire>>, Fail> {
+    Ok(SharedListener::new(links(alloc, count, &[3])?, None))
 }
 
 // Whether a link was accepted; it is finished at once.
@@ -180,6 +184,50 @@ fn a_byte_closes_the_socket_with_nobody_in_an_accept(rt: HostRuntime) -> Result<
     assert!(rt; is_refused(&rt, &socket));
     assert_eq!(rt; takes_one(&mut first), Ok(false));
     assert_eq!(rt; takes_one(&mut second), Ok(false));
+    Ok(())
+}
+
+#[test]
+fn a_byte_at_a_path_ends_an_accept_that_waits(rt: HostRuntime) -> Result<(), Fail> {
+    const PATH: &str = "mokdrai_test_byte";
+    let socket = socket(&rt)?;
+    let (mut first, mut second) = two(&rt, "mokdrai_test_none", &socket)?;
+    fs::write(&rt, PATH, b"\n".as_slice())?;
+    close_later(&rt, Some(PATH), &Some(socket.clone()?))?;
+    assert_eq!(rt; takes_one(&mut first), Ok(false));
+    assert_eq!(rt; takes_one(&mut second), Ok(false));
+    assert!(rt; is_refused(&rt, &socket));
+    fs::remove_file(&rt, PATH)?;
+    Ok(())
+}
+
+#[test]
+fn a_socket_stays_open_from_link_to_link(rt: HostRuntime) -> Result<(), Fail> {
+    const PATH: &str = "mokdrai_test_stays_open";
+    no_file(&rt, PATH)?;
+    let socket = socket(&rt)?;
+    let (mut first, mut second) = two(&rt, PATH, &socket)?;
+    for _ in 0..3 {
+        let _one = connect(&rt, &socket)?;
+        let _other = connect(&rt, &socket)?;
+        assert_eq!(rt; takes_one(&mut first), Ok(true));
+        assert_eq!(rt; takes_one(&mut second), Ok(true));
+    }
+    assert!(rt; connect(&rt, &socket).is_ok());
+    Ok(())
+}
+
+#[test]
+fn a_fault_is_the_end_only_where_the_socket_was_closed(rt: HostRuntime) -> Result<(), Fail> {
+    let alloc = rt.alloc();
+    let socket = socket(&rt)?;
+    let own = links(alloc, 2, &[2, 4])?;
+    let mut listener = SharedListener::new(own, Some(socket.clone()?));
+    assert_eq!(rt; takes_one(&mut listener), Ok(true));
+    assert_eq!(rt; takes_one(&mut listener), Err(OutFault::Failed));
+    socket.close();
+    assert_eq!(rt; takes_one(&mut listener), Ok(true));
+    assert_eq!(rt; takes_one(&mut listener), Ok(false));
     Ok(())
 }
 
