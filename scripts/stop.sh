@@ -104,6 +104,12 @@ connect_late() {
   fi
 }
 
+# The status of a second host over the same folder, at a port of its own.
+begin_second() {
+  "$program" serve "$room/files" $((port + 10000)) "$key" http://localhost 1 >/dev/null 2>&1 </dev/null
+  echo $?
+}
+
 # One run: its name, how many of the two workers are busy, and the signals, each with the processes that it goes to.
 run() {
   local name=$1 busy=$2 signal to
@@ -119,6 +125,7 @@ run() {
     sleep 0.5
   done
   check 'a later connect' refused "$(connect_late)"
+  check 'the status of a second host' 5 "$(begin_second)"
   if [ "$busy" -eq 2 ]; then
     check 'who waited for a worker' '' "$(read_waiting)"
     let_other_go
