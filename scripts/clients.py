@@ -350,7 +350,9 @@ def ended_under_load(program, room):
 def taken(program, room):
     host = Host(program, room, 1)
     connect(host.port).close()
-    other = Host(program, room, 2, host.port)
+    beside = os.path.join(room, "beside")
+    os.mkdir(beside)
+    other = Host(program, beside, 2, host.port)
     must(other.end(10, signalled=False) == [], "other entries")
     link = host.connection()
     must(ask(link, None, None, "/contents", "GET") == b"1,2\n", "other contents")
