@@ -3,10 +3,10 @@
 
 Runs PROGRAM (the built program of crates/mokdrai where it is left out: it has to be a program, and no script) over
 folders and ports of its own, once for each place at which something is refused: `once` at a lock and at a save,
-`replay` at a late save, `edit` at two saves, `serve` at one lock, and `token`. What is refused is the N-th call of malloc,
-calloc or realloc, or the N-th of those on files and streams, by a shim that this script has cc compile and the loader
-put before the C library; where a command makes no N-th such call, its next case comes, at the latest after MOST places
-(2,000 where it is left out).
+`replay` at a late save, `edit` at two saves, `serve` at one lock, `token`, and `upgrade` of three entries. What is
+refused is the N-th call of malloc, calloc or realloc, or the N-th of those on files and streams, by a shim that this
+script has cc compile and the loader put before the C library; where a command makes no N-th such call, its next case
+comes, at the latest after MOST places (2,000 where it is left out).
 
 Each run has to end by a status of its command with that status's line on the notes, its output has to be a front of
 what it is where nothing is refused, or to have a 503 or a 500 in place of a reply, the file has to have its old bytes or
@@ -132,6 +132,13 @@ SCHEDULE = (b"file 612e637376 312c320a\nsession 612e637376 n 9000000\nopen 1\nde
             b"deliver 3 0\nanswer 3\nsave 1 41\nlose 1\nlose 1\nlose 1\nsave 1 42\ndeliver 7 10\nanswer 4\ndeliver 8 11\n"
             b"answer 5\ndeliver 4 12\n")
 SCRIPT = b"open\nset 1 2 9\nsave\nset 1 1 7\nsave\nclose\n"
+LAST_YEAR = b"""wopi journal 1 opened 0
+file 612e637376 312c320a
+1 11 0 5 612e637376 lock 4c31 ann.612e637376.w.2.0.9000000 200 - - v1 -
+2 11 0 9 612e637376 put 4c31 2 ann.612e637376.w.2.0.9000000 200 - - v2 3432
+3 11 1 7 612e637376 lock 4232 bob.612e637376.w.3.0.9000000 409 4c31 locked - -
+end
+"""
 WORDS = ["token", KEY, "ann", "a.csv", "w", "1", "253402300000000", "253402300799999"]
 
 
@@ -327,6 +334,17 @@ def written(room):
     return status
 
 
+def upgraded(room):
+    status, output, notes = room.run(["upgrade"], LAST_YEAR)
+    is_told(status, notes, (0, 3, 4, 6))
+    whole = room.run(["upgrade"], LAST_YEAR, refusing=False)[1]
+    must(whole.startswith(b"wopi journal 2 ") and whole.startswith(output), f"another journal: {output[:80]}")
+    must(status != 0 or output == whole, "status 0, and a part of the journal")
+    must(status != 6 or not output, "want of memory after a part of the journal")
+    must(room.kept() == OLD, "other contents")
+    return status
+
+
 CASES = {
     "once, at a lock": locked_once,
     "once, at a save": saved_once,
@@ -334,6 +352,7 @@ CASES = {
     "edit": edited,
     "serve": served,
     "token": written,
+    "upgrade": upgraded,
 }
 
 
