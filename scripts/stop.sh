@@ -6,7 +6,8 @@
 # and who waited for a worker has to be closed, also while every worker is busy. The reply has to come, the save has to
 # stand in the folder and in the journal, no other connection may be served, and the status has to be 0. SIGTERM goes to
 # the script alone and to its group, as supervisors send it, SIGINT to the group, as a terminal sends it, and each also
-# twice; SIGHUP and SIGQUIT go once. At last signals come before or as the host begins. It is no part of the gate.
+# twice; SIGHUP and SIGQUIT go once. At last signals come before or as the host begins. A second host over the folder,
+# begun meanwhile, has to end with status 5. It is no part of the gate.
 set -um
 top=$(cd "$(dirname "$(readlink -f "${BASH_SOURCE[0]}")")/.." && pwd)
 program=$(readlink -f "${1:-$top/mokdrai}")
