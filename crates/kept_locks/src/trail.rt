@@ -22,7 +22,7 @@ pub struct Trail {
 }
 
 /// The trail after a step at that moment.
-fn step_to(chains: &mut SpentChains, trail: Trail, now: u64) -> Trail
+pub fn step_to(chains: &mut SpentChains, trail: Trail, now: u64) -> Trail
     requires live { IsLive chains.old trail.chain }
     ensures goes { Goes chains.old chains.new trail result (still_spent (shown_of chains.old trail) now) }
     ensures tells { TellsOn chains.old chains.new trail result }
