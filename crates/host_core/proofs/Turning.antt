@@ -1,5 +1,5 @@
 -- What a step makes of the locks.
-use Rattle.std.proofs.Common.{◌≡◌, ◌≢◌, inl, inr, ◌<◌, ◌≤◌, ℕ, zero, suc, Bool, true, false, if◌then◌else◌, List, [], ◌∷◌, ◌++◌, length, Option, None, Some, option_map, unwrap_or, nat_le, ◌+◌, refl, sym, ap, subst, ◌∙◌, arith, slice_get}
+use Rattle.std.proofs.Common.{◌≡◌, ◌≢◌, inl, inr, ◌<◌, ◌≤◌, ℕ, zero, suc, Bool, true, false, if◌then◌else◌, List, [], ◌∷◌, ◌++◌, length, Option, None, Some, is_some, option_map, unwrap_or, nat_le, ◌+◌, refl, sym, ap, subst, ◌∙◌, arith, slice_get}
 use Rattle.std.proofs.lemmas.Bool.Decides.{eqb_tells, nat_tests}
 use Rattle.std.proofs.lemmas.Option.{slice_get-map, none-some}
 use Rattle.std.specs.Str.{bytes_eq}
@@ -7,12 +7,21 @@ use Rattle.wopi_model.specs.declared.locks.Lock.{Lock}
 use Rattle.wopi_model.specs.declared.locks.Spent.{Spent}
 use Rattle.wopi_model.specs.declared.locks.LockAct.{LockAct}
 use Rattle.wopi_model.specs.declared.locks.LockAct.TheVariants as asks
-use Rattle.wopi_model.specs.LockTable.{lock_after, spent_by}
+use Rattle.wopi_model.specs.declared.calls.Act.{Act}
+use Rattle.wopi_model.specs.declared.calls.Act.TheVariants as acts
+use Rattle.wopi_model.specs.Act.{lock_act}
+use Rattle.wopi_model.specs.File.{File}
+use Rattle.wopi_model.specs.LockTable.{lock_after}
+use Rattle.std.specs.Option.{option_and_then}
+use Rattle.lock_machine.specs.Changes.{held_as, left_by, spent_as, taken_by}
+use Rattle.lock_machine.specs.declared.change.Change.{Change}
+use Rattle.lock_machine.specs.declared.change.Change.TheVariants as change
 use Rattle.wopi_model.specs.Moment.{lock_life}
 use Rattle.wopi_model.specs.Settle.{standing, is_over}
 use Rattle.kept_locks.specs.Locks.{Standing, Locks, unlocked, ended_at, all_ended, stepped, with_lock}
-use Rattle.kept_locks.specs.Ties.{BeganBy, GoesOn, Spends}
-use Rattle.host_core.specs.Turns.{LockFollows, SpendsOf, Ends, AllStand, AreAsOf}
+use Rattle.kept_locks.specs.Ties.{BeganBy, GoesOn, Spends, renewed, renewed_at}
+use Rattle.host_core.specs.Effects.{taken_of}
+use Rattle.host_core.specs.Turns.{LockFollows, SpendsOf, AllStand, AreAsOf}
 use Rattle.host_core.specs.Whole.{standing_at}
 use Rattle.host_core.proofs.Joining.{stands_at, stands_ended}
 
@@ -33,16 +42,6 @@ follows_after (Some lock) (asks.Unlock id) expires now = tt
 follows_after (Some lock) (asks.Relock old id) expires now = relocked lock (bytes_eq old id) _ _ now refl refl
 follows_after (Some lock) (asks.Put id empty) expires now = inl refl
 follows_after (Some lock) _ expires now = inl refl
-
-spends_if : (old : Lock) (b : Bool) (one : Spent) → SpendsOf (Some old) (if b then None else Some one)
-spends_if old true one = tt
-spends_if old false one = tt
-
-pub spends_by : (lock : Option Lock) (asked : LockAct) (expires : ℕ) → SpendsOf lock (spent_by lock asked expires)
-spends_by None _ expires = tt
-spends_by (Some lock) (asks.Unlock id) expires = tt
-spends_by (Some lock) (asks.Relock old id) expires = spends_if lock (bytes_eq old id) _
-spends_by (Some lock) _ expires = tt
 
 stood : (lock : Option Lock) (now : ℕ) (one : Lock) → standing lock now ≡ Some one → lock ≡ Some one
 stood None now one e = absurd (cc)
@@ -139,11 +138,73 @@ new_by ss number now (Some lock) lt began follows one e = go (standing (standing
   go (Some held) is (inr h) = omega (arith, same, h)
 
 -- what an act leaves of the lock that stands
-pub ends_by : (old lock : Option Lock) (spend : Option Spent) (asked : LockAct) (expires now : ℕ) → lock ≡ lock_after (standing old now) asked expires now → spend ≡ spent_by (standing old now) asked expires → Ends old (record { lock = lock; spend = spend }) now
-ends_by old lock spend asked expires now after spends = record {
-  lock = subst (λ (l : Option Lock). LockFollows (standing old now) l now) (sym after) (follows_after (standing old now) asked expires now);
-  spend = subst (λ (s : Option Spent). SpendsOf (standing old now) s) (sym spends) (spends_by (standing old now) asked expires);
-}
+pub ends_by : (old lock : Option Lock) (asked : LockAct) (expires now : ℕ) → lock ≡ lock_after (standing old now) asked expires now → LockFollows (standing old now) lock now
+ends_by old lock asked expires now after = subst (λ (l : Option Lock). LockFollows (standing old now) l now) (sym after) (follows_after (standing old now) asked expires now)
+
+-- an id is spent only of a lock that stands
+pub spends_as : (old : Option Lock) (until : Option ℕ) → SpendsOf old (spent_as old until)
+spends_as None until = tt
+spends_as (Some held) None = tt
+spends_as (Some held) (Some until) = tt
+
+-- so is it of what stands under a number
+pub spends_at : (ss : List Standing) (number : ℕ) (until : Option ℕ) → number < length ss → Spends ss number (spent_as (standing_at ss number).lock until)
+spends_at ss number until lt = go (standing_at ss number).lock refl until where
+  go : (lock : Option Lock) → (standing_at ss number).lock ≡ lock → (end : Option ℕ) → Spends ss number (spent_as lock end)
+  go None e end = tt
+  go (Some held) e None = tt
+  go (Some held) e (Some moment) = (standing_at ss number, held, stands_at ss number lt, e)
+
+spent_none : (lock : Option Lock) → spent_as lock None ≡ None
+spent_none None = refl
+spent_none (Some held) = refl
+
+-- the lock that goes on under its id
+renewed_stands : (since until number : ℕ) (ss : List Standing) → number < length ss
+    → renewed_at since until number ss ≡ option_map (λ held. held_as since until held.id) (standing_at ss number).lock
+renewed_stands since until number ss lt = ap (λ (o : Option Standing). option_and_then (λ file. option_map (renewed since until) file.lock) o) (stands_at ss number lt)
+
+-- what becomes of a lock, where those that are over have ended
+pub left_ended : (old : List Standing) (number now : ℕ) (becomes : Change) (taken : Option (List ℕ))
+    → left_by becomes (standing_at (all_ended now old) number).lock taken ≡ left_by becomes (standing (standing_at old number).lock now) taken
+left_ended old number now becomes taken = ap (λ (s : Standing). left_by becomes s.lock taken) (stands_ended now old number)
+
+pub spent_ended : (old : List Standing) (number now : ℕ) (until : Option ℕ) → spent_as (standing_at (all_ended now old) number).lock until ≡ spent_as (standing (standing_at old number).lock now) until
+spent_ended old number now until = ap (λ (s : Standing). spent_as s.lock until) (stands_ended now old number)
+
+no_moment : (until : Option ℕ) → is_some until ≡ false → until ≡ None
+no_moment None e = refl
+no_moment (Some moment) e = absurd (cc)
+
+-- a lock that goes on under its id, and spends nothing
+pub renewed_with : (ss : List Standing) (number since until now : ℕ) (becomes : Change) (taken : Option (List ℕ)) (spend : Option ℕ) → number < length ss
+    → becomes ≡ change.GoesOn since until → is_some spend ≡ false
+    → with_lock ss number (renewed_at since until number ss) None now ≡ with_lock ss number (left_by becomes (standing_at ss number).lock taken) (spent_as (standing_at ss number).lock spend) now
+renewed_with ss number since until now becomes taken spend lt is none =
+    let held = (standing_at ss number).lock in
+    let lock : left_by becomes held taken ≡ renewed_at since until number ss =
+    ap (λ (c : Change). left_by c held taken) is ∙ sym (renewed_stands since until number ss lt) in
+    let spent : spent_as held spend ≡ None = ap (spent_as held) (no_moment spend none) ∙ spent_none held in
+    ap (λ (l : Option Lock). with_lock ss number l None now) (sym lock) ∙ ap (λ (s : Option Spent). with_lock ss number (left_by becomes held taken) s now) (sym spent)
+
+pub renewed_goes : (ss : List Standing) (number since until : ℕ) (becomes : Change) (taken : Option (List ℕ)) → number < length ss
+    → becomes ≡ change.GoesOn since until → GoesOn ss number (left_by becomes (standing_at ss number).lock taken) → GoesOn ss number (renewed_at since until number ss)
+renewed_goes ss number since until becomes taken lt is goes =
+    subst (GoesOn ss number) (ap (λ (c : Change). left_by c (standing_at ss number).lock taken) is ∙ sym (renewed_stands since until number ss lt)) goes
+
+-- the id that an act takes, as the lock table sees it
+pub taken_same : (file : File) (asked : Act) → taken_by (lock_act file asked) ≡ taken_of asked
+taken_same file (acts.Lock id) = refl
+taken_same file (acts.Relock old id) = refl
+taken_same file acts.Info = refl
+taken_same file (acts.Get most) = refl
+taken_same file (acts.Put lock contents) = refl
+taken_same file acts.GetLock = refl
+taken_same file (acts.Refresh id) = refl
+taken_same file (acts.Unlock id) = refl
+taken_same file acts.Look = refl
+taken_same file (acts.Create overwrite contents) = refl
+taken_same file acts.Delete = refl
 
 -- what stands at a moment stands there
 pub stands_twice : (lock : Option Lock) (now : ℕ) → standing (standing lock now) now ≡ standing lock now

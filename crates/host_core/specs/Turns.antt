@@ -3,6 +3,7 @@ use Rattle.std.specs.Prelude.{◌≡◌, ◌≢◌, ◌⊎◌, ⊤, ℕ, ◌+◌
 use Rattle.wopi_model.specs.declared.locks.Lock.{Lock}
 use Rattle.wopi_model.specs.declared.locks.Spent.{Spent}
 use Rattle.wopi_model.specs.Settle.{standing}
+use Rattle.lock_machine.specs.Changes.{left_by}
 use Rattle.kept_locks.specs.Locks.{Standing, Locks, AreChained, ended_at}
 use Rattle.kept_locks.specs.Ties.{BeganBy}
 use Rattle.host_core.specs.Whole.{standing_at}
@@ -33,10 +34,9 @@ SpendsOf old None = ⊤
 SpendsOf None (Some spent) = ⊥
 SpendsOf (Some old) (Some spent) = ⊤
 
--- what a step may make of a lock
-pub record Ends (old : Option Lock) (effect : Effect) (now : ℕ) : Type 0 where
-  pub lock : LockFollows (standing old now) effect.lock now
-  pub spend : SpendsOf (standing old now) effect.spend
+-- what a step may make of a lock, where that id is taken
+abbrev pub Ends : Option Lock → Option (List ℕ) → Effect → ℕ → Type 0
+Ends old taken effect now = LockFollows (standing old now) (left_by effect.change (standing old now) taken) now
 
 -- no lock is there that is over at that moment
 abbrev pub AllStand : ℕ → List Standing → Type 0

@@ -1,18 +1,18 @@
 //! The lock of one file: when it ends, and which acts it lets through.
 //!
 //! [`settle`] says what the passing of time leaves of a lock. Of an act on a file whose lock is
-//! settled [`verdict`] says what the lock table does, [`lock_after`] and [`spent_by`] what it leaves
+//! settled [`verdict`] says what the lock table does, [`change_by`] and [`spent_until`] what it leaves
 //! where the act went through, and [`judge`] all three. All are exact, in both directions: their answers
 //! are those of the definitions of wopi_model. None takes memory, and none refuses. A lock id is long
-//! and lies where it is kept: what only looks at one borrows it, and what begins a lock or spends an
-//! id copies it once.
+//! and lies where it is kept: what only looks at one borrows it, a lock that goes on is told by its
+//! moments, and only what begins a lock or spends an id copies it, once.
 //!
 //! The table follows MS-WOPI's pages on Lock, GetLock, RefreshLock, Unlock, UnlockAndRelock, PutFile,
 //! PutRelativeFile and DeleteFile. That an id which has ended is refused for a while is a rule of
 //! this project: for so long a delayed request can't take effect under a lock that has ended.
 #![tactic(auto)]
 
-ghost use Rattle.std.specs.Prelude.{◌≡◌, false, None, Some, IfSome, max, option_map};
+ghost use Rattle.std.specs.Prelude.{◌≡◌, false, None, Some, IfSome, option_map};
 ghost use Rattle.wopi_model.specs.Moment.{IsMoment};
 ghost use Rattle.wopi_model.specs.Settle.{standing, expired, is_over};
 ghost use Rattle.wopi_model.specs.LockTable.{judged};
@@ -21,8 +21,10 @@ ghost use Rattle.wopi_model.specs.declared.locks.Verdict.TheVariants as says;
 ghost use Rattle.lock_machine.specs.Asks.{act_of};
 
 mod ask;
+mod change;
 
 pub use ask::{LockAsk, ask_of};
+pub use change::{Change, change_by, lock_left, spent_left, spent_until, taken_in};
 pub use wopi_model::{Judged, Lock, LockAct, Spent, Verdict};
 use wopi_text::Reason;
 
@@ -125,67 +127,18 @@ fn refuse(reason: Reason) -> Verdict
 
 /// The lock after an act that went through. `expires` is when the token of the act expires, in
 /// milliseconds, and `now` the moment of the act.
-pub fn lock_after(lock: Option<&Lock>, ask: LockAsk<'_>, expires: u64, now: u64) -> Option<Lock>
+fn lock_after(lock: Option<&Lock>, ask: LockAsk<'_>, expires: u64, now: u64) -> Option<Lock>
     ensures { result ≡ table.lock_after (option_map (λ held. held.now) lock.entry) (act_of ask.entry) expires now }
 {
-    match lock {
-        None => lock_begun(ask, expires, now),
-        Some(held) => lock_kept(held, ask, expires, now),
-    }
-}
-
-fn lock_begun(ask: LockAsk<'_>, expires: u64, now: u64) -> Option<Lock>
-    ensures { result ≡ table.lock_after None (act_of ask.entry) expires now }
-{
-    match ask {
-        LockAsk::Lock { id } => Some(Lock {
-            id: id.copy(),
-            since: now,
-            until: expires,
-        }),
-        _ => None,
-    }
-}
-
-fn lock_kept(held: &Lock, ask: LockAsk<'_>, expires: u64, now: u64) -> Option<Lock>
-    ensures { result ≡ table.lock_after (Some held.now) (act_of ask.entry) expires now }
-{
-    match ask {
-        LockAsk::Lock { .. } | LockAsk::Refresh { .. } => Some(refreshed(held, expires, now)),
-        LockAsk::Relock { old, id } if *old == *id => Some(refreshed(held, expires, now)),
-        LockAsk::Relock { id, .. } => Some(Lock {
-            id: id.copy(),
-            since: now,
-            until: expires,
-        }),
-        LockAsk::Unlock { .. } => None,
-        LockAsk::Put { .. } => Some(saved(held, expires)),
-        LockAsk::GetLock | LockAsk::Delete | LockAsk::Create { .. } | LockAsk::Look => {
-            Some(held.copy())
-        }
-    }
+    lock_left(change_by(lock, ask, expires, now), lock, taken_in(ask))
 }
 
 /// The id that an act which went through spends. `expires` is when the token of the act expires, in
 /// milliseconds.
-pub fn spent_by(lock: Option<&Lock>, ask: LockAsk<'_>, expires: u64) -> Option<Spent>
+fn spent_by(lock: Option<&Lock>, ask: LockAsk<'_>, expires: u64) -> Option<Spent>
     ensures { result ≡ table.spent_by (option_map (λ held. held.now) lock.entry) (act_of ask.entry) expires }
 {
-    match lock {
-        None => None,
-        Some(held) => spent_of(held, ask, expires),
-    }
-}
-
-fn spent_of(held: &Lock, ask: LockAsk<'_>, expires: u64) -> Option<Spent>
-    ensures { result ≡ table.spent_by (Some held.now) (act_of ask.entry) expires }
-{
-    match ask {
-        LockAsk::Unlock { .. } => Some(ended(held, held.until)),
-        LockAsk::Relock { old, id } if *old == *id => None,
-        LockAsk::Relock { .. } => Some(ended(held, held.until.max(expires))),
-        _ => None,
-    }
+    spent_left(lock, spent_until(lock, ask, expires))
 }
 
 /// Judges an act by the lock table, where the lock is settled at `now`. `spent` says that an id which
@@ -217,39 +170,6 @@ fn copied(lock: Option<&Lock>) -> Option<Lock>
     match lock {
         None => None,
         Some(held) => Some(held.copy()),
-    }
-}
-
-/// The lock's id as spent.
-fn ended(held: &Lock, until: u64) -> Spent
-    ensures { result ≡ record { id = held.now.id; until = until } }
-{
-    Spent {
-        id: held.id.copy(),
-        until,
-    }
-}
-
-/// The lock, begun anew at `now`.
-fn refreshed(held: &Lock, expires: u64, now: u64) -> Lock
-    ensures { result ≡ table.refreshed held.now expires now }
-{
-    let until = held.until.max(expires);
-    Lock {
-        id: held.id.copy(),
-        since: now,
-        until,
-    }
-}
-
-/// The lock after a save under it.
-fn saved(held: &Lock, expires: u64) -> Lock
-    ensures { result ≡ record held.now { until = max held.now.until expires } }
-{
-    Lock {
-        id: held.id.copy(),
-        since: held.since,
-        until: held.until.max(expires),
     }
 }
 
