@@ -13,7 +13,7 @@ pub struct KeyEntry {
 }
 
 /// The keys in force, whose numbers differ. The current one signs; tokens of either are read. While
-/// a key is exchanged, the one before it stays as the former one, and nobody loses a token.
+/// a key is exchanged, the one before it stays as the former one.
 #[derive(Drop)]
 pub struct Keys {
     pub current: KeyEntry,

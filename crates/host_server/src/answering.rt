@@ -162,7 +162,7 @@ fn answer_ask<C: Caller>(
     }
 }
 
-/// Answers a request as [`answer`] does. A token that was read last isn't read again.
+/// Answers a request as [`answer`] does. A token with the text of the last one isn't read anew.
 pub(crate) fn answer_again<C: Caller>(
     alloc: Global,
     caller: &mut C,

@@ -153,8 +153,8 @@ fn serve_one<C: Caller, L: Link, K: Clock>(
     }
 }
 
-/// Answers the messages of a link in their order. A client that shows one token with all of them has its
-/// code computed once.
+/// Answers the messages of a link in their order. To save computing its code, a token with the text of
+/// the last one that was read isn't read anew.
 pub fn serve_connection<C: Caller, L: Link, K: Clock>(
     alloc: Global,
     caller: &mut C,

@@ -30,10 +30,10 @@ impl Drop for World {
 impl World {
     /// Runs a schedule: its sessions, its host, and the wire between them. The request of each
     /// delivery and of each ask of somebody else goes over the wire once, and so does the reply that
-    /// a session takes. Over a straight wire the shard is never full, and what it leaves always fits into
-    /// the one that opens at a restart; over another wire want of memory stands for files that don't. It
-    /// stands also for a message that wouldn't be read back as it was written: by a schedule's limits none
-    /// should come, and no clause excludes it.
+    /// a session takes. Over a straight wire the shard is never full. That what it leaves fits into the one
+    /// that opens at a restart is a clause of `Stage::lines`; here want of memory stands for files that
+    /// don't. It stands also for a message that wouldn't be read back as it was written: by a schedule's
+    /// limits none should come, and no clause excludes it.
     pub fn run<W: Wire>(alloc: Global, schedule: &Schedule, wire: &mut W) -> Result<World, Memory>
         ensures runs { W.is_straight wire.old ≡ true → IfOk result (IsRunOf schedule.now) }
         ensures safe { IfOk result (λ _. IsSafe (setting_of schedule.now) (world_of schedule.now)) }

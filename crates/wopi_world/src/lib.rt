@@ -6,8 +6,8 @@
 //! something, a request is delivered, once, late, again or never, an answer comes or is lost, time
 //! goes on, somebody else asks, the store fails, the host restarts. What is safe stands in
 //! `specs/Safe.antt`, and under which premises in `specs/Valid.antt`: nonces differ, nobody else
-//! presents a session's ids, and at a restart the clock is later than before and no token that was
-//! used before is issued at it or after.
+//! presents a session's ids, and at a restart the clock is later than before and no token under which
+//! anything was accepted before is issued at it or after.
 //!
 //! A history (`specs/History.antt`) has the runs of the host with the restarts between them. At a
 //! restart the contents stay; locks and spent ids go, the files that are there begin at a version
