@@ -76,13 +76,13 @@ put_back (first ∷ bytes) rest byte some h k = cc (h, k)
 
 -- ---- locks
 
--- a lock id that is visible and no dash
-pub lock_word_is : (id : List ℕ) → (id ≡ codes "-" → ⊥) → All (λ byte. (33 ≤ byte) × (byte ≤ 126)) id → IsLockId id ↔ IsLockWord id
-lock_word_is id no_dash visible = (
-  λ form. record { some = form.not_empty; short = form.short; visible = visible; no_dash = no_dash },
+-- a lock id that is visible, short and no dash
+pub lock_word_is : (id : List ℕ) → (id ≡ codes "-" → ⊥) → length id ≤ 256 → All (λ byte. (33 ≤ byte) × (byte ≤ 126)) id → IsLockId id ↔ IsLockWord id
+lock_word_is id no_dash short visible = (
+  λ form. record { some = form.not_empty; short = short; visible = visible; no_dash = no_dash },
   λ word. record {
     not_empty = word.some;
-    short = word.short;
+    short = omega (arith, short);
     printable = λ i d below. let seen = visible i d below in (omega (arith, seen.0), seen.1);
     first = λ is. let seen = visible 0 0 word.some in absurd (omega (arith, is, seen.0));
     last = λ is. let some = word.some in let seen = visible (length id - 1) 0 (omega (arith, some)) in absurd (omega (arith, is, seen.0));

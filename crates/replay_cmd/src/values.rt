@@ -13,6 +13,9 @@ use wopi_text::{Bytes, LockId, Memory, decimal_read};
 /// Twice the most bytes that a word writes.
 const MOST_DIGITS: usize = 16_384;
 
+/// The most bytes of a lock id in a schedule.
+const MOST_LOCK: usize = 256;
+
 /// Whether the words are the same.
 pub(crate) fn is_word(word: &[u8], other: &[u8]) -> bool
     ensures { IsTrue result ↔ (word.now ≡ other.now) }
@@ -109,12 +112,15 @@ fn is_visible(word: &[u8]) -> bool
     word.iter().all(|byte| (b'!'..=b'~').contains(byte))
 }
 
-/// The lock id that a word is: visible bytes, and not just a dash.
+/// The lock id that a word is: at most 256 visible bytes, and not just a dash.
 pub(crate) fn lock_read(word: &[u8]) -> Option<LockId>
     ensures exact { IsSome result ↔ IsLockWord word.now }
     ensures value { IfSome result (λ id. id ≡ word.now) }
 {
     if is_word(word, b"-".as_slice()) {
+        return None;
+    }
+    if word.len() > MOST_LOCK {
         return None;
     }
     if !is_visible(word) {
