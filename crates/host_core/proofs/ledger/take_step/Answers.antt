@@ -1,9 +1,12 @@
 use Rattle.std.proofs.Common.{◌≡◌, ◌+◌, ℕ, max, ◌∷◌, ◌++◌, [], refl, sym, ap, subst, ◌∙◌, arith}
 use Rattle.host_core.specs.Archive.{AreWithin, StaysKept}
+use Rattle.wopi_model.specs.Settle.{settled}
 use Rattle.host_core.specs.Entries.{Made}
+use Rattle.host_core.specs.Files.{files_of}
 use Rattle.host_core.specs.Ledger.{ended_in, made_by}
 use Rattle.host_core.specs.Steps.{TakesStep}
 use Rattle.host_core.specs.Whole.{joined}
+use Rattle.host_core.proofs.Decisions.{ruled_status}
 use Rattle.host_core.proofs.Turning.{stand_same}
 use Rattle.host_core.proofs.ledger.take_step.Goals as goal
 
@@ -66,3 +69,9 @@ returns-in-Ok-clause-takes g c =
 
 pub returns-in-Memory-clause-light : goal.returns-in-Memory-clause-light
 returns-in-Memory-clause-light g c = λ takes. absurd (cc (takes, c.in-Err.ensures.err.light))
+
+pub new-entry-requires-clause-status : goal.new-entry-requires-clause-status
+new-entry-requires-clause-status g c =
+    let before = c.args.ledger.now in
+    ruled_status (settled (files_of before.first (ended_in before c.max-now.result) c.args.call.name) c.max-now.result) c.args.call before.opened c.max-now.result
+    c.in-Ok.carried.ruling c.in-Ok.ensures.ok.steps.steps.outcome
