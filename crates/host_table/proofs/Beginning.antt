@@ -70,6 +70,7 @@ module _ {F : Type 0} (files : F → Option Files) (faults : F → ℕ) (opened 
           first_is = ap (λ (z : Book F). z.first) a.0.book;
           capacity_is = ap (λ (z : Book F). z.capacity) a.0.book;
           unticked = ap (λ (z : Book F). z.ticked) a.0.book;
+          ordered = a.0.opening.ordered;
           names = subst P (sym only) a.0.opening.taken;
         },
         begun_bases (number + 1) folders books a.1,

@@ -453,7 +453,7 @@ module _ {F : Type 0} where
     pub shards_long : length shards ≡ 16
     shards_long = ends_long seats shards shards_ends ∙ (sym (length-map seats lock_of) ∙ (ap length locks ∙ is.wide))
 
-    shards_bases : AreBases host.opened host.first host.capacity 0 (map as_opened shards)
+    pub shards_bases : AreBases host.opened host.first host.capacity 0 (map as_opened shards)
     shards_bases = subst (λ (bs : List (Book F)). AreBases host.opened host.first host.capacity 0 bs) (sym (ended_bases seats shards host.bases shards_ends (based_on host passes seats of joined.based))) is.bases
 
     pub shards_sum : total capacity_of shards ≡ 16 * host.capacity

@@ -4,8 +4,9 @@ use Rattle.std.specs.List.{AllByRecursion, Contains}
 use Rattle.atomic_table.specs.Seated.{TableId}
 use Rattle.turn_lock.specs.Seats.{SeatValue}
 use Rattle.wopi_text.specs.FileName.{shard_of}
+use Rattle.wopi_model.specs.Moment.{IsMoment}
 use Rattle.wopi_model.specs.Shard.{Opening, Item, Entry, RisesFrom, entries, stamps}
-use Rattle.host_core.specs.Opening.{MayKeep}
+use Rattle.host_core.specs.Opening.{IsByName, IsFirstVersion, MayKeep}
 use Rattle.host_core.specs.Entries.{Made}
 use Rattle.host_core.specs.Caller.{Sight}
 use Rattle.host_core.specs.Value.{Book}
@@ -135,6 +136,7 @@ module _ {F : Type 0} where
     pub first_is : base.first ≡ first
     pub capacity_is : base.capacity ≡ capacity
     pub unticked : base.ticked ≡ false
+    pub ordered : IsByName base.opening
     pub names : AllByRecursion (λ file. MayKeep base.only file.0) base.opening
 
   abbrev pub AreBases : ℕ → ℕ → ℕ → ℕ → List (Book F) → Type 0
@@ -206,3 +208,5 @@ module _ {F : Type 0} where
     pub wide : length host.locks ≡ 16
     pub many : length host.bases ≡ 16
     pub small : host.capacity ≤ 32768
+    pub opened_is : IsMoment host.opened
+    pub first_is : IsFirstVersion host.first

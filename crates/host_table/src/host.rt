@@ -107,6 +107,8 @@ fn begin<F: Folder>(
     requires seats { seats.items ≡ first_seats locks.items (map as_opened shards.value.items) }
     requires many { (length locks.items ≡ 16) × (length shards.value.items ≡ 16) }
     requires small { capacity ≤ 32768 }
+    requires opened { IsMoment opened }
+    requires first { IsFirstVersion first }
     requires bases { AreBases opened first capacity 0 (map as_opened shards.value.items) }
     ensures host { result.0 ≡ record { locks = locks.items; bases = map as_opened shards.value.items; opened = opened; first = first; capacity = capacity; made = 1 } }
     ensures pass { result.1 ≡ first_pass result.0 }

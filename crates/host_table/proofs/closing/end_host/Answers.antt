@@ -7,7 +7,8 @@ use Rattle.host_table.specs.Views.{host_of}
 use Rattle.host_table.specs.Passes.{HostView, IsPassOf}
 use Rattle.host_table.specs.Close.{IsWhole, Ends}
 use Rattle.host_table.specs.Journal.{order_of, merge_of}
-use Rattle.host_table.proofs.Journals.{can_close, shards_ends, shards_long, shards_sum, shards_fit, ends_all}
+use Rattle.host_table.proofs.Leaving.{journal_kept}
+use Rattle.host_table.proofs.Journals.{can_close, shards_ends, shards_bases, shards_long, shards_sum, shards_fit, ends_all}
 use Rattle.host_table.proofs.closing.end_host.Goals as goal
 
 pub close_all-requires-clause-whole : goal.close_all-requires-clause-whole
@@ -36,6 +37,10 @@ invariant_of-journal g c =
     let sorted = c.sort_unstable_by_key.new.self.items in
     let up : IsNonDecreasingBy order_of sorted = IsNonDecreasingBy-from_sort_by_key order_of sorted c.sort_unstable_by_key.ensures.sorted (λ a r q k. search rules) in
     let moved = subst (λ (spots : List Spot). IsPermutation spots sorted) c.take_apart.ensures.spots c.sort_unstable_by_key.ensures.permutation in
+    journal_kept f.files f.faults host c.close_all.new.shards.items c.take_apart.new.pasts.items c.take_apart.new.folders.items sorted c.host.invariant
+    (shards_bases host c.args.passes.items c.join_all-seats.result.items c.close_all.new.shards.items c.args.room.shards.items e.0 c.host.invariant of joined.joined joined.locks e.2 c.requires.shards.0 e.1)
+    (shards_sum host c.args.passes.items c.join_all-seats.result.items c.close_all.new.shards.items c.args.room.shards.items e.0 c.host.invariant of joined.joined joined.locks e.2 c.requires.shards.0 e.1)
+    c.take_apart.ensures.taken moved
     (ends_all f.files f.faults host c.args.passes.items c.join_all-seats.result.items c.close_all.new.shards.items c.take_apart.new.pasts.items c.take_apart.new.folders.items sorted c.host.invariant.bases
     (shards_long host c.args.passes.items c.join_all-seats.result.items c.close_all.new.shards.items c.args.room.shards.items e.0 c.host.invariant of joined.joined joined.locks e.2 c.requires.shards.0 e.1)
     of whole joined.joined (shards_ends host c.args.passes.items c.join_all-seats.result.items c.close_all.new.shards.items c.args.room.shards.items e.0 c.host.invariant of joined.joined joined.locks e.2 c.requires.shards.0 e.1)
