@@ -55,12 +55,12 @@ HasTimes-more nows opened lines line now t within moment is =
 
 -- an entry with its shard's time
 pub record Timed (form : Format) (opened : ℕ) (lines : List Line) (line one : Line) (nows : List ℕ) : Type 0 where
-  pub form_is : IsLine one
+  pub form_is : IsLine form one
   pub words : line_words form one ≡ line_words form line
   pub timed : IsTimed form opened lines one
   pub times : HasTimes nows opened (lines ++ one ∷ [])
 
-pub timed_line : (form : Format) (opened : ℕ) (lines : List Line) (line one : Line) (now : ℕ) (nows : List ℕ) → IsLine line → HasTimes nows opened lines
+pub timed_line : (form : Format) (opened : ℕ) (lines : List Line) (line one : Line) (now : ℕ) (nows : List ℕ) → IsLine form line → HasTimes nows opened lines
     → now ≡ max (slice_index nows line.shard) line.moment → (form ≡ First → one ≡ record line { now = now }) → (form ≡ Second → one ≡ line)
     → Timed form opened lines line one (slice_set nows line.shard now)
 timed_line First opened lines line one now nows h t is first second =
@@ -79,6 +79,7 @@ timed_line First opened lines line one now nows h t is first second =
         token = h.token;
         status = h.status;
         lock = h.lock;
+        ids = h.ids;
         version = h.version;
         contents = h.contents;
       };

@@ -16,15 +16,15 @@ use Rattle.journal_text.proofs.Asking.{same_size}
 abbrev pub head_of : Line → Head
 head_of line = record { place = record { stamp = line.stamp; shard = line.shard; pass = line.pass; moment = line.moment }; now = line.now; name = line.name }
 
-pub IsHead-line : (line : Line) → IsLine line → IsHead (head_of line)
-IsHead-line line form = record {
-  place = record { stamp = form.stamp; shard = form.shard; pass = form.pass; moment = form.moment };
-  now = form.now;
-  name = form.name;
+pub IsHead-line : (form : Format) (line : Line) → IsLine form line → IsHead (head_of line)
+IsHead-line form line h = record {
+  place = record { stamp = h.stamp; shard = h.shard; pass = h.pass; moment = h.moment };
+  now = h.now;
+  name = h.name;
 }
 
-pub AreEnds-line : (line : Line) → IsLine line → AreEnds line.token line.status line.lock line.version
-AreEnds-line line form = record { token_is = form.token; status_is = form.status; lock_is = form.lock; version_is = form.version }
+pub AreEnds-line : (form : Format) (line : Line) → IsLine form line → AreEnds line.token line.status line.lock line.version
+AreEnds-line form line h = record { token_is = h.token; status_is = h.status; lock_is = h.lock; version_is = h.version }
 
 -- a line's words are its head, its act and its end
 pub line_parts : (form : Format) (line : Line) → line_words form line ≡ head_words form (head_of line) ++ (act_words line.act ++ end_words line)

@@ -39,7 +39,7 @@ file_head : (k : Option ℕ) (rest row behind : List ℕ) (file : List ℕ × Li
 file_head k rest row behind file rows cut form begins =
     head_said k rest row behind _ _ rows cut (file-lacks 32 file space form) (file-lacks 10 file feed form) begins
 
-line_head : (form : Format) (k : Option ℕ) (rest row behind : List ℕ) (line : Line) (rows : List (List ℕ)) → Row rest row behind → IsLine line
+line_head : (form : Format) (k : Option ℕ) (rest row behind : List ℕ) (line : Line) (rows : List (List ℕ)) → Row rest row behind → IsLine form line
     → Begins (one_more k) (line_text form line ∷ rows) rest → (words_of row ≡ line_words form line) × Begins k rows behind
 line_head form k rest row behind line rows cut is begins =
     head_said k rest row behind _ _ rows cut (line-lacks form 32 line space is) (line-lacks form 10 line feed is) begins
@@ -79,7 +79,7 @@ begun form other opened first text k bytes row behind cut words within begins =
       files = text.files;
       lines = text.lines;
       files_are = within.files;
-      lines_are = within.lines;
+      lines_are = subst (λ (f : Format). AllByRecursion (IsLine f) text.lines) same within.lines;
       few = omega (arith, few);
       none = λ h. absurd (omega (arith, h));
       begins = subst (λ (f : Format). Begins k (body_rows f 0 text.files text.lines) behind) same head.1;
@@ -95,7 +95,7 @@ not_begun bytes row behind k other text cut none within begins =
 -- ---- one line more
 
 next_file : (form : Format) (last : Option (List ℕ)) (k : Option ℕ) (rest row behind : List ℕ) (file : List ℕ × List ℕ) → Row rest row behind → IsFile file
-    → words_of row ≡ file_words file → (files : List (List ℕ × List ℕ)) (lines : List Line) → AreFiles last files → AllByRecursion IsLine lines
+    → words_of row ≡ file_words file → (files : List (List ℕ × List ℕ)) (lines : List Line) → AreFiles last files → AllByRecursion (IsLine form) lines
     → 0 + length lines ≤ most_entries → Begins (one_more k) (body_rows form 0 files lines) rest → Goes form form (Some file.0) 0 behind k
 next_file form last k rest row behind file cut is words [] [] are each few begins =
     let head = last_head form k rest row behind 0 [] cut (omega arith) begins in absurd (last_no_file form 0 file (sym head.0 ∙ words))
@@ -128,7 +128,7 @@ file_taken form other last before k rest row behind file cut is words none goes 
     (subst (λ (n : ℕ). Goes form form (Some file.0) n behind k) (sym none) next)
 
 next_line : (form : Format) (last : Option (List ℕ)) (before : ℕ) (k : Option ℕ) (rest row behind : List ℕ) (line : Line) → Row rest row behind
-    → words_of row ≡ line_words form line → before < most_entries → (files : List (List ℕ × List ℕ)) (lines : List Line) → AreFiles last files → AllByRecursion IsLine lines
+    → words_of row ≡ line_words form line → before < most_entries → (files : List (List ℕ × List ℕ)) (lines : List Line) → AreFiles last files → AllByRecursion (IsLine form) lines
     → before + length lines ≤ most_entries → Begins (one_more k) (body_rows form before files lines) rest → Goes form form last (suc before) behind k
 next_line form last before k rest row behind line cut words more [] [] are each few begins =
     let head = last_head form k rest row behind before [] cut (omega (arith, more)) begins in absurd (last_no_line form before line (sym head.0 ∙ words))
@@ -160,7 +160,7 @@ no_items [] h = refl
 no_items (x ∷ xs) h = absurd (omega (arith, h))
 
 no_next : (reader : Reader) (k : Option ℕ) (rest row behind : List ℕ) → Row rest row behind → IsUnfit (words_of row) reader → length reader.lines.items ≤ most_entries
-    → (files : List (List ℕ × List ℕ)) (lines : List Line) → AreFiles reader.last files → AllByRecursion IsLine lines → length reader.lines.items + length lines ≤ most_entries
+    → (files : List (List ℕ × List ℕ)) (lines : List Line) → AreFiles reader.last files → AllByRecursion (IsLine reader.form) lines → length reader.lines.items + length lines ≤ most_entries
     → (0 < length reader.lines.items → files ≡ []) → Begins (one_more k) (body_rows reader.form (length reader.lines.items) files lines) rest → ⊥
 no_next reader k rest row behind cut unfit within [] [] are each few none begins =
     let head = last_head reader.form k rest row behind (length reader.lines.items) [] cut (omega (arith, within)) begins in unfit.last head.0
@@ -199,7 +199,7 @@ missing_first other text k bytes h begins = no_row k bytes (join_with_byte 32 (f
 
 -- behind the last line there is nothing
 ended_in : (form : Format) (before : ℕ) (k : Option ℕ) (rest row behind : List ℕ) → Row rest row behind → words_of row ≡ last_words form before → before ≤ most_entries
-    → (last : Option (List ℕ)) (files : List (List ℕ × List ℕ)) (lines : List Line) → AreFiles last files → AllByRecursion IsLine lines
+    → (last : Option (List ℕ)) (files : List (List ℕ × List ℕ)) (lines : List Line) → AreFiles last files → AllByRecursion (IsLine form) lines
     → Begins (one_more k) (body_rows form before files lines) rest → Begins k [] behind
 ended_in form before k rest row behind cut words within last [] [] are each begins =
     let head = last_head form k rest row behind before [] cut (omega (arith, within)) begins in head.1

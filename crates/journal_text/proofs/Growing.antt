@@ -26,9 +26,9 @@ last_name-more : (last : Option (List ℕ)) (files : List (List ℕ × List ℕ)
 last_name-more last [] file = refl
 last_name-more last (one ∷ files) file = last_name-more (Some one.0) files file
 
-all-more : (lines : List Line) (line : Line) → AllByRecursion IsLine lines → IsLine line → AllByRecursion IsLine (lines ++ line ∷ [])
-all-more [] line are is = (is, tt)
-all-more (one ∷ lines) line are is = (are.0, all-more lines line are.1 is)
+all-more : (form : Format) (lines : List Line) (line : Line) → AllByRecursion (IsLine form) lines → IsLine form line → AllByRecursion (IsLine form) (lines ++ line ∷ [])
+all-more form [] line are is = (is, tt)
+all-more form (one ∷ lines) line are is = (are.0, all-more form lines line are.1 is)
 
 AreTimed-more : (form : Format) (opened : ℕ) (before lines : List Line) (line : Line) → AreTimed form opened before lines → IsTimed form opened (before ++ lines) line
     → AreTimed form opened before (lines ++ line ∷ [])
@@ -47,7 +47,7 @@ with_file old new file h is adds =
           (subst (λ (n : ℕ). IsOpening old.form n new.first) (sym head.opened) (subst (λ (n : ℕ). IsOpening old.form old.opened n) (sym head.first) h.opening));
       files = subst (AreFiles None) (sym adds.files) (AreFiles-more None old.files.items file h.files is after);
       last = adds.last ∙ sym (last_name-more None old.files.items file) ∙ ap (last_name None) (sym adds.files);
-      lines = subst (AllByRecursion IsLine) (sym adds.lines) h.lines;
+      lines = subst (λ (f : Format). AllByRecursion (IsLine f) new.lines.items) (sym head.form) (subst (AllByRecursion (IsLine old.form)) (sym adds.lines) h.lines);
       few = subst (λ (l : List Line). length l ≤ most_entries) (sym adds.lines) h.few;
       timed = subst (λ (l : List Line). AreTimed new.form new.opened [] l) (sym adds.lines)
           (subst (λ (f : Format). AreTimed f new.opened [] old.lines.items) (sym head.form) (subst (λ (n : ℕ). AreTimed old.form n [] old.lines.items) (sym head.opened) h.timed));
@@ -55,7 +55,7 @@ with_file old new file h is adds =
           (subst (λ (n : ℕ). HasTimes new.nows n old.lines.items) (sym head.opened) (subst (λ (n : List ℕ). HasTimes n old.opened old.lines.items) (sym adds.nows) h.times));
     }
 
-pub with_line : (old new : Reader) (line : Line) → IsReader old → IsLine line → AddsLine old line new → IsReader new
+pub with_line : (old new : Reader) (line : Line) → IsReader old → IsLine old.form line → AddsLine old line new → IsReader new
 with_line old new line h is adds =
     let head = adds.head in
     let few = adds.few in
@@ -66,7 +66,8 @@ with_line old new line h is adds =
           (subst (λ (n : ℕ). IsOpening old.form n new.first) (sym head.opened) (subst (λ (n : ℕ). IsOpening old.form old.opened n) (sym head.first) h.opening));
       files = subst (AreFiles None) (sym adds.files) h.files;
       last = adds.last ∙ h.last ∙ ap (last_name None) (sym adds.files);
-      lines = subst (AllByRecursion IsLine) (sym adds.lines) (all-more old.lines.items line h.lines is);
+      lines = subst (λ (f : Format). AllByRecursion (IsLine f) new.lines.items) (sym head.form)
+          (subst (AllByRecursion (IsLine old.form)) (sym adds.lines) (all-more old.form old.lines.items line h.lines is));
       few = omega (arith, len, few);
       timed = subst (λ (l : List Line). AreTimed new.form new.opened [] l) (sym adds.lines)
           (subst (λ (f : Format). AreTimed f new.opened [] (old.lines.items ++ line ∷ [])) (sym head.form)

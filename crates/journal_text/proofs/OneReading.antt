@@ -30,25 +30,25 @@ same_now First opened before line other h k shard moment e =
     h ∙ own_time opened before line ∙ ap (λ (s : ℕ). max (now_in opened s before) line.moment) shard ∙ ap (λ (m : ℕ). max (now_in opened other.shard before) m) moment
     ∙ sym (own_time opened before other) ∙ sym k
 
-now_there : (form : Format) (line other : Line) → IsLine line → IsLine other → (form ≡ First → line.now ≡ other.now) → line_words form line ≡ line_words form other
+now_there : (form : Format) (line other : Line) → IsLine form line → IsLine form other → (form ≡ First → line.now ≡ other.now) → line_words form line ≡ line_words form other
     → line.now ≡ other.now
 now_there First line other h k given e = given refl
 now_there Second line other h k given e =
     let a = h.now in let b = k.now in decimal_injective line.now other.now (omega (arith, a)) (omega (arith, b)) (ap (λ l. get_or l 4 []) e)
 
-name_there : (form : Format) (line other : Line) → IsLine line → IsLine other → line_words form line ≡ line_words form other → line.name ≡ other.name
+name_there : (form : Format) (line other : Line) → IsLine form line → IsLine form other → line_words form line ≡ line_words form other → line.name ≡ other.name
 name_there First line other h k e = id_of-injective line.name other.name h.name k.name (ap (λ l. get_or l 4 []) e)
 name_there Second line other h k e = id_of-injective line.name other.name h.name k.name (ap (λ l. get_or l 5 []) e)
 
-shard_there : (form : Format) (line other : Line) → IsLine line → IsLine other → line_words form line ≡ line_words form other → line.shard ≡ other.shard
+shard_there : (form : Format) (line other : Line) → IsLine form line → IsLine form other → line_words form line ≡ line_words form other → line.shard ≡ other.shard
 shard_there form line other h k e =
     let a = h.shard in let b = k.shard in decimal_injective line.shard other.shard (omega (arith, a)) (omega (arith, b)) (ap (λ l. get_or l 1 []) e)
 
-moment_there : (form : Format) (line other : Line) → IsLine line → IsLine other → line_words form line ≡ line_words form other → line.moment ≡ other.moment
+moment_there : (form : Format) (line other : Line) → IsLine form line → IsLine form other → line_words form line ≡ line_words form other → line.moment ≡ other.moment
 moment_there form line other h k e =
     let a = h.moment in let b = k.moment in decimal_injective line.moment other.moment (omega (arith, a)) (omega (arith, b)) (ap (λ l. get_or l 3 []) e)
 
-same_line : (form : Format) (line other : Line) → IsLine line → IsLine other → (form ≡ First → line.now ≡ other.now) → line_words form line ≡ line_words form other
+same_line : (form : Format) (line other : Line) → IsLine form line → IsLine form other → (form ≡ First → line.now ≡ other.now) → line_words form line ≡ line_words form other
     → line ≡ other
 same_line form line other h k given e =
     let stamp = decimal_injective line.stamp other.stamp h.stamp k.stamp (ap (λ l. get_or l 0 []) e) in
@@ -120,7 +120,7 @@ record Same (files other : List File) (lines later : List Line) : Type 0 where
   pub lines_are : lines ≡ later
 
 same_body : (form : Format) (opened before : ℕ) (done : List Line) (last mark : Option (List ℕ)) (files : List File) (lines : List Line) (other : List File) (later : List Line)
-    → AreFiles last files → AreFiles mark other → AllByRecursion IsLine lines → AllByRecursion IsLine later → AreTimed form opened done lines → AreTimed form opened done later
+    → AreFiles last files → AreFiles mark other → AllByRecursion (IsLine form) lines → AllByRecursion (IsLine form) later → AreTimed form opened done lines → AreTimed form opened done later
     → before + length lines ≤ most_entries → before + length later ≤ most_entries
     → text_of (body_rows form before files lines) ≡ text_of (body_rows form before other later) → Same files other lines later
 same_body form opened before done last mark [] [] [] [] f g l m t u a b e = record { files_are = refl; lines_are = refl }

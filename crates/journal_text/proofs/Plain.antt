@@ -121,18 +121,18 @@ unfolding EachLacks
 EachLacks-append mark [] more h k = k
 EachLacks-append mark (word ∷ words) more h k = (h.0, EachLacks-append mark words more h.1 k)
 
-ends-lack : (mark : ℕ) (line : Line) → IsMark mark → IsLine line → EachLacks mark (end_words line)
+ends-lack : (form : Format) (mark : ℕ) (line : Line) → IsMark mark → IsLine form line → EachLacks mark (end_words line)
 unfolding EachLacks
-ends-lack mark line m form =
-    let least = small line.status form.status in (
-      Lacks-token mark line.token m form.token,
+ends-lack form mark line m h =
+    let least = small line.status h.status in (
+      Lacks-token mark line.token m h.token,
       (
         number mark line.status m (omega (arith, least)),
         (
-          Lacks-optional_lock mark line.lock m form.lock,
+          Lacks-optional_lock mark line.lock m h.lock,
           (
             Lacks-reason mark line.reason m,
-            (Lacks-version mark line.version m form.version, (Lacks-contents mark (told_size line.act line.status) line.contents m form.contents, tt)),
+            (Lacks-version mark line.version m h.version, (Lacks-contents mark (told_size line.act line.status) line.contents m h.contents, tt)),
           ),
         ),
       ),
@@ -143,7 +143,7 @@ unfolding EachLacks
 nows-lack First mark now m h = tt
 nows-lack Second mark now m h = (number mark now m h, tt)
 
-pub line-lacks : (form : Format) (mark : ℕ) (line : Line) → IsMark mark → IsLine line → EachLacks mark (line_words form line)
+pub line-lacks : (form : Format) (mark : ℕ) (line : Line) → IsMark mark → IsLine form line → EachLacks mark (line_words form line)
 unfolding EachLacks
 line-lacks form mark line m h =
     let shard = h.shard in
@@ -158,7 +158,7 @@ line-lacks form mark line m h =
           (
             number mark line.moment m (omega (arith, moment)),
             EachLacks-append mark (now_words form line.now) _ (nows-lack form mark line.now m (omega (arith, now)))
-                (Lacks-id mark line.name m.letter h.name, EachLacks-append mark (act_words line.act) (end_words line) (acts-lack mark line.act m h.asked) (ends-lack mark line m h)),
+                (Lacks-id mark line.name m.letter h.name, EachLacks-append mark (act_words line.act) (end_words line) (acts-lack mark line.act m h.asked) (ends-lack form mark line m h)),
           ),
         ),
       ),

@@ -81,7 +81,7 @@ most_entries = 524288
 pub record IsWithin (form : Format) (text : JournalText) : Type 0 where
   pub opening : IsOpening form text.opened text.first
   pub files : AreFiles None text.files
-  pub lines : AllByRecursion IsLine text.lines
+  pub lines : AllByRecursion (IsLine form) text.lines
   pub few : length text.lines ≤ most_entries
   pub timed : AreTimed form text.opened [] text.lines
 

@@ -61,8 +61,29 @@ AreSized None None = ⊤
 AreSized (Some size) (Some contents) = IsBytes contents × (length contents ≡ size)
 AreSized _ _ = ⊥
 
+-- the first form's lock ids are shorter than those that a host takes
+abbrev pub IsShort : List ℕ → Type 0
+IsShort id = length id ≤ 256
+
+abbrev pub MayBeShort : Option (List ℕ) → Type 0
+MayBeShort None = ⊤
+MayBeShort (Some id) = IsShort id
+
+abbrev pub HasShort : EntryAct → Type 0
+HasShort (act.Put lock size) = MayBeShort lock
+HasShort (act.Lock id) = IsShort id
+HasShort (act.Refresh id) = IsShort id
+HasShort (act.Unlock id) = IsShort id
+HasShort (act.Relock old id) = IsShort old × IsShort id
+HasShort _ = ⊤
+
+-- the lock ids of an entry's act and ruling may stand in a journal of the form
+abbrev pub AreOfForm : Format → EntryAct → Option (List ℕ) → Type 0
+AreOfForm First asked lock = HasShort asked × MayBeShort lock
+AreOfForm Second asked lock = ⊤
+
 -- what an entry's line may tell
-pub record IsLine (line : Line) : Type 0 where
+pub record IsLine (form : Format) (line : Line) : Type 0 where
   pub stamp : Fits line.stamp
   pub shard : line.shard < 16
   pub pass : line.pass < 2 ^ 32
@@ -73,6 +94,7 @@ pub record IsLine (line : Line) : Type 0 where
   pub token : IsToken line.token
   pub status : is_status line.status ≡ true
   pub lock : MayBeLock line.lock
+  pub ids : AreOfForm form line.act line.lock
   pub version : MayFit line.version
   pub contents : AreSized (told_size line.act line.status) line.contents
 

@@ -27,7 +27,7 @@ pub record IsReader (reader : Reader) : Type 0 where
   pub opening : IsOpening reader.form reader.opened reader.first
   pub files : AreFiles None reader.files.items
   pub last : reader.last ≡ last_name None reader.files.items
-  pub lines : AllByRecursion IsLine reader.lines.items
+  pub lines : AllByRecursion (IsLine reader.form) reader.lines.items
   pub few : length reader.lines.items ≤ most_entries
   pub timed : AreTimed reader.form reader.opened [] reader.lines.items
   pub times : HasTimes reader.nows reader.opened reader.lines.items
@@ -65,13 +65,13 @@ abbrev pub TakesFile : List (List ℕ) → Reader → Reader → Type 0
 TakesFile words old new = (file : List ℕ × List ℕ) × IsFile file × (words ≡ file_words file) × AddsFile old file new
 
 abbrev pub TakesLine : List (List ℕ) → Reader → Reader → Type 0
-TakesLine words old new = (line : Line) × IsLine line × (words ≡ line_words old.form line) × AddsLine old line new
+TakesLine words old new = (line : Line) × IsLine old.form line × (words ≡ line_words old.form line) × AddsLine old line new
 
 -- no line with these words can come next
 pub record IsUnfit (words : List (List ℕ)) (old : Reader) : Type 0 where
   pub last : words ≡ last_words old.form (length old.lines.items) → ⊥
   pub file : (file : List ℕ × List ℕ) → IsFile file → old.lines.items ≡ [] → IsAfter old.last file.0 → words ≡ file_words file → ⊥
-  pub line : (line : Line) → IsLine line → length old.lines.items < most_entries → words ≡ line_words old.form line → ⊥
+  pub line : (line : Line) → IsLine old.form line → length old.lines.items < most_entries → words ≡ line_words old.form line → ⊥
 
 -- how a line was taken
 abbrev pub Takes : List (List ℕ) → Reader → Taken → Reader → Type 0

@@ -31,7 +31,7 @@ pub record Goes (form other : Format) (last : Option (List ℕ)) (before : ℕ) 
   pub files : List (List ℕ × List ℕ)
   pub lines : List Line
   pub files_are : AreFiles last files
-  pub lines_are : AllByRecursion IsLine lines
+  pub lines_are : AllByRecursion (IsLine form) lines
   pub few : before + length lines ≤ most_entries
   pub none : 0 < before → files ≡ []
   pub begins : Begins k (body_rows form before files lines) rest

@@ -15,6 +15,7 @@ ghost use Rattle.journal_text.specs.Words.{line_words, words_of};
 
 use crate::acts::act_read;
 use crate::contents::contents_read;
+use crate::ids::are_of_form;
 use crate::splitting::{has_more, split_word};
 use crate::text::{Format, Line};
 use crate::tokens::token_read;
@@ -57,8 +58,8 @@ pub(crate) struct Ends<'a> {
 
 /// The line of an entry, if it is one. In the first form, which doesn't tell the shard's time, the moment stands for it.
 pub(crate) fn line_read(alloc: Global, form: Format, row: &[u8]) -> Result<Option<Line>, Memory>
-    ensures some { IfOk result (λ read. IfSome read (λ line. IsLine line × (words_of row.now ≡ line_words form line))) }
-    ensures none { IfOk result (λ read. IfNone read ((line : Line) → IsLine line → words_of row.now ≢ line_words form line)) }
+    ensures some { IfOk result (λ read. IfSome read (λ line. IsLine form line × (words_of row.now ≡ line_words form line))) }
+    ensures none { IfOk result (λ read. IfNone read ((line : Line) → IsLine form line → words_of row.now ≢ line_words form line)) }
 {
     let Some((head, rest)) = head_read(form, row) else {
         return Ok(None);
@@ -69,6 +70,9 @@ pub(crate) fn line_read(alloc: Global, form: Format, row: &[u8]) -> Result<Optio
     let Some(ends) = ends_read(rest) else {
         return Ok(None);
     };
+    if !are_of_form(form, &act, &ends.lock) {
+        return Ok(None);
+    }
     let size = told_size(&act, ends.status);
     let Some(contents) = contents_read(alloc, ends.contents, size)? else {
         return Ok(None);

@@ -3,7 +3,7 @@
 //! A journal's text has a first line, the lines of the opening files, the lines of the entries, and a last line. Each line is words
 //! with single spaces between them, and a line feed. The text has two forms: the first doesn't tell a shard's time at an entry, nor the
 //! version of the opening files, nor how many entries there are. A shard's time is then the greatest of when the host opened and the
-//! moments of the shard's entries so far, and the version is 1.
+//! moments of the shard's entries so far, and the version is 1. The lock ids of the first form have at most 256 bytes.
 //!
 //! [`read_journal`] reads both forms, and names the first line that can't stand where it does. [`read_input`] does so with the bytes
 //! of a whole input. [`write_lines`] writes the second form.
@@ -13,6 +13,7 @@
 mod acts;
 mod contents;
 mod entry;
+mod ids;
 mod input;
 mod journal;
 pub mod laws;

@@ -131,9 +131,9 @@ impl Reader {
 
     /// Adds an entry, if there may be one more.
     fn add_line(&mut self, line: Line) -> Result<bool, Memory>
-        requires line { IsLine line }
+        requires line { IsLine self.old.form line }
         requires times { HasTimes self.old.nows self.old.opened self.old.lines.items }
-        ensures good { IfOk result (λ good. IsTrue good → (one : Line) × IsLine one × (line_words self.old.form one ≡ line_words self.old.form line) × AddsLine self.old one self.new) }
+        ensures good { IfOk result (λ good. IsTrue good → (one : Line) × IsLine self.old.form one × (line_words self.old.form one ≡ line_words self.old.form line) × AddsLine self.old one self.new) }
         ensures bad { IfOk result (λ good. good ≡ false → most_entries ≤ length self.old.lines.items) }
     {
         if self.lines.len() >= MOST_ENTRIES {

@@ -143,6 +143,35 @@ fn an_entry_that_breaks_a_bound_is_bad(rt: HostRuntime) -> Result<(), Fail> {
     Ok(())
 }
 
+/// The first bad line of a journal with these words before and behind the lock id of its entry, which has so many bytes.
+fn bad_under_id(alloc: Global, front: &str, count: usize, end: &str) -> Result<Option<u64>, Fail> {
+    let mut text = front.as_bytes().to_vec(alloc)?;
+    for _ in 0..count {
+        text.extend_from_slice(b"78")?;
+    }
+    text.extend_from_slice(end.as_bytes())?;
+    match read_journal(alloc, &text) {
+        Ok(_) => Ok(None),
+        Err(JournalFault::BadLine { line }) => Ok(Some(line)),
+        Err(_) => Err("a reading".into()),
+    }
+}
+
+#[test]
+fn lock_ids_have_256_bytes_in_the_first_form_and_1024_in_the_second(
+    rt: HostRuntime,
+) -> Result<(), Fail> {
+    let first = "wopi journal 1 opened 0\n1 11 0 5 612e637376 lock ";
+    let second = "wopi journal 2 opened 0 first 1\n1 11 0 5 5 612e637376 lock ";
+    let end = " u.612e637376.w.2.0.9 200 - - v1 -\nend\n";
+    let counted = " u.612e637376.w.2.0.9 200 - - v1 -\nend 1\n";
+    assert_eq!(rt; bad_under_id(rt.alloc(), first, 256, end)?, None);
+    assert_eq!(rt; bad_under_id(rt.alloc(), first, 257, end)?, Some(2));
+    assert_eq!(rt; bad_under_id(rt.alloc(), second, 1_024, counted)?, None);
+    assert_eq!(rt; bad_under_id(rt.alloc(), second, 1_025, counted)?, Some(2));
+    Ok(())
+}
+
 /// An input of these bytes, so many at a read, whose n-th read fails where one is given.
 fn input(alloc: Global, text: &[u8], piece: usize, failing: u64) -> Result<MemSource, Fail> {
     let Ok(bytes) = Bytes::from_slice(alloc, text) else {

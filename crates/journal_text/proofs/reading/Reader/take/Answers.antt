@@ -21,6 +21,6 @@ returns-in-Some c =
 
 pub returns-then-branch-2 : goal.returns-then-branch-2
 returns-then-branch-2 c =
-    let read : IsLine c.in-Some-2.line × (words_of c.args.row.now ≡ line_words c.args.self.now.form c.in-Some-2.line) = rw c.in-Some-2.is at c.in_ok-line.ensures.some in
+    let read : IsLine c.args.self.now.form c.in-Some-2.line × (words_of c.args.row.now ≡ line_words c.args.self.now.form c.in-Some-2.line) = rw c.in-Some-2.is at c.in_ok-line.ensures.some in
     let added = c.in_ok-add_line.ensures.good c.if-branch-2.true in
     inr (added.0, added.1, read.1 ∙ sym added.2, added.3)
