@@ -14,6 +14,7 @@ mod Fronts
 mod Growing
 mod Outcomes
 pub mod LineTexts
+mod HostBounds
 mod HostTexts
 mod Uniqueness
 mod OneReading

@@ -4,6 +4,7 @@ use Rattle.std.specs.List.{AllByRecursion, join_with_byte}
 use Rattle.std.specs.Ordering.{is_lt, nat_cmp}
 use Rattle.std.specs.Cmp.Lexicographic.{slice_cmp}
 use Rattle.wopi_text.specs.FileName.{shard_of}
+pub use Rattle.host_table.specs.Bounds.{most_entries}
 use Rattle.journal_text.specs.declared.text.Format.{Format}
 use Rattle.journal_text.specs.declared.text.Format.TheVariants.{First, Second}
 use Rattle.journal_text.specs.declared.text.JournalText.{JournalText}
@@ -72,10 +73,6 @@ IsTimed Second opened before line = ⊤
 abbrev pub AreTimed : Format → ℕ → List Line → List Line → Type 0
 AreTimed form opened before [] = ⊤
 AreTimed form opened before (line ∷ lines) = IsTimed form opened before line × AreTimed form opened (before ++ line ∷ []) lines
-
--- the most entries of a journal: those of 16 full shards
-abbrev pub most_entries : ℕ
-most_entries = 524288
 
 -- what a journal's text may tell
 pub record IsWithin (form : Format) (text : JournalText) : Type 0 where

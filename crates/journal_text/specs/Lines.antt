@@ -1,49 +1,15 @@
 -- What the lines of a journal may tell. (Own.)
-use Rattle.std.specs.Prelude.{◌≡◌, ⊤, ℕ, ◌<◌, ◌≤◌, ◌^◌, ◌==◌, ◌||◌, Bool, true, List, length, Option, None, Some, if◌then◌else◌}
+use Rattle.std.specs.Prelude.{◌≡◌, ⊤, ℕ, ◌<◌, ◌≤◌, ◌^◌, ◌==◌, true, List, length, Option, None, Some, if◌then◌else◌}
 use Rattle.hex.specs.Hex.{IsBytes}
 use Rattle.wopi_text.specs.FileName.{IsFileName}
-use Rattle.wopi_text.specs.LockId.{IsLockId}
 use Rattle.wopi_model.specs.Moment.{IsMoment}
-use Rattle.wopi_model.specs.User.{IsUser}
-use Rattle.wopi_model.specs.declared.token.Token.{Token}
 use Rattle.host_core.specs.declared.entry.EntryAct.{EntryAct}
 use Rattle.host_core.specs.declared.entry.EntryAct.TheVariants as act
 use Rattle.journal_text.specs.declared.text.Format.{Format}
 use Rattle.journal_text.specs.declared.text.Format.TheVariants.{First, Second}
 use Rattle.journal_text.specs.declared.text.Line.{Line}
-
--- a number that 64 bits hold, and maybe one
-abbrev pub Fits : ℕ → Type 0
-Fits number = number < 2 ^ 64
-
-abbrev pub MayFit : Option ℕ → Type 0
-MayFit None = ⊤
-MayFit (Some number) = Fits number
-
-abbrev pub MayBeLock : Option (List ℕ) → Type 0
-MayBeLock None = ⊤
-MayBeLock (Some id) = IsLockId id
-
-abbrev pub IsAct : EntryAct → Type 0
-IsAct (act.Get most) = MayFit most
-IsAct (act.Put lock size) = MayBeLock lock × Fits size
-IsAct (act.Lock id) = IsLockId id
-IsAct (act.Refresh id) = IsLockId id
-IsAct (act.Unlock id) = IsLockId id
-IsAct (act.Relock old id) = IsLockId old × IsLockId id
-IsAct (act.Create overwrite size) = Fits size
-IsAct _ = ⊤
-
-pub record IsToken (token : Token) : Type 0 where
-  pub user : IsUser token.user
-  pub file : IsFileName token.file
-  pub serial : Fits token.serial
-  pub issued : Fits token.issued
-  pub expires : Fits token.expires
-
--- the statuses of entries
-abbrev pub is_status : ℕ → Bool
-is_status status = status == 200 || (status == 401 || (status == 404 || (status == 409 || (status == 412 || status == 500))))
+pub use Rattle.host_core.specs.Entry.{is_status}
+pub use Rattle.host_table.specs.Bounds.{Fits, MayFit, MayBeLock, IsAct, IsToken}
 
 -- the size of the contents that an act brings
 abbrev pub size_of : EntryAct → Option ℕ

@@ -1,5 +1,6 @@
 //! What holds of the texts of journals, as contracts of functions that do nothing.
 ghost use Rattle.std.specs.Prelude.{◌≡◌, ℕ, List};
+ghost use Rattle.host_table.specs.Bounds.{KeepsBounds};
 ghost use Rattle.host_table.specs.Journal.{JournalView};
 ghost use Rattle.host_table.specs.Text.{journal_text};
 ghost use Rattle.journal_text.specs.declared.text.Format.TheVariants.{Second};
@@ -14,9 +15,10 @@ pub fn what_is_written_is_read()
     ensures { (text : JournalText) → IsWithin Second text → IsReading (text_of (rows_of Second text)) text }
 {}
 
-/// The text of a host's journal, whose entries keep the bounds, reads as its opening and its entries.
+/// What `write_journal` writes of a host's journal reads as its opening and its entries: where it ends well, it says that they keep
+/// the bounds.
 pub fn a_host_s_journal_is_read<F: Folder>()
-    ensures { (journal : JournalView F) → IsWithin Second (told_by journal) → IsReading (journal_text journal) (told_by journal) }
+    ensures { (journal : JournalView F) → KeepsBounds journal → IsReading (journal_text journal) (told_by journal) }
 {}
 
 /// Bytes read as one text at most.
