@@ -27,7 +27,7 @@ AreSized None None = ⊤
 AreSized (Some size) (Some contents) = IsBytes contents × (length contents ≡ size)
 AreSized _ _ = ⊥
 
--- the first form's lock ids are shorter than those that a host takes
+-- the first form has lock ids of at most 256 bytes, whatever a host takes
 abbrev pub IsShort : List ℕ → Type 0
 IsShort id = length id ≤ 256
 
