@@ -11,7 +11,7 @@ use Rattle.journal_text.specs.declared.text.Line.{Line}
 use Rattle.journal_text.specs.Lines.{IsLine}
 use Rattle.journal_text.specs.Words.{line_words}
 use Rattle.journal_text.specs.Journals.{IsTimed, now_in}
-use Rattle.journal_text.specs.Reader.{HasTimes}
+use Rattle.journal_text.specs.Reader.{AreTimes, HasTimes, IsClocked, time_of, times_after}
 
 pub now_in_more : (opened shard : ℕ) (lines : List Line) (line : Line)
     → now_in opened shard (lines ++ line ∷ []) ≡ (if line.shard == shard then max (now_in opened shard lines) line.moment else now_in opened shard lines)
@@ -35,38 +35,39 @@ max_below a b n h k = grind arith
 pub HasTimes-more : (nows : List ℕ) (opened : ℕ) (lines : List Line) (line : Line) (now : ℕ) → HasTimes nows opened lines → line.shard < 16 → IsMoment line.moment
     → now ≡ max (slice_index nows line.shard) line.moment → HasTimes (slice_set nows line.shard now) opened (lines ++ line ∷ [])
 HasTimes-more nows opened lines line now t within moment is =
-    let long = t.long in
+    let long = t.are.long in
     let there : line.shard < length nows = omega (arith, long, within) in
     let set : slice_index (slice_set nows line.shard now) line.shard ≡ now = get_or-set_same nows line.shard now 0 there in
-    let before = t.moments line.shard within in
+    let before = t.are.moments line.shard within in
     let below : IsMoment now = subst IsMoment (sym is) (max_below _ _ _ before moment) in
     record {
-      long = length-set nows line.shard now ∙ long;
+      are = record {
+        long = length-set nows line.shard now ∙ long;
+        moments = λ shard h. elim (eqb_tells line.shard shard) [
+          | inl same ↦ subst (λ (s : ℕ). IsMoment (slice_index (slice_set nows line.shard now) s)) same.1 (subst IsMoment (sym set) below)
+          | inr apart ↦ subst IsMoment (sym (get_or-set_other nows line.shard shard now 0 (λ e. apart.1 (sym e)))) (t.are.moments shard h)
+        ];
+      };
       times = λ shard h. elim (eqb_tells line.shard shard) [
         | inl same ↦ subst (λ (s : ℕ). slice_index (slice_set nows line.shard now) s ≡ now_in opened s (lines ++ line ∷ [])) same.1
             (set ∙ is ∙ ap (λ (n : ℕ). max n line.moment) (t.times line.shard within) ∙ sym (own_time opened lines line))
         | inr apart ↦ get_or-set_other nows line.shard shard now 0 (λ e. apart.1 (sym e)) ∙ t.times shard h ∙ sym (other_time opened shard lines line apart.0)
       ];
-      moments = λ shard h. elim (eqb_tells line.shard shard) [
-        | inl same ↦ subst (λ (s : ℕ). IsMoment (slice_index (slice_set nows line.shard now) s)) same.1 (subst IsMoment (sym set) below)
-        | inr apart ↦ subst IsMoment (sym (get_or-set_other nows line.shard shard now 0 (λ e. apart.1 (sym e)))) (t.moments shard h)
-      ];
     }
 
 -- an entry with its shard's time
-pub record Timed (form : Format) (opened : ℕ) (lines : List Line) (line one : Line) (nows : List ℕ) : Type 0 where
+pub record Clocked (form : Format) (nows : List ℕ) (line one : Line) (after : List ℕ) : Type 0 where
   pub form_is : IsLine form one
   pub words : line_words form one ≡ line_words form line
-  pub timed : IsTimed form opened lines one
-  pub times : HasTimes nows opened (lines ++ one ∷ [])
+  pub clocked : IsClocked form nows one
+  pub after_is : after ≡ times_after nows one
 
-pub timed_line : (form : Format) (opened : ℕ) (lines : List Line) (line one : Line) (now : ℕ) (nows : List ℕ) → IsLine form line → HasTimes nows opened lines
-    → now ≡ max (slice_index nows line.shard) line.moment → (form ≡ First → one ≡ record line { now = now }) → (form ≡ Second → one ≡ line)
-    → Timed form opened lines line one (slice_set nows line.shard now)
-timed_line First opened lines line one now nows h t is first second =
+pub clocked_line : (form : Format) (nows : List ℕ) (line one : Line) (now : ℕ) (after : List ℕ) → IsLine form line → AreTimes nows → now ≡ time_of nows line
+    → after ≡ slice_set nows line.shard now → (form ≡ First → one ≡ record line { now = now }) → (form ≡ Second → one ≡ line) → Clocked form nows line one after
+clocked_line First nows line one now after h t is set first second =
     let before = t.moments line.shard h.shard in
     let below : IsMoment now = subst IsMoment (sym is) (max_below _ _ _ before h.moment) in
-    subst (λ (o : Line). Timed First opened lines line o (slice_set nows line.shard now)) (sym (first refl))
+    subst (λ (o : Line). Clocked First nows line o after) (sym (first refl))
     (record {
       form_is = record {
         stamp = h.stamp;
@@ -84,9 +85,16 @@ timed_line First opened lines line one now nows h t is first second =
         contents = h.contents;
       };
       words = refl;
-      timed = is ∙ ap (λ (n : ℕ). max n line.moment) (t.times line.shard h.shard) ∙ sym (own_time opened lines (record line { now = now }));
-      times = HasTimes-more nows opened lines (record line { now = now }) now t h.shard h.moment is;
+      clocked = is;
+      after_is = set ∙ ap (λ (n : ℕ). slice_set nows line.shard n) is;
     })
-timed_line Second opened lines line one now nows h t is first second =
-    subst (λ (o : Line). Timed Second opened lines line o (slice_set nows line.shard now)) (sym (second refl))
-    (record { form_is = h; words = refl; timed = tt; times = HasTimes-more nows opened lines line now t h.shard h.moment is })
+clocked_line Second nows line one now after h t is set first second =
+    subst (λ (o : Line). Clocked Second nows line o after) (sym (second refl))
+    (record { form_is = h; words = refl; clocked = tt; after_is = set ∙ ap (λ (n : ℕ). slice_set nows line.shard n) is })
+
+-- and its time is the one that it has to have
+pub timed_line : (form : Format) (opened : ℕ) (lines : List Line) (line : Line) (nows : List ℕ) → HasTimes nows opened lines → line.shard < 16 → IsClocked form nows line
+    → IsTimed form opened lines line
+timed_line First opened lines line nows t within clocked =
+    clocked ∙ ap (λ (n : ℕ). max n line.moment) (t.times line.shard within) ∙ sym (own_time opened lines line)
+timed_line Second opened lines line nows t within clocked = tt

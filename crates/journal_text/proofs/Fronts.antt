@@ -8,7 +8,6 @@ use Rattle.journal_text.specs.declared.text.Format.{Format}
 use Rattle.journal_text.specs.declared.text.Format.TheVariants.{First, Second}
 use Rattle.journal_text.specs.declared.text.JournalText.{JournalText}
 use Rattle.journal_text.specs.declared.text.Line.{Line}
-use Rattle.journal_text.specs.declared.reading.Reader.{Reader}
 use Rattle.journal_text.specs.Lines.{Fits, IsFile, IsLine, IsOpening}
 use Rattle.journal_text.specs.Words.{IsRow, file_words, first_words, last_words, line_words, words_of}
 use Rattle.journal_text.specs.Journals.{AreFiles, IsWithin, body_rows, file_text, first_text, last_text, line_text, most_entries, row_text, rows_of}
@@ -155,37 +154,37 @@ line_taken form other last before k rest row behind line cut words more goes =
 
 -- ---- no line more
 
-no_items : {T : Type 0} (xs : List T) → length xs ≤ 0 → xs ≡ []
+pub no_items : {T : Type 0} (xs : List T) → length xs ≤ 0 → xs ≡ []
 no_items [] h = refl
 no_items (x ∷ xs) h = absurd (omega (arith, h))
 
-no_next : (reader : Reader) (k : Option ℕ) (rest row behind : List ℕ) → Row rest row behind → IsUnfit (words_of row) reader → length reader.lines.items ≤ most_entries
-    → (files : List (List ℕ × List ℕ)) (lines : List Line) → AreFiles reader.last files → AllByRecursion (IsLine reader.form) lines → length reader.lines.items + length lines ≤ most_entries
-    → (0 < length reader.lines.items → files ≡ []) → Begins (one_more k) (body_rows reader.form (length reader.lines.items) files lines) rest → ⊥
-no_next reader k rest row behind cut unfit within [] [] are each few none begins =
-    let head = last_head reader.form k rest row behind (length reader.lines.items) [] cut (omega (arith, within)) begins in unfit.last head.0
-no_next reader k rest row behind cut unfit within [] (line ∷ lines) are each few none begins =
-    let head = line_head reader.form k rest row behind line (body_rows reader.form (suc (length reader.lines.items)) [] lines) cut each.0 begins in
+no_next : (form : Format) (mark : Option (List ℕ)) (entries : ℕ) (k : Option ℕ) (rest row behind : List ℕ) → Row rest row behind → IsUnfit (words_of row) form mark entries
+    → entries ≤ most_entries → (files : List (List ℕ × List ℕ)) (lines : List Line) → AreFiles mark files → AllByRecursion (IsLine form) lines
+    → entries + length lines ≤ most_entries → (0 < entries → files ≡ []) → Begins (one_more k) (body_rows form entries files lines) rest → ⊥
+no_next form mark entries k rest row behind cut unfit within [] [] are each few none begins =
+    let head = last_head form k rest row behind entries [] cut (omega (arith, within)) begins in unfit.last head.0
+no_next form mark entries k rest row behind cut unfit within [] (line ∷ lines) are each few none begins =
+    let head = line_head form k rest row behind line (body_rows form (suc entries) [] lines) cut each.0 begins in
     unfit.line line each.0 (omega (arith, few)) head.0
-no_next reader k rest row behind cut unfit within (file ∷ files) lines are each few none begins =
-    let head = file_head k rest row behind file (body_rows reader.form (length reader.lines.items) files lines) cut are.0 begins in
-    let empty : length reader.lines.items ≤ 0 = elim (cases_lt 0 (length reader.lines.items)) [
+no_next form mark entries k rest row behind cut unfit within (file ∷ files) lines are each few none begins =
+    let head = file_head k rest row behind file (body_rows form entries files lines) cut are.0 begins in
+    let empty : entries ≡ 0 = elim (cases_lt 0 entries) [
       | inl some ↦ (let files_none = none some in absurd (omega (arith, ap length files_none)))
-      | inr least ↦ least
+      | inr least ↦ omega (arith, least)
     ] in
-    unfit.file file are.0 (no_items reader.lines.items empty) are.1 head.0
+    unfit.file file are.0 empty are.1 head.0
 
-pub refused : (reader : Reader) (other : Format) (k : Option ℕ) (rest row behind : List ℕ) → Row rest row behind → IsUnfit (words_of row) reader
-    → length reader.lines.items ≤ most_entries → Goes reader.form other reader.last (length reader.lines.items) rest (one_more k) → ⊥
-refused reader other k rest row behind cut unfit within goes =
-    no_next reader k rest row behind cut unfit within goes.files goes.lines goes.files_are goes.lines_are goes.few goes.none goes.begins
+pub refused : (form other : Format) (mark : Option (List ℕ)) (entries : ℕ) (k : Option ℕ) (rest row behind : List ℕ) → Row rest row behind
+    → IsUnfit (words_of row) form mark entries → entries ≤ most_entries → Goes form other mark entries rest (one_more k) → ⊥
+refused form other mark entries k rest row behind cut unfit within goes =
+    no_next form mark entries k rest row behind cut unfit within goes.files goes.lines goes.files_are goes.lines_are goes.few goes.none goes.begins
 
 -- no line is left
 no_row : (k : Option ℕ) (rest line : List ℕ) (rows : List (List ℕ)) → IsRow rest → Begins (one_more k) ((line ++ 10 ∷ []) ∷ rows) rest → ⊥
 no_row None rest line rows h (more, is, begins) = no_line rest line more h (is ∙ append_assoc line (10 ∷ []) more)
 no_row (Some n) rest line rows h (more, is, begins) = no_line rest line more h (is ∙ append_assoc line (10 ∷ []) more)
 
-missing_in : (form : Format) (before : ℕ) (k : Option ℕ) (rest : List ℕ) → IsRow rest → (files : List (List ℕ × List ℕ)) (lines : List Line)
+pub missing_in : (form : Format) (before : ℕ) (k : Option ℕ) (rest : List ℕ) → IsRow rest → (files : List (List ℕ × List ℕ)) (lines : List Line)
     → Begins (one_more k) (body_rows form before files lines) rest → ⊥
 missing_in form before k rest h [] [] begins = no_row k rest (join_with_byte 32 (last_words form before)) [] h begins
 missing_in form before k rest h [] (line ∷ lines) begins = no_row k rest (join_with_byte 32 (line_words form line)) _ h begins

@@ -1,18 +1,20 @@
 -- A journal, read one line further.
-use Rattle.std.proofs.Common.{◌≡◌, ℕ, suc, ◌≤◌, List, [], ◌∷◌, ◌++◌, length, Option, None, Some, inl, inr, refl, sym, ap, ◌∙◌, subst, arith, append_assoc, append-nil}
+use Rattle.std.proofs.Common.{◌≡◌, ℕ, suc, ◌<◌, List, [], ◌∷◌, ◌++◌, length, Option, None, Some, inl, inr, refl, sym, ap, ◌∙◌, subst, arith, append_assoc, append-nil}
 use Rattle.std.specs.List.{AllByRecursion, flat_map}
 use Rattle.std.proofs.lemmas.Grind.{flat_map-append}
 use Rattle.std.proofs.lemmas.List.{length-append}
 use Rattle.journal_text.specs.declared.text.Format.{Format}
 use Rattle.journal_text.specs.declared.text.Line.{Line}
+use Rattle.journal_text.specs.declared.text.JournalText.{JournalText}
 use Rattle.journal_text.specs.declared.reading.Reader.{Reader}
-use Rattle.journal_text.specs.declared.reading.Taken.TheVariants.{On}
-use Rattle.journal_text.specs.Lines.{IsFile, IsLine, IsOpening}
+use Rattle.journal_text.specs.declared.journal.Step.TheVariants.{On}
+use Rattle.journal_text.specs.Lines.{IsFile, IsLine}
 use Rattle.journal_text.specs.Words.{file_words, first_words, line_words, words_of}
 use Rattle.journal_text.specs.Journals.{AreFiles, AreTimed, IsAfter, IsTimed, file_text, first_text, line_text, most_entries}
-use Rattle.journal_text.specs.Reader.{AddsFile, AddsLine, HasTimes, IsReader, KeepsHead, Takes, last_name}
-use Rattle.journal_text.specs.SoFar.{Goes, IsSoFar, one_more}
-use Rattle.journal_text.proofs.Fronts.{Row, begun, file_taken, line_taken}
+use Rattle.journal_text.specs.Reader.{Adds, IsReader, TakesFile, TakesLine, begun_text, last_name, time_of, with_file, with_line}
+use Rattle.journal_text.specs.SoFar.{Goes, IsSoFar, Stands, Steps, one_more}
+use Rattle.journal_text.proofs.Clocks.{HasTimes-more, timed_line}
+use Rattle.journal_text.proofs.Fronts.{Row, begun, file_taken, line_taken, no_items}
 use Rattle.journal_text.proofs.Rows.{row_of_words}
 
 -- ---- lists that grow at their end
@@ -38,46 +40,51 @@ AreTimed-more form opened before (one ∷ lines) line are is =
 
 -- ---- the reader stays as it has to be
 
-pub with_file : (old new : Reader) (file : List ℕ × List ℕ) → IsReader old → IsFile file → AddsFile old file new → IsReader new
-with_file old new file h is adds =
-    let after = subst (λ (l : Option (List ℕ)). IsAfter l file.0) h.last adds.after in
-    let head = adds.head in
-    record {
-      opening = subst (λ (f : Format). IsOpening f new.opened new.first) (sym head.form)
-          (subst (λ (n : ℕ). IsOpening old.form n new.first) (sym head.opened) (subst (λ (n : ℕ). IsOpening old.form old.opened n) (sym head.first) h.opening));
-      files = subst (AreFiles None) (sym adds.files) (AreFiles-more None old.files.items file h.files is after);
-      last = adds.last ∙ sym (last_name-more None old.files.items file) ∙ ap (last_name None) (sym adds.files);
-      lines = subst (λ (f : Format). AllByRecursion (IsLine f) new.lines.items) (sym head.form) (subst (AllByRecursion (IsLine old.form)) (sym adds.lines) h.lines);
-      few = subst (λ (l : List Line). length l ≤ most_entries) (sym adds.lines) h.few;
-      timed = subst (λ (l : List Line). AreTimed new.form new.opened [] l) (sym adds.lines)
-          (subst (λ (f : Format). AreTimed f new.opened [] old.lines.items) (sym head.form) (subst (λ (n : ℕ). AreTimed old.form n [] old.lines.items) (sym head.opened) h.timed));
-      times = subst (λ (l : List Line). HasTimes new.nows new.opened l) (sym adds.lines)
-          (subst (λ (n : ℕ). HasTimes new.nows n old.lines.items) (sym head.opened) (subst (λ (n : List ℕ). HasTimes n old.opened old.lines.items) (sym adds.nows) h.times));
-    }
+pub reads_file : (words : List (List ℕ)) (old new : Reader) (text : JournalText) (file : List ℕ × List ℕ) → IsReader old text → TakesFile words old file new
+    → IsReader new (with_file text file)
+reads_file words old new text file h takes =
+    let within = h.within in
+    let after = subst (λ (l : Option (List ℕ)). IsAfter l file.0) h.last takes.after in
+    subst (λ (r : Reader). IsReader r (with_file text file)) (sym takes.new_is)
+    (record {
+      opened = h.opened;
+      first = h.first;
+      within = record {
+        opening = within.opening;
+        files = AreFiles-more None text.files file within.files takes.form_is after;
+        lines = within.lines;
+        few = within.few;
+        timed = within.timed;
+      };
+      last = sym (last_name-more None text.files file);
+      entries = h.entries;
+      times = h.times;
+    })
 
-pub with_line : (old new : Reader) (line : Line) → IsReader old → IsLine old.form line → AddsLine old line new → IsReader new
-with_line old new line h is adds =
-    let head = adds.head in
-    let few = adds.few in
-    let len = ap length adds.lines ∙ length-append old.lines.items (line ∷ []) in
-    let timed = AreTimed-more old.form old.opened [] old.lines.items line h.timed adds.timed in
-    record {
-      opening = subst (λ (f : Format). IsOpening f new.opened new.first) (sym head.form)
-          (subst (λ (n : ℕ). IsOpening old.form n new.first) (sym head.opened) (subst (λ (n : ℕ). IsOpening old.form old.opened n) (sym head.first) h.opening));
-      files = subst (AreFiles None) (sym adds.files) h.files;
-      last = adds.last ∙ h.last ∙ ap (last_name None) (sym adds.files);
-      lines = subst (λ (f : Format). AllByRecursion (IsLine f) new.lines.items) (sym head.form)
-          (subst (AllByRecursion (IsLine old.form)) (sym adds.lines) (all-more old.form old.lines.items line h.lines is));
-      few = omega (arith, len, few);
-      timed = subst (λ (l : List Line). AreTimed new.form new.opened [] l) (sym adds.lines)
-          (subst (λ (f : Format). AreTimed f new.opened [] (old.lines.items ++ line ∷ [])) (sym head.form)
-          (subst (λ (n : ℕ). AreTimed old.form n [] (old.lines.items ++ line ∷ [])) (sym head.opened) timed));
-      times = subst (λ (n : ℕ). HasTimes new.nows n new.lines.items) (sym head.opened) adds.times;
-    }
-
-pub taken_on : (words : List (List ℕ)) (old new : Reader) → IsReader old → Takes words old On new → IsReader new
-taken_on words old new h (inl (file, is, said, adds)) = with_file old new file h is adds
-taken_on words old new h (inr (line, is, said, adds)) = with_line old new line h is adds
+pub reads_line : (words : List (List ℕ)) (old new : Reader) (text : JournalText) (line : Line) → IsReader old text → TakesLine words old line new
+    → IsReader new (with_line text line)
+reads_line words old new text line h takes =
+    let within = h.within in
+    let is = takes.form_is in
+    let len = length-append text.lines (line ∷ []) in
+    let few = takes.few in
+    let entries = h.entries in
+    let timed = timed_line old.form text.opened text.lines line old.nows h.times is.shard takes.clocked in
+    subst (λ (r : Reader). IsReader r (with_line text line)) (sym takes.new_is)
+    (record {
+      opened = h.opened;
+      first = h.first;
+      within = record {
+        opening = within.opening;
+        files = within.files;
+        lines = all-more old.form text.lines line within.lines is;
+        few = omega (arith, len, few, entries);
+        timed = AreTimed-more old.form text.opened [] text.lines line within.timed timed;
+      };
+      last = h.last;
+      entries = omega (arith, len, entries);
+      times = HasTimes-more old.nows text.opened text.lines line (time_of old.nows line) h.times is.shard is.moment refl;
+    })
 
 -- ---- the bytes so far
 
@@ -102,83 +109,89 @@ line_front form opened first files lines line rest =
     ap (λ (l : List ℕ). first_text form opened first ++ (flat_map file_text files ++ l))
     (sym (append_assoc (flat_map (line_text form) lines) (line_text form line) rest) ∙ ap (λ (l : List ℕ). l ++ rest) (sym (flat-more (line_text form) lines line)))
 
-same_front : (old new : Reader) (files : List File) (lines : List Line) (rest : List ℕ) → KeepsHead old new → new.files.items ≡ files → new.lines.items ≡ lines
-    → front_text old.form old.opened old.first files lines rest ≡ front_text new.form new.opened new.first new.files.items new.lines.items rest
-same_front old new files lines rest head f l =
-    ap (λ (form : Format). front_text form old.opened old.first files lines rest) (sym head.form)
-    ∙ ap (λ (n : ℕ). front_text new.form n old.first files lines rest) (sym head.opened)
-    ∙ ap (λ (n : ℕ). front_text new.form new.opened n files lines rest) (sym head.first)
-    ∙ ap (λ (fs : List File). front_text new.form new.opened new.first fs lines rest) (sym f)
-    ∙ ap (λ (ls : List Line). front_text new.form new.opened new.first new.files.items ls rest) (sym l)
-
-pub file_more : (bytes rest row behind : List ℕ) (old new : Reader) (n : ℕ) (file : File) → Row rest row behind → IsSoFar bytes rest old n → IsFile file
-    → words_of row ≡ file_words file → AddsFile old file new → IsSoFar bytes behind new (suc n)
-file_more bytes rest row behind old new n file cut so is words adds =
-    let head = adds.head in
-    let empty : length old.lines.items ≡ 0 = ap length adds.none in
+pub file_more : (bytes rest row behind : List ℕ) (form : Format) (text : JournalText) (n : ℕ) (file : File) → Row rest row behind → IsSoFar bytes rest form text n
+    → IsFile file → words_of row ≡ file_words file → text.lines ≡ [] → IsSoFar bytes behind form (with_file text file) (suc n)
+file_more bytes rest row behind form text n file cut so is words none =
+    let empty : length text.lines ≡ 0 = ap length none in
     let cut_row : rest ≡ file_text file ++ behind = cut.cut ∙ row_of_words row behind (file_words file) words in
     let count = so.count in
-    let many = ap length adds.files ∙ length-append old.files.items (file ∷ []) in
-    let lines = ap length adds.lines in
+    let many = length-append text.files (file ∷ []) in
     record {
-      whole = so.whole ∙ ap (front_text old.form old.opened old.first old.files.items old.lines.items) cut_row
-          ∙ ap (λ (l : List Line). front_text old.form old.opened old.first old.files.items l (file_text file ++ behind)) adds.none
-          ∙ file_front old.form old.opened old.first old.files.items file behind
-          ∙ same_front old new (old.files.items ++ file ∷ []) [] behind head adds.files (adds.lines ∙ adds.none);
-      count = omega (arith, count, many, lines);
-      only = λ other text k within begins.
-          let goes = so.only other text (one_more k) within begins in
-          let next = file_taken old.form other old.last (length old.lines.items) k rest row behind file cut is words empty goes in
-          subst (λ (f : Format). Goes f other new.last (length new.lines.items) behind k) (sym head.form)
-          (subst (λ (l : Option (List ℕ)). Goes old.form other l (length new.lines.items) behind k) (sym adds.last)
-          (subst (λ (m : ℕ). Goes old.form other (Some file.0) m behind k) (sym lines) next));
+      whole = so.whole ∙ ap (front_text form text.opened text.first text.files text.lines) cut_row
+          ∙ ap (λ (l : List Line). front_text form text.opened text.first text.files l (file_text file ++ behind)) none
+          ∙ file_front form text.opened text.first text.files file behind
+          ∙ ap (λ (l : List Line). front_text form text.opened text.first (text.files ++ file ∷ []) l behind) (sym none);
+      count = omega (arith, count, many);
+      only = λ other any k within begins.
+          let goes = so.only other any (one_more k) within begins in
+          let next = file_taken form other (last_name None text.files) (length text.lines) k rest row behind file cut is words empty goes in
+          subst (λ (l : Option (List ℕ)). Goes form other l (length text.lines) behind k) (sym (last_name-more None text.files file)) next;
     }
 
-pub line_more : (bytes rest row behind : List ℕ) (old new : Reader) (n : ℕ) (line : Line) → Row rest row behind → IsSoFar bytes rest old n
-    → words_of row ≡ line_words old.form line → AddsLine old line new → IsSoFar bytes behind new (suc n)
-line_more bytes rest row behind old new n line cut so words adds =
-    let head = adds.head in
-    let cut_row : rest ≡ line_text old.form line ++ behind = cut.cut ∙ row_of_words row behind (line_words old.form line) words in
+pub line_more : (bytes rest row behind : List ℕ) (form : Format) (text : JournalText) (n : ℕ) (line : Line) → Row rest row behind → IsSoFar bytes rest form text n
+    → words_of row ≡ line_words form line → length text.lines < most_entries → IsSoFar bytes behind form (with_line text line) (suc n)
+line_more bytes rest row behind form text n line cut so words few =
+    let cut_row : rest ≡ line_text form line ++ behind = cut.cut ∙ row_of_words row behind (line_words form line) words in
     let count = so.count in
-    let files = ap length adds.files in
-    let many = ap length adds.lines ∙ length-append old.lines.items (line ∷ []) in
-    let longer : length new.lines.items ≡ suc (length old.lines.items) = omega (arith, many) in
+    let many = length-append text.lines (line ∷ []) in
+    let longer : length (text.lines ++ line ∷ []) ≡ suc (length text.lines) = omega (arith, many) in
     record {
-      whole = so.whole ∙ ap (front_text old.form old.opened old.first old.files.items old.lines.items) cut_row
-          ∙ line_front old.form old.opened old.first old.files.items old.lines.items line behind
-          ∙ same_front old new old.files.items (old.lines.items ++ line ∷ []) behind head adds.files adds.lines;
-      count = omega (arith, count, longer, files);
-      only = λ other text k within begins.
-          let goes = so.only other text (one_more k) within begins in
-          let next = line_taken old.form other old.last (length old.lines.items) k rest row behind line cut words adds.few goes in
-          subst (λ (f : Format). Goes f other new.last (length new.lines.items) behind k) (sym head.form)
-          (subst (λ (l : Option (List ℕ)). Goes old.form other l (length new.lines.items) behind k) (sym adds.last)
-          (subst (λ (m : ℕ). Goes old.form other old.last m behind k) (sym longer) next));
+      whole = so.whole ∙ ap (front_text form text.opened text.first text.files text.lines) cut_row
+          ∙ line_front form text.opened text.first text.files text.lines line behind;
+      count = omega (arith, count, longer);
+      only = λ other any k within begins.
+          let goes = so.only other any (one_more k) within begins in
+          let next = line_taken form other (last_name None text.files) (length text.lines) k rest row behind line cut words few goes in
+          subst (λ (m : ℕ). Goes form other (last_name None text.files) m behind k) (sym longer) next;
     }
 
-pub on_more : (bytes rest row behind : List ℕ) (old new : Reader) (n : ℕ) → Row rest row behind → IsSoFar bytes rest old n → Takes (words_of row) old On new
-    → IsSoFar bytes behind new (suc n)
-on_more bytes rest row behind old new n cut so (inl (file, is, said, adds)) = file_more bytes rest row behind old new n file cut so is said adds
-on_more bytes rest row behind old new n cut so (inr (line, is, said, adds)) = line_more bytes rest row behind old new n line cut so said adds
+-- one line further
+record Further (bytes behind : List ℕ) (new : Reader) (next : JournalText) (n : ℕ) : Type 0 where
+  pub reader_is : IsReader new next
+  pub so : IsSoFar bytes behind new.form next n
 
-pub so_begun : (bytes row behind : List ℕ) (reader : Reader) (opened first : ℕ) (form : Format) → Row bytes row behind → words_of row ≡ first_words form opened first
-    → reader.form ≡ form → reader.opened ≡ opened → reader.first ≡ first → reader.files.items ≡ [] → reader.lines.items ≡ [] → IsReader reader
-    → IsSoFar bytes behind reader 1
-so_begun bytes row behind reader opened first form cut words f o v files lines h =
-    let own : words_of row ≡ first_words reader.form reader.opened reader.first =
-    words ∙ ap (λ (x : Format). first_words x opened first) (sym f) ∙ ap (λ (x : ℕ). first_words reader.form x first) (sym o)
-    ∙ ap (λ (x : ℕ). first_words reader.form reader.opened x) (sym v)
-    in
-    let cut_row : bytes ≡ first_text reader.form reader.opened reader.first ++ behind = cut.cut ∙ row_of_words row behind _ own in
-    let none : length reader.lines.items ≡ 0 = ap length lines in
-    let last : reader.last ≡ None = h.last ∙ ap (last_name None) files in
+further_file : (bytes rest row behind : List ℕ) (old new : Reader) (text : JournalText) (n : ℕ) (file : File) → Row rest row behind → IsReader old text
+    → IsSoFar bytes rest old.form text n → TakesFile (words_of row) old file new → Further bytes behind new (with_file text file) (suc n)
+further_file bytes rest row behind old new text n file cut h so takes =
+    let entries = h.entries in
+    let none = takes.none in
+    let form : new.form ≡ old.form = ap (λ (r : Reader). r.form) takes.new_is in
     record {
-      whole = cut_row
-          ∙ ap (λ (fs : List File). front_text reader.form reader.opened reader.first fs [] behind) (sym files)
-          ∙ ap (λ (ls : List Line). front_text reader.form reader.opened reader.first reader.files.items ls behind) (sym lines);
-      count = omega (arith, ap length files, none);
-      only = λ other text k within begins.
-          let goes = begun reader.form other reader.opened reader.first text k bytes row behind cut own within begins in
-          subst (λ (l : Option (List ℕ)). Goes reader.form other l (length reader.lines.items) behind k) (sym last)
-          (subst (λ (m : ℕ). Goes reader.form other None m behind k) (sym none) goes);
+      reader_is = reads_file (words_of row) old new text file h takes;
+      so = subst (λ (f : Format). IsSoFar bytes behind f (with_file text file) (suc n)) (sym form)
+          (file_more bytes rest row behind old.form text n file cut so takes.form_is takes.said (no_items text.lines (omega (arith, entries, none))));
     }
+
+further_line : (bytes rest row behind : List ℕ) (old new : Reader) (text : JournalText) (n : ℕ) (line : Line) → Row rest row behind → IsReader old text
+    → IsSoFar bytes rest old.form text n → TakesLine (words_of row) old line new → Further bytes behind new (with_line text line) (suc n)
+further_line bytes rest row behind old new text n line cut h so takes =
+    let entries = h.entries in
+    let few = takes.few in
+    let form : new.form ≡ old.form = ap (λ (r : Reader). r.form) takes.new_is in
+    record {
+      reader_is = reads_line (words_of row) old new text line h takes;
+      so = subst (λ (f : Format). IsSoFar bytes behind f (with_line text line) (suc n)) (sym form)
+          (line_more bytes rest row behind old.form text n line cut so takes.said (omega (arith, entries, few)));
+    }
+
+further : (bytes rest row behind : List ℕ) (old new : Reader) (text next : JournalText) (n : ℕ) → Row rest row behind → IsReader old text → IsSoFar bytes rest old.form text n
+    → Adds (words_of row) old text new next → Further bytes behind new next (suc n)
+further bytes rest row behind old new text next n cut h so (inl (file, takes, is)) =
+    subst (λ (t : JournalText). Further bytes behind new t (suc n)) (sym is) (further_file bytes rest row behind old new text n file cut h so takes)
+further bytes rest row behind old new text next n cut h so (inr (line, takes, is)) =
+    subst (λ (t : JournalText). Further bytes behind new t (suc n)) (sym is) (further_line bytes rest row behind old new text n line cut h so takes)
+
+pub on_more : {R : Type 0} (keeps : R → List File → List Line → Type 0) (bytes rest row behind : List ℕ) (old new : Reader) (keeper keeper' : R) (n : ℕ) → Row rest row behind
+    → Stands keeps bytes rest old keeper n → Steps keeps (words_of row) old keeper On new keeper' → Stands keeps bytes behind new keeper' (suc n)
+on_more keeps bytes rest row behind old new keeper keeper' n cut stands steps =
+    let next = steps stands.text stands.kept in
+    let more = further bytes rest row behind old new stands.text next.0 n cut stands.reader_is stands.so next.2 in
+    record { text = next.0; kept = next.1; reader_is = more.reader_is; so = more.so }
+
+pub so_begun : (bytes row behind : List ℕ) (form : Format) (opened first : ℕ) → Row bytes row behind → words_of row ≡ first_words form opened first
+    → IsSoFar bytes behind form (begun_text opened first) 1
+so_begun bytes row behind form opened first cut words = record {
+  whole = cut.cut ∙ row_of_words row behind _ words;
+  count = omega arith;
+  only = λ other any k within begins. begun form other opened first any k bytes row behind cut words within begins;
+}

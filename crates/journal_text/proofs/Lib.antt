@@ -13,6 +13,7 @@ mod Rows
 mod Fronts
 mod Growing
 mod Outcomes
+mod Again
 pub mod LineTexts
 mod HostBounds
 mod HostTexts

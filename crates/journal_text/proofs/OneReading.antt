@@ -201,7 +201,7 @@ one_form form form' text other h k e =
 
 -- bytes read as one text at most
 pub one_reading : (bytes : List ℕ) (text other : JournalText) → IsReading bytes text → IsReading bytes other → text ≡ other
-one_reading bytes text other (form, h, is) (form', k, was) =
+one_reading bytes text other (form, (h, is)) (form', (k, was)) =
     let both = sym is ∙ was in
     let same = one_form form form' text other h k both in
     same_whole form text other h (subst (λ (f : Format). IsWithin f other) same k) (both ∙ ap (λ (f : Format). text_of (rows_of f other)) same)

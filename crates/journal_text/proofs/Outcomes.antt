@@ -9,9 +9,9 @@ use Rattle.journal_text.specs.declared.text.Line.{Line}
 use Rattle.journal_text.specs.declared.reading.Reader.{Reader}
 use Rattle.journal_text.specs.Lines.{IsOpening}
 use Rattle.journal_text.specs.Words.{IsRow, first_words, last_words, words_of}
-use Rattle.journal_text.specs.Journals.{BeginsWith, IsBadLine, IsReading, IsWithin, body_rows, file_text, first_text, last_text, line_text, rows_of, text_of}
-use Rattle.journal_text.specs.Reader.{IsReader, IsUnfit, text_in}
-use Rattle.journal_text.specs.SoFar.{Begins, Goes, IsSoFar, more, one_more}
+use Rattle.journal_text.specs.Journals.{BeginsWith, IsBadLine, IsReadingIn, IsWithin, body_rows, file_text, first_text, last_text, line_text, rows_of, text_of}
+use Rattle.journal_text.specs.Reader.{IsReader, IsUnfit, last_name}
+use Rattle.journal_text.specs.SoFar.{Begins, Goes, IsRead, IsSoFar, Stands, more, one_more}
 use Rattle.journal_text.proofs.Fronts.{Row, ended, missing, missing_first, not_begun, refused}
 use Rattle.journal_text.proofs.Rows.{row_of_words}
 
@@ -22,7 +22,7 @@ begins_with zero rows bytes h = tt
 begins_with (suc n) [] bytes h = h
 begins_with (suc n) (row ∷ rows) bytes (rest, is, h) = (rest, is, begins_with n rows rest h)
 
-all_begin : (rows : List (List ℕ)) (bytes : List ℕ) → bytes ≡ text_of rows → Begins None rows bytes
+pub all_begin : (rows : List (List ℕ)) (bytes : List ℕ) → bytes ≡ text_of rows → Begins None rows bytes
 all_begin [] bytes e = e
 all_begin (row ∷ rows) bytes e = (text_of rows, e, all_begin rows (text_of rows) refl)
 
@@ -69,66 +69,88 @@ body_begins form before (suc n) (file ∷ files) lines rest h = (
   body_begins form before n files lines rest (omega (arith, h)),
 )
 
-within_in : (reader : Reader) → IsReader reader → IsWithin reader.form (text_in reader)
-within_in reader h = record { opening = h.opening; files = h.files; lines = h.lines; few = h.few; timed = h.timed }
-
-own_begin : (bytes rest : List ℕ) (reader : Reader) (n : ℕ) → IsSoFar bytes rest reader n → BeginsWith n (rows_of reader.form (text_in reader)) bytes
-own_begin bytes rest reader n so =
-    subst (λ (m : ℕ). BeginsWith m (rows_of reader.form (text_in reader)) bytes) (sym so.count) (
-      flat_map file_text reader.files.items ++ (flat_map (line_text reader.form) reader.lines.items ++ rest),
+own_begin : (bytes rest : List ℕ) (form : Format) (text : JournalText) (n : ℕ) → IsSoFar bytes rest form text n → BeginsWith n (rows_of form text) bytes
+own_begin bytes rest form text n so =
+    subst (λ (m : ℕ). BeginsWith m (rows_of form text) bytes) (sym so.count) (
+      flat_map file_text text.files ++ (flat_map (line_text form) text.lines ++ rest),
       so.whole,
-      body_begins reader.form 0 (length reader.files.items + length reader.lines.items) reader.files.items reader.lines.items rest (omega arith),
+      body_begins form 0 (length text.files + length text.lines) text.files text.lines rest (omega arith),
     )
 
 -- ---- outcomes
 
 -- whatever begins goes on, and nothing may come next
-bad_next : (bytes rest : List ℕ) (reader : Reader) (n : ℕ) → IsReader reader → IsSoFar bytes rest reader n
-    → ((other : Format) (k : Option ℕ) → Goes reader.form other reader.last (length reader.lines.items) rest (one_more k) → ⊥) → IsBadLine bytes (suc n)
-bad_next bytes rest reader n h so stuck =
+bad_next : (bytes rest : List ℕ) (form : Format) (text : JournalText) (n : ℕ) → IsWithin form text → IsSoFar bytes rest form text n
+    → ((other : Format) (k : Option ℕ) → Goes form other (last_name None text.files) (length text.lines) rest (one_more k) → ⊥) → IsBadLine bytes (suc n)
+bad_next bytes rest form text n h so stuck =
     let before : suc n - 1 ≡ n = omega arith in
     let one : more n (Some 1) ≡ Some (suc n) = more_some n 1 ∙ ap Some (omega arith) in
     record {
       counted = omega arith;
-      good = (
-        reader.form,
-        text_in reader,
-        within_in reader h,
-        subst (λ (m : ℕ). BeginsWith m (rows_of reader.form (text_in reader)) bytes) (sym before) (own_begin bytes rest reader n so),
-      );
-      bad = λ form text within begins.
-          stuck form (Some 0) (so.only form text (Some 1) within
-          (subst (λ (k : Option ℕ). Begins k (rows_of form text) bytes) (sym one) (begins_with (suc n) (rows_of form text) bytes begins)));
-      unread = λ text reading.
-          let (form, within, is) = reading in
-          stuck form None (so.only form text None within
-          (subst (λ (k : Option ℕ). Begins k (rows_of form text) bytes) (sym (more_all n)) (all_begin (rows_of form text) bytes is)));
+      good = (form, text, h, subst (λ (m : ℕ). BeginsWith m (rows_of form text) bytes) (sym before) (own_begin bytes rest form text n so));
+      bad = λ other any within begins.
+          stuck other (Some 0) (so.only other any (Some 1) within
+          (subst (λ (k : Option ℕ). Begins k (rows_of other any) bytes) (sym one) (begins_with (suc n) (rows_of other any) bytes begins)));
+      unread = λ any reading.
+          let (other, (within, is)) = reading in
+          stuck other None (so.only other any None within
+          (subst (λ (k : Option ℕ). Begins k (rows_of other any) bytes) (sym (more_all n)) (all_begin (rows_of other any) bytes is)));
     }
 
-pub bad_row : (bytes rest row behind : List ℕ) (reader : Reader) (n : ℕ) → Row rest row behind → IsReader reader → IsSoFar bytes rest reader n
-    → IsUnfit (words_of row) reader → IsBadLine bytes (suc n)
-bad_row bytes rest row behind reader n cut h so unfit =
-    bad_next bytes rest reader n h so (λ other k goes. refused reader other k rest row behind cut unfit h.few goes)
+unfit_there : (words : List (List ℕ)) (reader : Reader) (text : JournalText) → IsReader reader text → IsUnfit words reader.form reader.last reader.entries
+    → IsUnfit words reader.form (last_name None text.files) (length text.lines)
+unfit_there words reader text h unfit =
+    subst (λ (n : ℕ). IsUnfit words reader.form (last_name None text.files) n) h.entries
+    (subst (λ (l : Option (List ℕ)). IsUnfit words reader.form l reader.entries) h.last unfit)
 
-pub no_row_left : (bytes rest : List ℕ) (reader : Reader) (n : ℕ) → IsRow rest → IsReader reader → IsSoFar bytes rest reader n → IsBadLine bytes (suc n)
-no_row_left bytes rest reader n none h so =
-    bad_next bytes rest reader n h so (λ other k goes. missing reader.form other reader.last (length reader.lines.items) k rest none goes)
+module _ {R : Type 0} (keeps : R → List File → List Line → Type 0) where
+  pub bad_row : (bytes rest row behind : List ℕ) (reader : Reader) (keeper : R) (n : ℕ) → Row rest row behind → Stands keeps bytes rest reader keeper n
+      → IsUnfit (words_of row) reader.form reader.last reader.entries → IsBadLine bytes (suc n)
+  bad_row bytes rest row behind reader keeper n cut stands unfit =
+      let text = stands.text in
+      let h = stands.reader_is in
+      let there = unfit_there (words_of row) reader text h unfit in
+      bad_next bytes rest reader.form text n h.within stands.so
+      (λ other k goes. refused reader.form other (last_name None text.files) (length text.lines) k rest row behind cut there h.within.few goes)
+
+  pub no_row_left : (bytes rest : List ℕ) (reader : Reader) (keeper : R) (n : ℕ) → IsRow rest → Stands keeps bytes rest reader keeper n → IsBadLine bytes (suc n)
+  no_row_left bytes rest reader keeper n none stands =
+      let text = stands.text in
+      let h = stands.reader_is in
+      bad_next bytes rest reader.form text n h.within stands.so (λ other k goes. missing reader.form other (last_name None text.files) (length text.lines) k rest none goes)
+
+last_there : (words : List (List ℕ)) (reader : Reader) (text : JournalText) → IsReader reader text → words ≡ last_words reader.form reader.entries
+    → words ≡ last_words reader.form (length text.lines)
+last_there words reader text h is = is ∙ ap (last_words reader.form) h.entries
 
 -- the bytes end with the last line
-pub all_read : (bytes rest row behind : List ℕ) (reader : Reader) (n : ℕ) → Row rest row behind → IsReader reader → IsSoFar bytes rest reader n
-    → words_of row ≡ last_words reader.form (length reader.lines.items) → behind ≡ [] → IsReading bytes (text_in reader)
-all_read bytes rest row behind reader n cut h so words none =
-    let cut_row : rest ≡ last_text reader.form (length reader.lines.items) =
-    cut.cut ∙ row_of_words row behind (last_words reader.form (length reader.lines.items)) words
-    ∙ ap (λ (l : List ℕ). last_text reader.form (length reader.lines.items) ++ l) none ∙ append-nil (last_text reader.form (length reader.lines.items))
+all_read_in : (bytes rest row behind : List ℕ) (form : Format) (text : JournalText) (n : ℕ) → Row rest row behind → IsWithin form text → IsSoFar bytes rest form text n
+    → words_of row ≡ last_words form (length text.lines) → behind ≡ [] → IsReadingIn form bytes text
+all_read_in bytes rest row behind form text n cut h so words none =
+    let cut_row : rest ≡ last_text form (length text.lines) =
+    cut.cut ∙ row_of_words row behind (last_words form (length text.lines)) words
+    ∙ ap (λ (l : List ℕ). last_text form (length text.lines) ++ l) none ∙ append-nil (last_text form (length text.lines))
     in (
-      reader.form,
-      within_in reader h,
+      h,
       so.whole
-          ∙ ap (λ (l : List ℕ). first_text reader.form reader.opened reader.first ++ (flat_map file_text reader.files.items ++ (flat_map (line_text reader.form) reader.lines.items ++ l)))
-          (cut_row ∙ ap (last_text reader.form) (omega arith))
-          ∙ ap (λ (l : List ℕ). first_text reader.form reader.opened reader.first ++ l) (sym (body_text reader.form 0 reader.files.items reader.lines.items)),
+          ∙ ap (λ (l : List ℕ). first_text form text.opened text.first ++ (flat_map file_text text.files ++ (flat_map (line_text form) text.lines ++ l)))
+          (cut_row ∙ ap (last_text form) (omega arith))
+          ∙ ap (λ (l : List ℕ). first_text form text.opened text.first ++ l) (sym (body_text form 0 text.files text.lines)),
     )
+
+pub all_read : {R : Type 0} (keeps : R → List File → List Line → Type 0) (bytes rest row behind : List ℕ) (reader : Reader) (keeper : R) (n : ℕ) → Row rest row behind
+    → Stands keeps bytes rest reader keeper n → words_of row ≡ last_words reader.form reader.entries → behind ≡ [] → IsRead keeps bytes reader keeper
+all_read keeps bytes rest row behind reader keeper n cut stands words none =
+    let text = stands.text in
+    let h = stands.reader_is in
+    record {
+      text = text;
+      kept = stands.kept;
+      read = record {
+        reader_is = h;
+        reading = all_read_in bytes rest row behind reader.form text n cut h.within stands.so (last_there (words_of row) reader text h words) none;
+      };
+    }
 
 last_begins : (form : Format) (before n : ℕ) (files : List File) (lines : List Line) (behind : List ℕ) → n ≡ length files + length lines
     → BeginsWith (suc n) (body_rows form before files lines)
@@ -152,39 +174,46 @@ last_begins form before (suc n) (file ∷ files) lines behind h = (
 )
 
 -- something stands behind the last line
-pub more_behind : (bytes rest row behind : List ℕ) (reader : Reader) (n : ℕ) → Row rest row behind → IsReader reader → IsSoFar bytes rest reader n
-    → words_of row ≡ last_words reader.form (length reader.lines.items) → 0 < length behind → IsBadLine bytes (suc (suc n))
-more_behind bytes rest row behind reader n cut h so words some =
+more_behind_in : (bytes rest row behind : List ℕ) (form : Format) (text : JournalText) (n : ℕ) → Row rest row behind → IsWithin form text → IsSoFar bytes rest form text n
+    → words_of row ≡ last_words form (length text.lines) → 0 < length behind → IsBadLine bytes (suc (suc n))
+more_behind_in bytes rest row behind form text n cut h so words some =
     let before : suc (suc n) - 1 ≡ suc n = omega arith in
     let two : more n (Some 2) ≡ Some (suc (suc n)) = more_some n 2 ∙ ap Some (omega arith) in
-    let cut_row : rest ≡ last_text reader.form (0 + length reader.lines.items) ++ behind =
-    cut.cut ∙ row_of_words row behind (last_words reader.form (length reader.lines.items)) words
-    ∙ ap (λ (m : ℕ). last_text reader.form m ++ behind) (omega arith)
+    let cut_row : rest ≡ last_text form (0 + length text.lines) ++ behind =
+    cut.cut ∙ row_of_words row behind (last_words form (length text.lines)) words
+    ∙ ap (λ (m : ℕ). last_text form m ++ behind) (omega arith)
     in
     record {
       counted = omega arith;
       good = (
-        reader.form,
-        text_in reader,
-        within_in reader h,
-        subst (λ (m : ℕ). BeginsWith m (rows_of reader.form (text_in reader)) bytes) (ap suc (sym so.count) ∙ sym before) (
-          flat_map file_text reader.files.items ++ (flat_map (line_text reader.form) reader.lines.items ++ (last_text reader.form (0 + length reader.lines.items) ++ behind)),
-          so.whole ∙ ap (λ (l : List ℕ). first_text reader.form reader.opened reader.first ++ (flat_map file_text reader.files.items ++ (flat_map (line_text reader.form) reader.lines.items ++ l))) cut_row,
-          last_begins reader.form 0 (length reader.files.items + length reader.lines.items) reader.files.items reader.lines.items behind refl,
+        form,
+        text,
+        h,
+        subst (λ (m : ℕ). BeginsWith m (rows_of form text) bytes) (ap suc (sym so.count) ∙ sym before) (
+          flat_map file_text text.files ++ (flat_map (line_text form) text.lines ++ (last_text form (0 + length text.lines) ++ behind)),
+          so.whole ∙ ap (λ (l : List ℕ). first_text form text.opened text.first ++ (flat_map file_text text.files ++ (flat_map (line_text form) text.lines ++ l))) cut_row,
+          last_begins form 0 (length text.files + length text.lines) text.files text.lines behind refl,
         ),
       );
-      bad = λ form text within begins.
-          ended reader.form form reader.last (length reader.lines.items) (Some 1) rest row behind cut words h.few
-          (so.only form text (Some 2) within
-          (subst (λ (k : Option ℕ). Begins k (rows_of form text) bytes) (sym two) (begins_with (suc (suc n)) (rows_of form text) bytes begins)));
-      unread = λ text reading.
-          let (form, within, is) = reading in
-          let none : behind ≡ [] = ended reader.form form reader.last (length reader.lines.items) None rest row behind cut words h.few
-          (so.only form text None within
-          (subst (λ (k : Option ℕ). Begins k (rows_of form text) bytes) (sym (more_all n)) (all_begin (rows_of form text) bytes is)))
+      bad = λ other any within begins.
+          ended form other (last_name None text.files) (length text.lines) (Some 1) rest row behind cut words h.few
+          (so.only other any (Some 2) within
+          (subst (λ (k : Option ℕ). Begins k (rows_of other any) bytes) (sym two) (begins_with (suc (suc n)) (rows_of other any) bytes begins)));
+      unread = λ any reading.
+          let (other, (within, is)) = reading in
+          let none : behind ≡ [] = ended form other (last_name None text.files) (length text.lines) None rest row behind cut words h.few
+          (so.only other any None within
+          (subst (λ (k : Option ℕ). Begins k (rows_of other any) bytes) (sym (more_all n)) (all_begin (rows_of other any) bytes is)))
           in
           omega (arith, some, ap length none);
     }
+
+pub more_behind : {R : Type 0} (keeps : R → List File → List Line → Type 0) (bytes rest row behind : List ℕ) (reader : Reader) (keeper : R) (n : ℕ) → Row rest row behind
+    → Stands keeps bytes rest reader keeper n → words_of row ≡ last_words reader.form reader.entries → 0 < length behind → IsBadLine bytes (suc (suc n))
+more_behind keeps bytes rest row behind reader keeper n cut stands words some =
+    let text = stands.text in
+    let h = stands.reader_is in
+    more_behind_in bytes rest row behind reader.form text n cut h.within stands.so (last_there (words_of row) reader text h words) some
 
 -- the first line is none
 abbrev small_text : JournalText
@@ -199,7 +228,7 @@ first_bad bytes stuck = record {
   counted = omega arith;
   good = (First, small_text, small_within, tt);
   bad = λ form text within begins. stuck form text (Some 0) within (begins_with 1 (rows_of form text) bytes begins);
-  unread = λ text reading. let (form, within, is) = reading in stuck form text None within (all_begin (rows_of form text) bytes is);
+  unread = λ text reading. let (form, (within, is)) = reading in stuck form text None within (all_begin (rows_of form text) bytes is);
 }
 
 pub no_first : (bytes row behind : List ℕ) → Row bytes row behind

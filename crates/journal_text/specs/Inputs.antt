@@ -1,10 +1,6 @@
 -- A journal that is the whole of an input. (Own.)
-use Rattle.std.specs.Prelude.{◌≡◌, ◌≤◌, ◌+◌, ⊤, ℕ, List, length, Option, Result, Ok, Err}
+use Rattle.std.specs.Prelude.{◌≡◌, ◌≤◌, ◌+◌, ℕ, List, length, Option}
 use Rattle.std.specs.Io.KnownBytes.{Consumes, IsAtEnd}
-use Rattle.journal_text.specs.declared.input.InputFault.{InputFault}
-use Rattle.journal_text.specs.declared.input.InputFault.TheVariants as fault
-use Rattle.journal_text.specs.declared.journal.JournalFault.{JournalFault}
-use Rattle.journal_text.specs.declared.journal.JournalFault.TheVariants as journal
 use Rattle.journal_text.specs.declared.text.JournalText.{JournalText}
 use Rattle.journal_text.specs.Journals.{IsBadLine, IsReading, most_bytes}
 
@@ -31,17 +27,3 @@ pub record IsBadInput (left left' : Option (List ℕ)) (number : ℕ) : Type 0 w
   pub bytes : List ℕ
   pub whole : IsWhole left left' bytes
   pub bad : IsBadLine bytes number
-
--- an input read as a journal
-abbrev pub IsInputRead : Option (List ℕ) → Option (List ℕ) → Result JournalText InputFault → Type 0
-IsInputRead left left' (Ok text) = IsWholeInput left left' text
-IsInputRead left left' (Err fault.TooLong) = IsLong left left'
-IsInputRead left left' (Err (fault.BadLine number)) = IsBadInput left left' number
-IsInputRead left left' (Err fault.Read) = ⊤
-IsInputRead left left' (Err fault.Memory) = ⊤
-
--- the fault of an input whose bytes are no journal
-abbrev pub fault_of : JournalFault → InputFault
-fault_of journal.TooLong = fault.TooLong
-fault_of (journal.BadLine number) = fault.BadLine number
-fault_of journal.Memory = fault.Memory

@@ -85,8 +85,11 @@ pub record IsWithin (form : Format) (text : JournalText) : Type 0 where
 -- ---- readings
 
 -- the bytes are the text of a journal, in one of the forms
+abbrev pub IsReadingIn : Format → List ℕ → JournalText → Type 0
+IsReadingIn form bytes text = IsWithin form text × (bytes ≡ text_of (rows_of form text))
+
 abbrev pub IsReading : List ℕ → JournalText → Type 0
-IsReading bytes text = (form : Format) × IsWithin form text × (bytes ≡ text_of (rows_of form text))
+IsReading bytes text = (form : Format) × IsReadingIn form bytes text
 
 -- the bytes begin with the first lines, so many of them
 abbrev pub BeginsWith : ℕ → List (List ℕ) → List ℕ → Type 0

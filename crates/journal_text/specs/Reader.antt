@@ -1,80 +1,98 @@
 -- What the reader of a journal has found. (Own.)
-use Rattle.std.specs.Prelude.{◌≡◌, ◌⊎◌, ℕ, ◌<◌, ◌≤◌, List, [], ◌∷◌, ◌++◌, length, Option, None, Some, slice_index}
-use Rattle.std.specs.List.{AllByRecursion}
+use Rattle.std.specs.Prelude.{◌≡◌, ◌⊎◌, ⊤, ℕ, suc, ◌<◌, List, [], ◌∷◌, ◌++◌, length, max, Option, None, Some, slice_index, slice_set}
 use Rattle.wopi_model.specs.Moment.{IsMoment}
+use Rattle.journal_text.specs.declared.text.Format.{Format}
+use Rattle.journal_text.specs.declared.text.Format.TheVariants.{First, Second}
 use Rattle.journal_text.specs.declared.text.JournalText.{JournalText}
 use Rattle.journal_text.specs.declared.text.Line.{Line}
 use Rattle.journal_text.specs.declared.reading.Reader.{Reader}
 use Rattle.journal_text.specs.declared.reading.Taken.{Taken}
-use Rattle.journal_text.specs.declared.reading.Taken.TheVariants.{On, Last, Bad}
-use Rattle.journal_text.specs.Lines.{IsFile, IsLine, IsOpening}
+use Rattle.journal_text.specs.declared.reading.Taken.TheVariants as taken
+use Rattle.journal_text.specs.Lines.{IsFile, IsLine}
 use Rattle.journal_text.specs.Words.{file_words, last_words, line_words}
-use Rattle.journal_text.specs.Journals.{AreFiles, AreTimed, IsAfter, IsTimed, most_entries, now_in}
+use Rattle.journal_text.specs.Journals.{IsAfter, IsWithin, most_entries, now_in}
 
 -- the name of the last file, or what stood before
 abbrev pub last_name : Option (List ℕ) → List (List ℕ × List ℕ) → Option (List ℕ)
 last_name last [] = last
 last_name last (file ∷ files) = last_name (Some file.0) files
 
--- the times of the sixteen shards
-pub record HasTimes (nows : List ℕ) (opened : ℕ) (lines : List Line) : Type 0 where
+-- ---- the times of the sixteen shards
+
+pub record AreTimes (nows : List ℕ) : Type 0 where
   pub long : length nows ≡ 16
-  pub times : (shard : ℕ) → shard < 16 → slice_index nows shard ≡ now_in opened shard lines
   pub moments : (shard : ℕ) → shard < 16 → IsMoment (slice_index nows shard)
 
--- what the reader has is as it has to be
-pub record IsReader (reader : Reader) : Type 0 where
-  pub opening : IsOpening reader.form reader.opened reader.first
-  pub files : AreFiles None reader.files.items
-  pub last : reader.last ≡ last_name None reader.files.items
-  pub lines : AllByRecursion (IsLine reader.form) reader.lines.items
-  pub few : length reader.lines.items ≤ most_entries
-  pub timed : AreTimed reader.form reader.opened [] reader.lines.items
-  pub times : HasTimes reader.nows reader.opened reader.lines.items
+-- after these entries
+pub record HasTimes (nows : List ℕ) (opened : ℕ) (lines : List Line) : Type 0 where
+  pub are : AreTimes nows
+  pub times : (shard : ℕ) → shard < 16 → slice_index nows shard ≡ now_in opened shard lines
 
-abbrev pub text_in : Reader → JournalText
-text_in reader = record { opened = reader.opened; first = reader.first; files = reader.files.items; lines = reader.lines.items }
+-- a shard's time never falls
+abbrev pub time_of : List ℕ → Line → ℕ
+time_of nows line = max (slice_index nows line.shard) line.moment
 
--- the head of the text stays
-pub record KeepsHead (old new : Reader) : Type 0 where
-  pub form : new.form ≡ old.form
-  pub opened : new.opened ≡ old.opened
-  pub first : new.first ≡ old.first
+abbrev pub times_after : List ℕ → Line → List ℕ
+times_after nows line = slice_set nows line.shard (time_of nows line)
 
--- an opening file was added
-pub record AddsFile (old : Reader) (file : List ℕ × List ℕ) (new : Reader) : Type 0 where
-  pub none : old.lines.items ≡ []
+-- the first form doesn't tell the time
+abbrev pub IsClocked : Format → List ℕ → Line → Type 0
+IsClocked First nows line = line.now ≡ time_of nows line
+IsClocked Second nows line = ⊤
+
+-- ---- what was read so far
+
+-- the reader stands behind these lines
+pub record IsReader (reader : Reader) (text : JournalText) : Type 0 where
+  pub opened : text.opened ≡ reader.opened
+  pub first : text.first ≡ reader.first
+  pub within : IsWithin reader.form text
+  pub last : reader.last ≡ last_name None text.files
+  pub entries : reader.entries ≡ length text.lines
+  pub times : HasTimes reader.nows text.opened text.lines
+
+-- nothing but the first line
+abbrev pub begun_text : ℕ → ℕ → JournalText
+begun_text opened first = record { opened = opened; first = first; files = []; lines = [] }
+
+abbrev pub with_file : JournalText → List ℕ × List ℕ → JournalText
+with_file text file = record { opened = text.opened; first = text.first; files = text.files ++ file ∷ []; lines = text.lines }
+
+abbrev pub with_line : JournalText → Line → JournalText
+with_line text line = record { opened = text.opened; first = text.first; files = text.files; lines = text.lines ++ line ∷ [] }
+
+-- ---- the next line
+
+-- it is that of an opening file
+pub record TakesFile (words : List (List ℕ)) (old : Reader) (file : List ℕ × List ℕ) (new : Reader) : Type 0 where
+  pub form_is : IsFile file
+  pub said : words ≡ file_words file
+  pub none : old.entries ≡ 0
   pub after : IsAfter old.last file.0
-  pub files : new.files.items ≡ old.files.items ++ file ∷ []
-  pub last : new.last ≡ Some file.0
-  pub lines : new.lines.items ≡ old.lines.items
-  pub nows : new.nows ≡ old.nows
-  pub head : KeepsHead old new
+  pub new_is : new ≡ record old { last = Some file.0 }
 
--- an entry was added
-pub record AddsLine (old : Reader) (line : Line) (new : Reader) : Type 0 where
-  pub few : length old.lines.items < most_entries
-  pub timed : IsTimed old.form old.opened old.lines.items line
-  pub files : new.files.items ≡ old.files.items
-  pub last : new.last ≡ old.last
-  pub lines : new.lines.items ≡ old.lines.items ++ line ∷ []
-  pub times : HasTimes new.nows old.opened new.lines.items
-  pub head : KeepsHead old new
-
-abbrev pub TakesFile : List (List ℕ) → Reader → Reader → Type 0
-TakesFile words old new = (file : List ℕ × List ℕ) × IsFile file × (words ≡ file_words file) × AddsFile old file new
-
-abbrev pub TakesLine : List (List ℕ) → Reader → Reader → Type 0
-TakesLine words old new = (line : Line) × IsLine old.form line × (words ≡ line_words old.form line) × AddsLine old line new
+-- it is that of an entry
+pub record TakesLine (words : List (List ℕ)) (old : Reader) (line : Line) (new : Reader) : Type 0 where
+  pub form_is : IsLine old.form line
+  pub said : words ≡ line_words old.form line
+  pub few : old.entries < most_entries
+  pub clocked : IsClocked old.form old.nows line
+  pub new_is : new ≡ record old { entries = suc old.entries; nows = times_after old.nows line }
 
 -- no line with these words can come next
-pub record IsUnfit (words : List (List ℕ)) (old : Reader) : Type 0 where
-  pub last : words ≡ last_words old.form (length old.lines.items) → ⊥
-  pub file : (file : List ℕ × List ℕ) → IsFile file → old.lines.items ≡ [] → IsAfter old.last file.0 → words ≡ file_words file → ⊥
-  pub line : (line : Line) → IsLine old.form line → length old.lines.items < most_entries → words ≡ line_words old.form line → ⊥
+pub record IsUnfit (words : List (List ℕ)) (form : Format) (mark : Option (List ℕ)) (entries : ℕ) : Type 0 where
+  pub last : words ≡ last_words form entries → ⊥
+  pub file : (file : List ℕ × List ℕ) → IsFile file → entries ≡ 0 → IsAfter mark file.0 → words ≡ file_words file → ⊥
+  pub line : (line : Line) → IsLine form line → entries < most_entries → words ≡ line_words form line → ⊥
 
--- how a line was taken
+-- what a line is
 abbrev pub Takes : List (List ℕ) → Reader → Taken → Reader → Type 0
-Takes words old On new = TakesFile words old new ⊎ TakesLine words old new
-Takes words old Last new = (words ≡ last_words old.form (length old.lines.items)) × (new ≡ old)
-Takes words old Bad new = IsUnfit words old
+Takes words old (taken.File file) new = TakesFile words old file new
+Takes words old (taken.Entry line) new = TakesLine words old line new
+Takes words old taken.Last new = (words ≡ last_words old.form old.entries) × (new ≡ old)
+Takes words old taken.Bad new = IsUnfit words old.form old.last old.entries
+
+-- one line more was read
+abbrev pub Adds : List (List ℕ) → Reader → JournalText → Reader → JournalText → Type 0
+Adds words old text new next =
+    ((file : List ℕ × List ℕ) × TakesFile words old file new × (next ≡ with_file text file)) ⊎ ((line : Line) × TakesLine words old line new × (next ≡ with_line text line))

@@ -5,8 +5,12 @@ use Rattle.journal_text.specs.declared.text.Format.{Format}
 use Rattle.journal_text.specs.declared.text.JournalText.{JournalText}
 use Rattle.journal_text.specs.declared.text.Line.{Line}
 use Rattle.journal_text.specs.declared.reading.Reader.{Reader}
+use Rattle.journal_text.specs.declared.journal.Step.{Step}
+use Rattle.journal_text.specs.declared.journal.Step.TheVariants.{On, Last, Bad}
 use Rattle.journal_text.specs.Lines.{IsLine}
-use Rattle.journal_text.specs.Journals.{AreFiles, IsWithin, body_rows, file_text, first_text, line_text, most_entries, rows_of}
+use Rattle.journal_text.specs.Words.{last_words}
+use Rattle.journal_text.specs.Journals.{AreFiles, IsReadingIn, IsWithin, body_rows, file_text, first_text, line_text, most_entries, rows_of}
+use Rattle.journal_text.specs.Reader.{Adds, IsReader, IsUnfit, last_name}
 
 -- the bytes begin with so many lines, or are all of them
 abbrev pub Begins : Option ℕ → List (List ℕ) → List ℕ → Type 0
@@ -36,9 +40,37 @@ pub record Goes (form other : Format) (last : Option (List ℕ)) (before : ℕ) 
   pub none : 0 < before → files ≡ []
   pub begins : Begins k (body_rows form before files lines) rest
 
--- the lines that were read are those of the reader, and whatever journal the bytes begin goes on in what is left
-pub record IsSoFar (bytes rest : List ℕ) (reader : Reader) (n : ℕ) : Type 0 where
-  pub whole : bytes ≡ first_text reader.form reader.opened reader.first ++ (flat_map file_text reader.files.items ++ (flat_map (line_text reader.form) reader.lines.items ++ rest))
-  pub count : n ≡ suc (length reader.files.items + length reader.lines.items)
-  pub only : (other : Format) (text : JournalText) (k : Option ℕ) → IsWithin other text → Begins (more n k) (rows_of other text) bytes
-      → Goes reader.form other reader.last (length reader.lines.items) rest k
+-- the lines that were read are those of the text, and whatever journal the bytes begin goes on in what is left
+pub record IsSoFar (bytes rest : List ℕ) (form : Format) (text : JournalText) (n : ℕ) : Type 0 where
+  pub whole : bytes ≡ first_text form text.opened text.first ++ (flat_map file_text text.files ++ (flat_map (line_text form) text.lines ++ rest))
+  pub count : n ≡ suc (length text.files + length text.lines)
+  pub only : (other : Format) (any : JournalText) (k : Option ℕ) → IsWithin other any → Begins (more n k) (rows_of other any) bytes
+      → Goes form other (last_name None text.files) (length text.lines) rest k
+
+-- the bytes are the text, and the reader stands behind it
+pub record IsReadBy (bytes : List ℕ) (reader : Reader) (text : JournalText) : Type 0 where
+  pub reader_is : IsReader reader text
+  pub reading : IsReadingIn reader.form bytes text
+
+-- ---- a reader, and a keeper of what it reads
+
+module _ {R : Type 0} (keeps : R → List (List ℕ × List ℕ) → List Line → Type 0) where
+  -- so many lines were read, and this is left of the bytes
+  pub record Stands (bytes rest : List ℕ) (reader : Reader) (keeper : R) (n : ℕ) : Type 0 where
+    pub text : JournalText
+    pub kept : keeps keeper text.files text.lines
+    pub reader_is : IsReader reader text
+    pub so : IsSoFar bytes rest reader.form text n
+
+  -- all lines were read
+  pub record IsRead (bytes : List ℕ) (reader : Reader) (keeper : R) : Type 0 where
+    pub text : JournalText
+    pub kept : keeps keeper text.files text.lines
+    pub read : IsReadBy bytes reader text
+
+  -- what a line did
+  abbrev pub Steps : List (List ℕ) → Reader → R → Step → Reader → R → Type 0
+  Steps words old keeper On new keeper' =
+      (text : JournalText) → keeps keeper text.files text.lines → (next : JournalText) × keeps keeper' next.files next.lines × Adds words old text new next
+  Steps words old keeper Last new keeper' = (words ≡ last_words old.form old.entries) × (new ≡ old) × (keeper' ≡ keeper)
+  Steps words old keeper Bad new keeper' = IsUnfit words old.form old.last old.entries

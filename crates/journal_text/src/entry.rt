@@ -109,7 +109,7 @@ fn told_size(act: &EntryAct, status: u16) -> Option<u64>
 }
 
 /// Where an entry stands, at the front of its line, and what stands behind it.
-fn place_read(row: &[u8]) -> Option<(Place, &[u8])>
+pub(crate) fn place_read(row: &[u8]) -> Option<(Place, &[u8])>
     ensures some { IfSome result (λ read. IsPlace read.0 × (words_of row.now ≡ place_words read.0 ++ words_of read.1.now)) }
     ensures none { IfNone result ((place : Place) (word : List ℕ) (words : List (List ℕ)) → IsPlace place → words_of row.now ≢ place_words place ++ word ∷ words) }
 {

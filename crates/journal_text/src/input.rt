@@ -1,51 +1,30 @@
-//! A journal that is a whole input.
-ghost use Rattle.std.specs.Prelude.{◌≡◌, ◌⊎◌, ◌≤◌, ◌<◌, ◌+◌, ◌++◌, ℕ, List, Option, Err, IfOk, OnErr, OnOk, length, take, vec_len};
+//! The bytes of an input that is a journal.
+ghost use Rattle.std.specs.Prelude.{◌≡◌, ◌⊎◌, ◌≤◌, ◌<◌, ◌+◌, ◌++◌, ℕ, List, Option, Err, IfOk, OnOk, length, vec_len};
 ghost use Rattle.std.specs.Io.KnownBytes.{Consumes, IsAtEnd};
 ghost use Rattle.outside.specs.Faults.{Rose};
-ghost use Rattle.journal_text.specs.Inputs.{IsInputRead, IsLong, IsWhole, fault_of};
+ghost use Rattle.journal_text.specs.Inputs.{IsLong, IsWhole};
 ghost use Rattle.journal_text.specs.Journals.{most_bytes};
 
-use crate::journal::{JournalFault, MOST_BYTES, read_journal};
-use crate::text::JournalText;
+use crate::journal::MOST_BYTES;
 use outside::{Failed, Source, piece_room, read_piece};
 use std::alloc::Global;
 use wopi_text::Memory;
 
-/// Why an input gave no journal.
+/// Why an input can't be a journal.
 #[derive(Clone, Copy, Debug, PartialEq, Eq)]
 pub enum InputFault {
     /// There are more bytes than a journal may have.
     TooLong,
-    /// The line with this number, counted from 1, is the first that can't stand where it does, or that is missing there.
-    BadLine { line: u64 },
     /// The input could not be read.
     Read,
     Memory,
 }
 
-/// What the journal tells that all the bytes of an input are. Of a longer input than a journal may be one byte more is read than a
-/// journal may have, and no further one. The bytes take at most two and a quarter times their number while they come, and are given
-/// back before this returns.
-pub fn read_input<S: Source>(alloc: Global, source: &mut S) -> Result<JournalText, InputFault>
-    ensures read { IsInputRead (S.left source.old) (S.left source.new) result }
-    ensures beside { S.beside_reads source.new ≡ S.beside_reads source.old }
-    ensures never_falls { S.read_faults source.old ≤ S.read_faults source.new }
-    ensures failed { result ≡ Err InputFault.Read → Rose (S.read_faults source.old) (S.read_faults source.new) }
-{
-    match read_bytes(alloc, source) {
-        Ok(bytes) => match read_journal(alloc, &bytes) {
-            Ok(text) => return Ok(text),
-            Err(fault) => return Err(fault_of(fault)),
-        },
-        Err(fault) => return Err(fault),
-    }
-}
-
-/// All bytes of an input, where they are no more than those of a journal.
-fn read_bytes<S: Source>(alloc: Global, source: &mut S) -> Result<Vec<u8>, InputFault>
+/// All bytes of an input, where they are no more than those of a journal. Of a longer input one byte more is read than a journal may
+/// have, and no further one. The bytes take at most two and a quarter times their number while they come.
+pub fn read_bytes<S: Source>(alloc: Global, source: &mut S) -> Result<Vec<u8>, InputFault>
     ensures whole { IfOk result (λ bytes. IsWhole (S.left source.old) (S.left source.new) bytes.items) }
     ensures long { result ≡ Err InputFault.TooLong → IsLong (S.left source.old) (S.left source.new) }
-    ensures good { (line : ℕ) → result ≡ Err (InputFault.BadLine line) → ⊥ }
     ensures beside { S.beside_reads source.new ≡ S.beside_reads source.old }
     ensures never_falls { S.read_faults source.old ≤ S.read_faults source.new }
     ensures failed { result ≡ Err InputFault.Read → Rose (S.read_faults source.old) (S.read_faults source.new) }
@@ -105,14 +84,4 @@ fn add(bytes: &mut Vec<u8>, piece: &[u8]) -> Result<(), Memory>
     }
     bytes.extend_from_slice(piece)?;
     Ok(())
-}
-
-fn fault_of(fault: JournalFault) -> InputFault
-    ensures { result ≡ fault_of fault }
-{
-    match fault {
-        JournalFault::TooLong => InputFault::TooLong,
-        JournalFault::BadLine { line } => InputFault::BadLine { line },
-        JournalFault::Memory => InputFault::Memory,
-    }
 }

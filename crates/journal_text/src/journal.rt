@@ -3,9 +3,11 @@ ghost use Rattle.std.specs.Prelude.{◌≡◌, ◌↔◌, ◌<◌, ◌≤◌, �
 ghost use Rattle.journal_text.specs.declared.journal.JournalFault.TheVariants.{BadLine, TooLong};
 ghost use Rattle.journal_text.specs.declared.journal.Fault.TheVariants.{Bad};
 ghost use Rattle.journal_text.specs.Journals.{IsBadLine, IsReading, most_bytes};
-ghost use Rattle.journal_text.specs.Reader.{IsReader, text_in};
-ghost use Rattle.journal_text.specs.SoFar.{IsSoFar};
+ghost use Rattle.journal_text.specs.Reader.{AreTimes};
+ghost use Rattle.journal_text.specs.SoFar.{IsRead, Steps};
+ghost use Rattle.journal_text.specs.Words.{words_of};
 
+use crate::keeping::{Keeper, Kept};
 use crate::opening::first_read;
 use crate::reading::{Reader, Taken};
 use crate::splitting::split_row;
@@ -36,26 +38,54 @@ pub(crate) enum Fault {
     Memory,
 }
 
+/// How a line was read.
+#[derive(Clone, Copy)]
+pub(crate) enum Step {
+    /// More are to come.
+    On,
+    Last,
+    Bad,
+}
+
 /// What the journal tells whose text these bytes are, in the first form or the second.
 pub fn read_journal(alloc: Global, bytes: &[u8]) -> Result<JournalText, JournalFault>
     ensures read { IfOk result (λ text. IsReading bytes.now text) }
     ensures too_long { (result ≡ Err TooLong) ↔ (most_bytes < length bytes.now) }
     ensures bad { (line : ℕ) → result ≡ Err (BadLine line) → IsBadLine bytes.now line }
 {
+    let mut kept = Kept::new(alloc);
+    match read_with(alloc, bytes, &mut kept) {
+        Ok(reader) => return Ok(kept.finish(reader.opened, reader.first)),
+        Err(fault) => return Err(fault),
+    }
+}
+
+/// Reads a journal, and gives what is kept of it to the keeper.
+pub(crate) fn read_with<R: Keeper>(
+    alloc: Global,
+    bytes: &[u8],
+    keeper: &mut R,
+) -> Result<Reader, JournalFault>
+    requires none { R.keeps keeper.old [] [] }
+    ensures read { IfOk result (λ reader. IsRead R.keeps bytes.now reader keeper.new) }
+    ensures too_long { (result ≡ Err TooLong) ↔ (most_bytes < length bytes.now) }
+    ensures bad { (line : ℕ) → result ≡ Err (BadLine line) → IsBadLine bytes.now line }
+{
     if bytes.len() > MOST_BYTES {
         return Err(JournalFault::TooLong);
     }
-    match read_rows(alloc, bytes) {
-        Ok(text) => return Ok(text),
+    match read_rows(alloc, bytes, keeper) {
+        Ok(reader) => return Ok(reader),
         Err(Fault::Bad(line)) => return Err(JournalFault::BadLine { line }),
         Err(Fault::Memory) => return Err(JournalFault::Memory),
     }
 }
 
 /// Reads the first line, and those behind it.
-fn read_rows(alloc: Global, bytes: &[u8]) -> Result<JournalText, Fault>
-    requires { length bytes.now ≤ most_bytes }
-    ensures read { IfOk result (λ text. IsReading bytes.now text) }
+fn read_rows<R: Keeper>(alloc: Global, bytes: &[u8], keeper: &mut R) -> Result<Reader, Fault>
+    requires short { length bytes.now ≤ most_bytes }
+    requires none { R.keeps keeper.old [] [] }
+    ensures read { IfOk result (λ reader. IsRead R.keeps bytes.now reader keeper.new) }
     ensures bad { (line : ℕ) → result ≡ Err (Bad line) → IsBadLine bytes.now line }
 {
     let Some((row, rest)) = split_row(bytes) else {
@@ -64,26 +94,14 @@ fn read_rows(alloc: Global, bytes: &[u8]) -> Result<JournalText, Fault>
     let Some(opening) = first_read(row) else {
         return Err(Fault::Bad(1));
     };
-    match read_body(alloc, rest, Reader::new(alloc, &opening)) {
-        Ok(text) => return Ok(text),
-        Err(fault) => return Err(fault),
-    }
-}
-
-/// Reads the lines behind the first.
-fn read_body(alloc: Global, rest: &[u8], mut reader: Reader) -> Result<JournalText, Fault>
-    requires short { length rest.now ≤ most_bytes }
-    requires form { IsReader reader }
-    ensures read { IfOk result (λ text. (bytes : List ℕ) → IsSoFar bytes rest.now reader 1 → IsReading bytes text) }
-    ensures bad { (line : ℕ) → result ≡ Err (Bad line) → (bytes : List ℕ) → IsSoFar bytes rest.now reader 1 → IsBadLine bytes line }
-{
+    let mut reader = Reader::new(&opening);
     let mut number = 1u64;
     let mut left = rest;
     'rows: while let Some((row, behind)) = split_row(left) {
-        match reader.take(alloc, row) {
-            Ok(Taken::On) => {}
-            Ok(Taken::Last) => return end(reader, behind, number),
-            Ok(Taken::Bad) => return Err(Fault::Bad(number + 1)),
+        match read_next(alloc, &mut reader, keeper, row) {
+            Ok(Step::On) => {}
+            Ok(Step::Last) => return end(reader, behind, number),
+            Ok(Step::Bad) => return Err(Fault::Bad(number + 1)),
             Err(Memory) => return Err(Fault::Memory),
         }
         number += 1;
@@ -92,14 +110,38 @@ fn read_body(alloc: Global, rest: &[u8], mut reader: Reader) -> Result<JournalTe
     Err(Fault::Bad(number + 1))
 }
 
-/// What was read, where nothing stands behind the last line.
-fn end(reader: Reader, behind: &[u8], number: u64) -> Result<JournalText, Fault>
+/// Reads the next line.
+fn read_next<R: Keeper>(
+    alloc: Global,
+    reader: &mut Reader,
+    keeper: &mut R,
+    row: &[u8],
+) -> Result<Step, Memory>
+    requires { AreTimes reader.old.nows }
+    ensures { IfOk result (λ step. Steps R.keeps (words_of row.now) reader.old keeper.old step reader.new keeper.new) }
+{
+    match reader.take(alloc, row)? {
+        Taken::File(file) => {
+            keeper.keep_file(file)?;
+            return Ok(Step::On);
+        }
+        Taken::Entry(line) => {
+            keeper.keep_line(line)?;
+            return Ok(Step::On);
+        }
+        Taken::Last => return Ok(Step::Last),
+        Taken::Bad => return Ok(Step::Bad),
+    }
+}
+
+/// The reader, where nothing stands behind the last line.
+fn end(reader: Reader, behind: &[u8], number: u64) -> Result<Reader, Fault>
     requires { number ≤ most_bytes + 1 }
-    ensures read { IfOk result (λ text. (behind.now ≡ []) × (text ≡ text_in reader)) }
+    ensures read { IfOk result (λ last. (behind.now ≡ []) × (last ≡ reader)) }
     ensures bad { IfErr result (λ fault. (0 < length behind.now) × (fault ≡ Bad (number + 2))) }
 {
     if behind.is_empty() {
-        return Ok(reader.finish());
+        return Ok(reader);
     }
     Err(Fault::Bad(number + 2))
 }

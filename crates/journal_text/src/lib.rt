@@ -5,8 +5,8 @@
 //! version of the opening files, nor how many entries there are. A shard's time is then the greatest of when the host opened and the
 //! moments of the shard's entries so far, and the version is 1. The lock ids of the first form have at most 256 bytes.
 //!
-//! [`read_journal`] reads both forms, and names the first line that can't stand where it does. [`read_input`] does so with the bytes
-//! of a whole input. [`write_lines`] writes the second form.
+//! [`read_journal`] reads both forms, and names the first line that can't stand where it does. [`write_lines`] writes the second form.
+//! [`rewrite`] does both at once, in little memory. [`read_bytes`] gives the bytes of an input that is a journal.
 //! Bytes read as one text at most, and what is written of a text that keeps a reading's bounds is read as that text: see [`laws`].
 #![tactic(auto)]
 
@@ -16,9 +16,11 @@ mod entry;
 mod ids;
 mod input;
 mod journal;
+mod keeping;
 pub mod laws;
 mod opening;
 mod reading;
+mod rewriting;
 mod splitting;
 #[cfg(test)]
 mod tests;
@@ -29,7 +31,8 @@ mod values;
 mod writing;
 
 pub use host_core::EntryAct as LineAct;
-pub use input::{InputFault, read_input};
+pub use input::{InputFault, read_bytes};
 pub use journal::{JournalFault, read_journal};
+pub use rewriting::{RewriteFault, rewrite};
 pub use text::{Files, Format, JournalText, Line, Lines};
 pub use writing::write_lines;

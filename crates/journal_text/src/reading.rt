@@ -1,42 +1,41 @@
 //! Journals, read line by line.
-ghost use Rattle.std.specs.Prelude.{◌≡◌, ◌↔◌, ◌<◌, ◌≤◌, [], false, IsTrue, IfOk, length};
+ghost use Rattle.std.specs.Prelude.{◌≡◌, ◌↔◌, ◌<◌, ◌≤◌, suc, false, Some, IsTrue, IfOk, IfSome, IfNone};
 ghost use Rattle.journal_text.specs.declared.text.Format.TheVariants.{First, Second};
-ghost use Rattle.journal_text.specs.declared.text.Line.{Line};
 ghost use Rattle.journal_text.specs.Journals.{comes_after, IsAfter, most_entries};
 ghost use Rattle.journal_text.specs.Lines.{IsLine, IsOpening};
-ghost use Rattle.journal_text.specs.Reader.{AddsFile, AddsLine, HasTimes, IsReader, Takes, text_in};
+ghost use Rattle.journal_text.specs.Reader.{AreTimes, IsClocked, IsReader, Takes, begun_text, times_after};
 ghost use Rattle.journal_text.specs.Words.{line_words, words_of};
 
 use crate::entry::line_read;
 use crate::opening::{Opening, file_read, is_last};
-use crate::text::{Files, Format, JournalText, Line, Lines};
-use crate::times::time_at;
+use crate::text::{Format, Line};
+use crate::times::{start_times, time_at};
 use std::alloc::Global;
 use std::cmp::Ordering;
 use wopi_text::{Bytes, FileName, Memory};
 
 /// The most entries of a journal: those of 16 full shards.
-const MOST_ENTRIES: usize = 524_288;
+const MOST_ENTRIES: u64 = 524_288;
 
-/// How a line was taken.
+/// What a line is.
+#[derive(Drop)]
 pub(crate) enum Taken {
-    /// More are to come.
-    On,
-    /// It was the last.
+    File((FileName, Bytes)),
+    Entry(Line),
+    /// It is the last.
     Last,
     /// It can't stand where it does.
     Bad,
 }
 
-/// A journal as far as its lines have come.
+/// What has to be known of the lines that were read, for the next one.
 #[derive(Drop)]
 pub(crate) struct Reader {
     pub(crate) form: Format,
     pub(crate) opened: u64,
     pub(crate) first: u64,
-    pub(crate) files: Vec<(FileName, Bytes)>,
     pub(crate) last: Option<FileName>,
-    pub(crate) lines: Vec<Line>,
+    pub(crate) entries: u64,
     pub(crate) nows: [u64; 16],
 }
 
@@ -73,87 +72,74 @@ fn timed(form: Format, line: Line, now: u64) -> Line
 
 impl Reader {
     /// Behind the first line.
-    pub(crate) fn new(alloc: Global, opening: &Opening) -> Reader
+    pub(crate) fn new(opening: &Opening) -> Reader
         requires { IsOpening opening.now.form opening.now.opened opening.now.first }
-        ensures none { (result.files.items ≡ []) × (result.lines.items ≡ []) }
-        ensures head { (result.form ≡ opening.now.form) × (result.opened ≡ opening.now.opened) × (result.first ≡ opening.now.first) }
-        ensures form { IsReader result }
+        ensures form { result.form ≡ opening.now.form }
+        ensures reader { IsReader result (begun_text opening.now.opened opening.now.first) }
     {
         Reader {
             form: opening.form,
             opened: opening.opened,
             first: opening.first,
-            files: Vec::new(alloc),
             last: None,
-            lines: Vec::new(alloc),
-            nows: [opening.opened; 16],
+            entries: 0,
+            nows: start_times(opening.opened),
         }
     }
 
     /// Takes the next line.
     pub(crate) fn take(&mut self, alloc: Global, row: &[u8]) -> Result<Taken, Memory>
-        requires { HasTimes self.old.nows self.old.opened self.old.lines.items }
+        requires { AreTimes self.old.nows }
         ensures { IfOk result (λ taken. Takes (words_of row.now) self.old taken self.new) }
     {
-        if is_last(self.form, row, self.lines.len() as u64) {
+        if is_last(self.form, row, self.entries) {
             return Ok(Taken::Last);
         }
         if let Some(file) = file_read(alloc, row)? {
-            if self.add_file(file)? {
-                return Ok(Taken::On);
+            if self.add_file(&file.0) {
+                return Ok(Taken::File(file));
             }
             return Ok(Taken::Bad);
         }
         let Some(line) = line_read(alloc, self.form, row)? else {
             return Ok(Taken::Bad);
         };
-        if self.add_line(line)? {
-            return Ok(Taken::On);
-        }
-        Ok(Taken::Bad)
+        let Some(line) = self.add_line(line) else {
+            return Ok(Taken::Bad);
+        };
+        Ok(Taken::Entry(line))
     }
 
     /// Adds an opening file, if one may stand here.
-    fn add_file(&mut self, file: (FileName, Bytes)) -> Result<bool, Memory>
-        ensures good { IfOk result (λ good. IsTrue good → AddsFile self.old file self.new) }
-        ensures bad { IfOk result (λ good. good ≡ false → self.old.lines.items ≡ [] → IsAfter self.old.last file.0 → ⊥) }
+    fn add_file(&mut self, name: &FileName) -> bool
+        ensures good { IsTrue result → (self.old.entries ≡ 0) × IsAfter self.old.last name.now × (self.new ≡ record self.old { last = Some name.now }) }
+        ensures bad { result ≡ false → self.old.entries ≡ 0 → IsAfter self.old.last name.now → ⊥ }
     {
-        if !self.lines.is_empty() {
-            return Ok(false);
+        if self.entries > 0 {
+            return false;
         }
-        if !is_after(&self.last, &file.0) {
-            return Ok(false);
+        if !is_after(&self.last, name) {
+            return false;
         }
-        self.last = Some(file.0.copy());
-        self.files.push(file)?;
-        Ok(true)
+        self.last = Some(name.copy());
+        true
     }
 
-    /// Adds an entry, if there may be one more.
-    fn add_line(&mut self, line: Line) -> Result<bool, Memory>
+    /// Adds an entry, if there may be one more, and gives it with its shard's time.
+    fn add_line(&mut self, line: Line) -> Option<Line>
         requires line { IsLine self.old.form line }
-        requires times { HasTimes self.old.nows self.old.opened self.old.lines.items }
-        ensures good { IfOk result (λ good. IsTrue good → (one : Line) × IsLine self.old.form one × (line_words self.old.form one ≡ line_words self.old.form line) × AddsLine self.old one self.new) }
-        ensures bad { IfOk result (λ good. good ≡ false → most_entries ≤ length self.old.lines.items) }
+        requires times { AreTimes self.old.nows }
+        ensures form { IfSome result (λ one. IsLine self.old.form one × (line_words self.old.form one ≡ line_words self.old.form line)) }
+        ensures few { IfSome result (λ one. self.old.entries < most_entries) }
+        ensures clocked { IfSome result (λ one. IsClocked self.old.form self.old.nows one) }
+        ensures new { IfSome result (λ one. self.new ≡ record self.old { entries = suc self.old.entries; nows = times_after self.old.nows one }) }
+        ensures none { IfNone result (most_entries ≤ self.old.entries) }
     {
-        if self.lines.len() >= MOST_ENTRIES {
-            return Ok(false);
+        if self.entries >= MOST_ENTRIES {
+            return None;
         }
         let now = time_at(&mut self.nows, line.shard, line.moment);
-        let line = timed(self.form, line, now);
-        self.lines.push(line)?;
-        Ok(true)
-    }
-
-    /// What the lines that were taken tell.
-    pub(crate) fn finish(self) -> JournalText
-        ensures { result ≡ text_in self }
-    {
-        JournalText {
-            opened: self.opened,
-            first: self.first,
-            files: Files::from_vec(self.files),
-            lines: Lines::from_vec(self.lines),
-        }
+        self.entries += 1;
+        Some(timed(self.form, line, now))
     }
 }

@@ -1,5 +1,7 @@
 //! Texts of journals, read and written.
-use crate::{InputFault, JournalFault, read_input, read_journal, write_lines};
+use crate::{
+    InputFault, JournalFault, RewriteFault, read_bytes, read_journal, rewrite, write_lines,
+};
 use host_table::WriteRoom;
 use outside::{MemSink, MemSource};
 use std::alloc::Global;
@@ -40,6 +42,17 @@ fn again(alloc: Global, bytes: &[u8]) -> Result<MemSink, Fail> {
     }
 }
 
+/// The same, without a list of the entries.
+fn rewritten(alloc: Global, bytes: &[u8]) -> Result<MemSink, Fail> {
+    let Ok(mut sink) = MemSink::new(alloc, 4_096, Vec::new(alloc)) else {
+        return Err("a sink".into());
+    };
+    match rewrite(alloc, &mut sink, bytes) {
+        Ok(()) => Ok(sink),
+        Err(_) => Err("a journal".into()),
+    }
+}
+
 /// The first bad line of a journal whose first line is there, with these lines behind it.
 fn bad_line(alloc: Global, lines: &[u8]) -> Result<Option<u64>, Fail> {
     let mut text = b"wopi journal 2 opened 0 first 1\n".to_vec(alloc)?;
@@ -53,15 +66,23 @@ fn bad_line(alloc: Global, lines: &[u8]) -> Result<Option<u64>, Fail> {
 
 #[test]
 fn a_journal_of_the_first_form_is_written_in_the_second(rt: HostRuntime) -> Result<(), Fail> {
-    let sink = again(rt.alloc(), FIRST_FORM)?;
-    assert!(rt; sink.as_slice() == SECOND_FORM);
+    for sink in [
+        again(rt.alloc(), FIRST_FORM)?,
+        rewritten(rt.alloc(), FIRST_FORM)?,
+    ] {
+        assert!(rt; sink.as_slice() == SECOND_FORM);
+    }
     Ok(())
 }
 
 #[test]
 fn a_journal_of_the_second_form_is_written_as_it_is(rt: HostRuntime) -> Result<(), Fail> {
-    let sink = again(rt.alloc(), SECOND_FORM)?;
-    assert!(rt; sink.as_slice() == SECOND_FORM);
+    for sink in [
+        again(rt.alloc(), SECOND_FORM)?,
+        rewritten(rt.alloc(), SECOND_FORM)?,
+    ] {
+        assert!(rt; sink.as_slice() == SECOND_FORM);
+    }
     Ok(())
 }
 
@@ -69,8 +90,9 @@ fn a_journal_of_the_second_form_is_written_as_it_is(rt: HostRuntime) -> Result<(
 fn the_first_form_has_the_greatest_moment_of_a_shard_as_its_time(
     rt: HostRuntime,
 ) -> Result<(), Fail> {
-    let sink = again(rt.alloc(), FALLING)?;
-    assert!(rt; sink.as_slice() == FALLING_AGAIN);
+    for sink in [again(rt.alloc(), FALLING)?, rewritten(rt.alloc(), FALLING)?] {
+        assert!(rt; sink.as_slice() == FALLING_AGAIN);
+    }
     Ok(())
 }
 
@@ -183,21 +205,10 @@ fn an_input_is_read_whole(rt: HostRuntime) -> Result<(), Fail> {
     let alloc = rt.alloc();
     for piece in [1, 7, 1_000] {
         let mut source = input(alloc, SECOND_FORM, piece, 0)?;
-        let Ok(text) = read_input(alloc, &mut source) else {
-            return Err("a journal".into());
+        let Ok(bytes) = read_bytes(alloc, &mut source) else {
+            return Err("bytes".into());
         };
-        assert_eq!(rt; text.lines.as_slice().len(), 1);
-    }
-    Ok(())
-}
-
-#[test]
-fn an_input_has_its_first_bad_line(rt: HostRuntime) -> Result<(), Fail> {
-    let alloc = rt.alloc();
-    let mut source = input(alloc, UNENDED, 100, 0)?;
-    match read_input(alloc, &mut source) {
-        Err(InputFault::BadLine { line }) => assert_eq!(rt; line, 4),
-        _ => return Err("a bad line".into()),
+        assert!(rt; bytes.as_slice() == SECOND_FORM);
     }
     Ok(())
 }
@@ -207,10 +218,27 @@ fn an_input_whose_read_fails_is_no_journal(rt: HostRuntime) -> Result<(), Fail> 
     let alloc = rt.alloc();
     for failing in [1, 2, 3] {
         let mut source = input(alloc, SECOND_FORM, 70, failing)?;
-        match read_input(alloc, &mut source) {
+        match read_bytes(alloc, &mut source) {
             Err(InputFault::Read) => {}
             _ => return Err("a fault".into()),
         }
     }
+    Ok(())
+}
+
+#[test]
+fn nothing_is_written_of_a_bad_journal(rt: HostRuntime) -> Result<(), Fail> {
+    let alloc = rt.alloc();
+    let Ok(mut sink) = MemSink::new(alloc, 4_096, Vec::new(alloc)) else {
+        return Err("a sink".into());
+    };
+    let end = rewrite(alloc, &mut sink, UNENDED);
+    assert!(rt;
+        matches!(
+            end,
+            Err(RewriteFault::Journal(JournalFault::BadLine { line: 4 }))
+        )
+    );
+    assert!(rt; sink.as_slice().is_empty());
     Ok(())
 }

@@ -1,5 +1,15 @@
 //! The times of a host's shards, as a journal's first form tells them.
-ghost use Rattle.std.specs.Prelude.{◌≡◌, ◌<◌, max, slice_index, slice_set};
+ghost use Rattle.std.specs.Prelude.{◌≡◌, ◌<◌, [], max, slice_index, slice_set};
+ghost use Rattle.wopi_model.specs.Moment.{IsMoment};
+ghost use Rattle.journal_text.specs.Reader.{HasTimes};
+
+/// The times of the shards when a host has opened.
+pub(crate) fn start_times(opened: u64) -> [u64; 16]
+    requires { IsMoment opened }
+    ensures { HasTimes result opened [] }
+{
+    [opened; 16]
+}
 
 /// A shard's time after an entry of this moment: it never falls.
 pub(crate) fn time_at(nows: &mut [u64; 16], shard: u8, moment: u64) -> u64

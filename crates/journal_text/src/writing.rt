@@ -129,7 +129,7 @@ fn put_lines<K: Sink>(sink: &mut K, room: &mut WriteRoom, lines: &[Line]) -> Res
 }
 
 /// Puts the first line.
-fn put_first<K: Sink>(
+pub(crate) fn put_first<K: Sink>(
     sink: &mut K,
     room: &mut WriteRoom,
     opened: u64,
@@ -143,7 +143,11 @@ fn put_first<K: Sink>(
 }
 
 /// Puts the last line.
-fn put_last<K: Sink>(sink: &mut K, room: &mut WriteRoom, entries: u64) -> Result<(), Failed>
+pub(crate) fn put_last<K: Sink>(
+    sink: &mut K,
+    room: &mut WriteRoom,
+    entries: u64,
+) -> Result<(), Failed>
     ensures bytes { Gathers (K.held sink.old) (K.held sink.new) room.old.bytes.items room.new.bytes.items result (last_text Second entries) }
     ensures never_falls { K.write_faults sink.old ≤ K.write_faults sink.new }
     ensures failed { OnErr result (Rose (K.write_faults sink.old) (K.write_faults sink.new)) }
