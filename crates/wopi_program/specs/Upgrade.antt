@@ -6,7 +6,7 @@ use Rattle.outside.specs.Stream.{GrewByPrefix}
 use Rattle.journal_text.specs.declared.text.Format.TheVariants.{Second}
 use Rattle.journal_text.specs.declared.text.JournalText.{JournalText}
 use Rattle.journal_text.specs.Inputs.{IsBadInput, IsLong, IsWholeInput}
-use Rattle.journal_text.specs.Journals.{rows_of, text_of}
+use Rattle.journal_text.specs.Journals.{IsBadLine, IsReading, rows_of, text_of}
 use Rattle.wopi_program.specs.declared.outside_world.Outside.{Outside}
 use Rattle.wopi_program.specs.Meanings.{Meanings}
 use Rattle.wopi_program.specs.Notes.{Notes, line_of}
@@ -18,9 +18,12 @@ abbrev pub IsRewritten : JournalText → ℕ → Option (List ℕ) → Option (L
 IsRewritten text status held held' =
     ((status ≡ 0) × Appends held held' (text_of (rows_of Second text))) ⊎ ((status ≡ 4) × GrewByPrefix held held' (text_of (rows_of Second text)))
 
--- the text was written, or memory was wanted before anything was written
-abbrev pub Rewrites : {K : Type 0} → (K → Option (List ℕ)) → JournalText → ℕ → K → K → Type 0
-Rewrites held text status output output' = ((status ≡ 6) × (output' ≡ output)) ⊎ IsRewritten text status (held output) (held output')
+-- the journal that the bytes are was written, or their first bad line was told, or memory was wanted before anything was written
+abbrev pub Rewrites : {K : Type 0} → (K → Option (List ℕ)) → List ℕ → ℕ → K → K → Type 0
+Rewrites held bytes status output output' =
+    ((status ≡ 6) × (output' ≡ output))
+    ⊎ (((number : ℕ) × IsBadLine bytes number × Tells (held output) (held output') status 7 [] (bad_line number))
+    ⊎ ((text : JournalText) × IsReading bytes text × IsRewritten text status (held output) (held output')))
 
 -- these statuses have a line on the notes
 abbrev pub has_upgrade_note : ℕ → Bool

@@ -1,27 +1,42 @@
 //! The command `upgrade`: the journal that the input is, in the second form.
-ghost use Rattle.std.specs.Prelude.{◌≡◌, map, string_bytes};
+ghost use Rattle.std.specs.Prelude.{◌≡◌, ◌≤◌, ℕ, [], length, map, string_bytes};
 ghost use Rattle.outside.specs.Faults.{Rose};
+ghost use Rattle.journal_text.specs.declared.journal.JournalFault.TheVariants.{BadLine, Memory, TooLong};
+ghost use Rattle.journal_text.specs.Journals.{most_bytes};
+ghost use Rattle.wopi_program.specs.Edit.{Tells, bad_line};
 ghost use Rattle.wopi_program.specs.Upgrade.{NotesForUpgrade, Rewrites, UpgradeEnds, Upgrades};
 ghost use Rattle.wopi_program.specs.Words.{IsRow};
 
 use crate::edit::{note_edit, refuse_script};
 use crate::{Command, Meant, Outside, note};
-use host_table::WriteRoom;
-use journal_text::{InputFault, JournalText, read_input, write_lines};
-use outside::{Clock, Dialer, Failed, Folder, Listener, Sink, Source};
+use journal_text::{InputFault, JournalFault, RewriteFault, read_bytes, rewrite};
+use outside::{Clock, Dialer, Folder, Listener, Sink, Source};
 use std::alloc::Global;
 
-/// Writes what a journal tells in the second form, and gives the status.
-fn rewrite<K: Sink>(alloc: Global, text: &JournalText, output: &mut K) -> u8
-    ensures rewrites { Rewrites K.held text.now result output.old output.new }
+/// Writes the journal that the bytes are in the second form, or tells its first bad line, and gives the status.
+fn upgrade_bytes<K: Sink>(alloc: Global, bytes: &[u8], output: &mut K) -> u8
+    requires { length bytes.now ≤ most_bytes }
+    ensures rewrites { Rewrites K.held bytes.now result output.old output.new }
     ensures cause { result ≡ 4 → Rose (K.write_faults output.old) (K.write_faults output.new) }
 {
-    let Ok(room) = WriteRoom::new(alloc) else {
-        return 6;
-    };
-    match write_lines(output, room, text) {
+    match rewrite(alloc, output, bytes) {
         Ok(()) => return 0,
-        Err(Failed) => return 4,
+        Err(RewriteFault::Write) => return 4,
+        Err(RewriteFault::Journal(fault)) => return refuse_journal(alloc, fault, output),
+    }
+}
+
+/// Tells the first bad line of a journal, or wants memory, and gives the status.
+fn refuse_journal<K: Sink>(alloc: Global, fault: JournalFault, output: &mut K) -> u8
+    requires { fault ≡ TooLong → ⊥ }
+    ensures bad { (line : ℕ) → fault ≡ BadLine line → Tells (K.held output.old) (K.held output.new) result 7 [] (bad_line line) }
+    ensures memory { fault ≡ Memory → (result ≡ 6) × (output.new ≡ output.old) }
+    ensures cause { result ≡ 4 → Rose (K.write_faults output.old) (K.write_faults output.new) }
+{
+    match fault {
+        JournalFault::TooLong => unreachable!(),
+        JournalFault::BadLine { line } => return refuse_script(alloc, output, line),
+        JournalFault::Memory => return 6,
     }
 }
 
@@ -35,12 +50,9 @@ fn upgrade<S: Source, K: Sink, F: Folder, N: Listener, D: Dialer, C: Clock>(
     ensures write_cause { result ≡ 4 → Rose (K.write_faults outside.old.output) (K.write_faults outside.new.output) }
     ensures others { outside.new ≡ record outside.old { input = outside.new.input; output = outside.new.output } }
 {
-    match read_input(alloc, &mut outside.input) {
-        Ok(text) => return rewrite(alloc, &text, &mut outside.output),
+    match read_bytes(alloc, &mut outside.input) {
+        Ok(bytes) => return upgrade_bytes(alloc, &bytes, &mut outside.output),
         Err(InputFault::TooLong) => return 13,
-        Err(InputFault::BadLine { line }) => {
-            return refuse_script(alloc, &mut outside.output, line);
-        }
         Err(InputFault::Read) => return 3,
         Err(InputFault::Memory) => return 6,
     }
@@ -58,7 +70,7 @@ fn note_upgrade<K: Sink>(notes: &mut K, status: u8)
 }
 
 /// Reads a journal of either form from the input, and writes it in the second form. Nothing is written before the whole input was
-/// read, and found to be a journal.
+/// read, and found to be a journal. Of its memory most is that of the input's bytes: no entry is kept.
 pub fn run_upgrade<S: Source, K: Sink, F: Folder, N: Listener, D: Dialer, C: Clock>(
     alloc: Global,
     words: &[String],
