@@ -71,13 +71,7 @@ fn unchanged(locks: &KeptLocks, number: u32, now: u64) -> Effect
 }
 
 /// Puts what a step makes of a file's lock in its place, where that id is taken. Ids are copied.
-fn exchange(
-    locks: &mut KeptLocks,
-    number: u32,
-    effect: Effect,
-    taken: Option<&LockId>,
-    now: u64,
-)
+fn exchange(locks: &mut KeptLocks, number: u32, effect: Effect, taken: Option<&LockId>, now: u64)
     requires number { number < length locks.old.files }
     requires spare { 1 ≤ locks.old.spare }
     requires since { GoesOn locks.old.files number (left_by effect.change (standing_at locks.old.files number).lock (option_map (λ id. id.now) taken)) }
@@ -94,13 +88,7 @@ fn exchange(
 }
 
 /// Gives a file's lock what a step makes of it, where that id is taken. The id of a lock that goes on stays where it lies.
-fn change_lock(
-    locks: &mut KeptLocks,
-    number: u32,
-    effect: Effect,
-    taken: Option<&LockId>,
-    now: u64,
-)
+fn change_lock(locks: &mut KeptLocks, number: u32, effect: Effect, taken: Option<&LockId>, now: u64)
     requires number { number < length locks.old.files }
     requires spare { 1 ≤ locks.old.spare }
     requires since { GoesOn locks.old.files number (left_by effect.change (standing_at locks.old.files number).lock (option_map (λ id. id.now) taken)) }
@@ -120,13 +108,7 @@ fn change_lock(
 
 /// Ends the locks that are over, and gives a file's lock what the step makes of it, where that id is taken. Of the file's
 /// spent ids those go that are no longer refused. It takes no memory.
-pub fn apply(
-    locks: &mut KeptLocks,
-    number: u32,
-    effect: Effect,
-    taken: Option<&LockId>,
-    now: u64,
-)
+pub fn apply(locks: &mut KeptLocks, number: u32, effect: Effect, taken: Option<&LockId>, now: u64)
     requires ready { MayStep locks.old number now }
     requires ends { Ends (standing_at locks.old.files number).lock (option_map (λ id. id.now) taken) effect now }
     ensures standing { standing_at locks.new.files number

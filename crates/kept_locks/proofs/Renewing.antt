@@ -2,7 +2,6 @@
 use Rattle.std.proofs.Common.{◌≡◌, ◌≢◌, ◌<◌, ℕ, zero, suc, List, [], ◌∷◌, get_or, length, Option, Some, refl, sym, ap, arith}
 use Rattle.std.specs.Prelude.{slice_get, slice_set, option_map}
 use Rattle.std.specs.Option.{option_and_then}
-use Rattle.wopi_model.specs.declared.locks.Lock.{Lock}
 use Rattle.expiry_queue.specs.Chains.{Chains}
 use Rattle.kept_locks.specs.declared.places.Place.{Place}
 use Rattle.kept_locks.specs.Locks.{Standing}

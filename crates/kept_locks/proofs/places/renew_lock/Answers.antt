@@ -1,13 +1,11 @@
-use Rattle.std.proofs.Common.{◌≡◌, ◌+◌, ◌≤◌, ℕ, List, Option, None, Some, length, max, min, refl, sym, subst, ◌∙◌, arith}
+use Rattle.std.proofs.Common.{None, max, refl, sym, subst, ◌∙◌, arith}
 use Rattle.std.specs.Prelude.{option_map}
-use Rattle.wopi_model.specs.declared.locks.Lock.{Lock}
-use Rattle.kept_locks.specs.declared.places.Place.{Place}
-use Rattle.kept_locks.specs.Ties.{GoesOn, latest_of, lock_of, renewed, room_of, standings}
+use Rattle.kept_locks.specs.Ties.{GoesOn, latest_of, lock_of, renewed, standings}
 use Rattle.kept_locks.specs.Refusals.{refused_by}
 use Rattle.kept_locks.proofs.Tying.{own_put}
 use Rattle.kept_locks.proofs.Indexing.{indexed_put}
 use Rattle.kept_locks.proofs.Latest.{as_late, latest_put}
-use Rattle.kept_locks.proofs.Setting.{queued, may_follow, files_set, room_after}
+use Rattle.kept_locks.proofs.Setting.{queued, may_follow, files_set}
 use Rattle.kept_locks.proofs.Renewing.{puts_set, place_found, renewed_is}
 use Rattle.kept_locks.proofs.places.renew_lock.Goals as goal
 
