@@ -1,7 +1,6 @@
-use Rattle.std.proofs.Common.{◌≡◌, ◌<◌, ℕ, List, Option, length, sym, ap, subst, ◌∙◌, arith}
+use Rattle.std.proofs.Common.{◌≡◌, ◌<◌, List, Option, length, sym, ap, subst, ◌∙◌, arith}
 use Rattle.std.specs.Prelude.{option_map}
 use Rattle.std.proofs.lemmas.List.{length-map}
-use Rattle.wopi_text.specs.declared.lock_id.LockId.{LockId}
 use Rattle.wopi_model.specs.declared.locks.Lock.{Lock}
 use Rattle.wopi_model.specs.declared.locks.Spent.{Spent}
 use Rattle.wopi_model.specs.Settle.{standing}

@@ -1,4 +1,3 @@
-use Rattle.std.specs.Prelude.{option_map}
 use Rattle.std.proofs.Common.{◌∙◌}
 use Rattle.host_core.proofs.Turning.{renewed_goes, renewed_with}
 use Rattle.host_core.proofs.held.change_lock.Goals as goal
