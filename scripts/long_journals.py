@@ -4,7 +4,8 @@
     scripts/long_journals.py PROGRAM
 
 PROGRAM is the built program, as crates/mokdrai/out/mokdrai. Each journal is of the former form: one of nearly
-268,435,456 bytes with few large saves, one of 524,288 short entries (the most), and one of as many that are longer.
+268,435,456 bytes with few large saves, one of 524,288 short entries (the most), one of as many that are longer, and one
+of a million small opening files.
 What is written has to be the same journal in today's form, which `upgrade` leaves as it is. One byte more than the
 limit has to end with 13 and one line on the notes, one entry more and a journal whose last line is missing with 7
 and the number of the line. It is no part of the gate.
@@ -45,6 +46,16 @@ def long(number):
     return entry(number, f"relock {'4c' * 80} {'4d' * 80}", LONG_TOKEN, told="v1")
 
 
+def write_files(path, count):
+    """A journal of opening files alone, in the former form, and what it has to become."""
+    names = (b"%07d" % number for number in range(count))
+    rows = b"".join(b"file %s 31\n" % name.hex().encode() for name in sorted(names, key=lambda name: (sum(name) % 16, name)))
+    with open(path, "wb") as old, open(path + ".new", "wb") as new:
+        old.write(b"wopi journal 1 opened 0\n" + rows + b"end\n")
+        new.write(b"wopi journal 2 opened 0 first 1\n" + rows + b"end 0\n")
+    return os.path.getsize(path)
+
+
 def write(path, line, count, behind=b"end\n"):
     """The former form, and what it has to become."""
     with open(path, "wb") as old, open(path + ".new", "wb") as new:
@@ -73,9 +84,9 @@ def same(one, other):
     return subprocess.run(["cmp", "-s", one, other]).returncode == 0
 
 
-def is_upgraded(program, room, what, line, count):
+def is_upgraded(program, room, what, text):
     path, out, again = (os.path.join(room, name) for name in ("old", "out", "again"))
-    size = write(path, line, count)
+    size = text(path)
     status, notes, seconds, most = upgrade(program, path, out)
     must((status, notes) == (0, b""), f"{what}: status {status}, {notes}")
     must(same(out, path + ".new"), f"{what}: another text")
@@ -103,9 +114,10 @@ def of_bytes(count):
 def main():
     program = sys.argv[1]
     with tempfile.TemporaryDirectory() as room:
-        is_upgraded(program, room, "few large saves", large, 16)
-        is_upgraded(program, room, "most entries, short", short, ENTRIES)
-        is_upgraded(program, room, "most entries, long", long, ENTRIES)
+        is_upgraded(program, room, "few large saves", lambda path: write(path, large, 16))
+        is_upgraded(program, room, "most entries, short", lambda path: write(path, short, ENTRIES))
+        is_upgraded(program, room, "most entries, long", lambda path: write(path, long, ENTRIES))
+        is_upgraded(program, room, "a million files", lambda path: write_files(path, 1_000_000))
         bad = lambda number: (7, b"", b"line %d: bad line\n" % number)
         is_refused(program, room, "the longest, all bytes zero", bad(1), of_bytes(MOST))
         is_refused(program, room, "one byte more", (13, b"journal too long\n", b""), of_bytes(MOST + 1))
