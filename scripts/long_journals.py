@@ -10,6 +10,7 @@ What is written has to be the same journal in today's form, which `upgrade` leav
 limit has to end with 13 and one line on the notes, one entry more and a journal whose last line is missing with 7
 and the number of the line. It is no part of the gate.
 """
+import multiprocessing
 import os
 import subprocess
 import sys
@@ -53,7 +54,6 @@ def write_files(path, count):
     with open(path, "wb") as old, open(path + ".new", "wb") as new:
         old.write(b"wopi journal 1 opened 0\n" + rows + b"end\n")
         new.write(b"wopi journal 2 opened 0 first 1\n" + rows + b"end 0\n")
-    return os.path.getsize(path)
 
 
 def write(path, line, count, behind=b"end\n"):
@@ -67,7 +67,6 @@ def write(path, line, count, behind=b"end\n"):
             new.write(f"{before} 5 {after}\n".encode())
         old.write(behind)
         new.write(f"end {count}\n".encode())
-    return os.path.getsize(path)
 
 
 def upgrade(program, path, out):
@@ -84,9 +83,18 @@ def same(one, other):
     return subprocess.run(["cmp", "-s", one, other]).returncode == 0
 
 
+def in_another_process(text, path):
+    """Writes a text, whose memory the program would else seem to have held."""
+    process = multiprocessing.get_context("fork").Process(target=text, args=(path,))
+    process.start()
+    process.join()
+    must(process.exitcode == 0, "no text")
+    return os.path.getsize(path)
+
+
 def is_upgraded(program, room, what, text):
     path, out, again = (os.path.join(room, name) for name in ("old", "out", "again"))
-    size = text(path)
+    size = in_another_process(text, path)
     status, notes, seconds, most = upgrade(program, path, out)
     must((status, notes) == (0, b""), f"{what}: status {status}, {notes}")
     must(same(out, path + ".new"), f"{what}: another text")
