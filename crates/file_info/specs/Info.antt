@@ -17,6 +17,7 @@ info_json info =
     (member (codes "OwnerId") (string info.owner)
     (member (codes "Size") (number (unsigned info.size))
     (member (codes "SupportsDeleteFile") (boolean true)
+    (member (codes "SupportsExtendedLockLength") (boolean true)
     (member (codes "SupportsGetLock") (boolean true)
     (member (codes "SupportsLocks") (boolean true)
     (member (codes "SupportsUpdate") (boolean true)
@@ -24,7 +25,7 @@ info_json info =
     (member (codes "UserCanWrite") (boolean info.can_write)
     (member (codes "UserId") (string info.user)
     (member (codes "Version") (string info.version)
-    no_members)))))))))))
+    no_members))))))))))))
 
 -- the body of that answer, written without spaces
 abbrev pub info_text : Info → List ℕ

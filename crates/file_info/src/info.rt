@@ -31,7 +31,7 @@ pub struct Info {
 }
 
 /// The body of CheckFileInfo's answer. Beside what is known of the file it says that the host
-/// supports deletion, locks, their look-up and updates, and that the user may make other files
+/// supports deletion, lock ids of up to 1,024 bytes, locks, their look-up and updates, and that the user may make other files
 /// beside this one exactly where he may write this one.
 pub fn info_text(alloc: Global, info: &Info) -> Result<Bytes, Memory>
     requires { HasTexts info.now }
@@ -87,6 +87,7 @@ fn info_value(alloc: Global, info: &Info) -> Result<Value, AllocError>
         "OwnerId": text_of(&info.owner),
         "Size": info.size,
         "SupportsDeleteFile": true,
+        "SupportsExtendedLockLength": true,
         "SupportsGetLock": true,
         "SupportsLocks": true,
         "SupportsUpdate": true,

@@ -24,10 +24,10 @@ fn what_is_told_of_a_file_has_its_members_in_order(rt: HostRuntime) -> Result<()
     let info = ann_may_write(rt.alloc())?;
     let text = info_text(rt.alloc(), &info)?;
     let told = "{\"BaseFileName\":\"a.csv\",\"OwnerId\":\"owner\",\"Size\":4,\
-                \"SupportsDeleteFile\":true,\"SupportsGetLock\":true,\"SupportsLocks\":true,\
+                \"SupportsDeleteFile\":true,\"SupportsExtendedLockLength\":true,\"SupportsGetLock\":true,\"SupportsLocks\":true,\
                 \"SupportsUpdate\":true,\"UserCanNotWriteRelative\":false,\"UserCanWrite\":true,\
                 \"UserId\":\"ann\",\"Version\":\"v1\"}";
-    assert_eq!(rt; told.len(), 225);
+    assert_eq!(rt; told.len(), 259);
     assert_eq!(rt; text.as_slice(), told.as_bytes());
     Ok(())
 }

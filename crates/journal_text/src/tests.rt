@@ -180,15 +180,15 @@ fn bad_under_id(alloc: Global, front: &str, count: usize, end: &str) -> Result<O
 }
 
 #[test]
-fn lock_ids_have_at_most_256_bytes(rt: HostRuntime) -> Result<(), Fail> {
+fn lock_ids_have_at_most_256_bytes_in_the_first_form_and_1024_in_the_second(rt: HostRuntime) -> Result<(), Fail> {
     let first = "wopi journal 1 opened 0\n1 11 0 5 612e637376 lock ";
     let second = "wopi journal 2 opened 0 first 1\n1 11 0 5 5 612e637376 lock ";
     let end = " u.612e637376.w.2.0.9 200 - - v1 -\nend\n";
     let counted = " u.612e637376.w.2.0.9 200 - - v1 -\nend 1\n";
     assert_eq!(rt; bad_under_id(rt.alloc(), first, 256, end)?, None);
     assert_eq!(rt; bad_under_id(rt.alloc(), first, 257, end)?, Some(2));
-    assert_eq!(rt; bad_under_id(rt.alloc(), second, 256, counted)?, None);
-    assert_eq!(rt; bad_under_id(rt.alloc(), second, 257, counted)?, Some(2));
+    assert_eq!(rt; bad_under_id(rt.alloc(), second, 1_024, counted)?, None);
+    assert_eq!(rt; bad_under_id(rt.alloc(), second, 1_025, counted)?, Some(2));
     Ok(())
 }
 

@@ -10,7 +10,7 @@ ghost use Rattle.journal_text.specs.Lines.{Fits, MayFit, MayBeLock, is_status};
 use wopi_text::{LockId, MOMENTS_END, Reason, decimal_read, decode_hex};
 
 /// The most bytes of a lock id.
-const MOST: usize = 256;
+const MOST: usize = 1_024;
 
 /// Whether the words are the same.
 pub(crate) fn is_word(word: &[u8], other: &[u8]) -> bool
@@ -187,7 +187,7 @@ pub(crate) fn rights_read(word: &[u8]) -> Option<bool>
 
 /// Whether the digits write the bytes.
 fn writes(digits: &[u8], bytes: &[u8]) -> bool
-    requires { length bytes.now ≤ 256 }
+    requires { length bytes.now ≤ 1024 }
     ensures { IsTrue result ↔ (digits.now ≡ encode_lower bytes.now) }
 {
     let mut room = [0u8; 2 * MOST];

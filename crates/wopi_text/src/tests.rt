@@ -35,9 +35,9 @@ fn names_that_a_folder_could_not_keep_are_refused(rt: HostRuntime) {
 }
 
 #[test]
-fn a_lock_id_has_up_to_256_printable_bytes(rt: HostRuntime) {
-    assert!(rt; LockId::read(&[b'x'; 256]).is_some());
-    assert!(rt; LockId::read(&[b'x'; 257]).is_none());
+fn a_lock_id_has_up_to_1024_printable_bytes(rt: HostRuntime) {
+    assert!(rt; LockId::read(&[b'x'; 1_024]).is_some());
+    assert!(rt; LockId::read(&[b'x'; 1_025]).is_none());
     for id in ["", " a", "a ", "a\n"] {
         assert!(rt; LockId::read(id.as_bytes()).is_none(), "{id}");
     }

@@ -112,7 +112,7 @@ impl Wire for Waiting {
 const MESSAGES: [&[u8]; 4] = [
     b"GET /wopi/files/612e637376?access_token=v2.0.s1.612e637376.w.1.0.9000000.d22f2c646844607e2483fa9850ccefee5aec7564acc745c4a7ddaa6ab44d2583 HTTP/1.1\r\nHost: localhost\r\n\
 Connection: close\r\n\r\n",
-    b"HTTP/1.1 200 OK\r\nContent-Length: 224\r\nContent-Type: application/json\r\nConnection: close\r\n\r\n{\"BaseFileName\":\"a.csv\",\"OwnerId\":\"owner\",\"Size\":4,\"SupportsDeleteFile\":true,\"SupportsGetLock\":true,\"SupportsLocks\":true,\"SupportsUpdate\":true,\"UserCanNotWriteRelative\":false,\"UserCanWrite\":true,\"UserId\":\"s1\",\"Version\":\"v1\"}",
+    b"HTTP/1.1 200 OK\r\nContent-Length: 258\r\nContent-Type: application/json\r\nConnection: close\r\n\r\n{\"BaseFileName\":\"a.csv\",\"OwnerId\":\"owner\",\"Size\":4,\"SupportsDeleteFile\":true,\"SupportsExtendedLockLength\":true,\"SupportsGetLock\":true,\"SupportsLocks\":true,\"SupportsUpdate\":true,\"UserCanNotWriteRelative\":false,\"UserCanWrite\":true,\"UserId\":\"s1\",\"Version\":\"v1\"}",
     b"POST /wopi/files/612e637376?access_token=v2.0.s1.612e637376.w.1.0.9000000.d22f2c646844607e2483fa9850ccefee5aec7564acc745c4a7ddaa6ab44d2583 HTTP/1.1\r\nHost: localhost\r\nX-WOPI-Override: LOCK\r\nX-WOPI-Lock: n-1\r\nContent-Length: 0\r\nConnection: close\r\n\r\n",
     b"HTTP/1.1 200 OK\r\nContent-Length: 0\r\nX-WOPI-ItemVersion: v1\r\nConnection: close\r\n\r\n",
 ];

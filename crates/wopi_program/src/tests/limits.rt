@@ -29,10 +29,10 @@ fn a_save_has_up_to_sixteen_mebibytes(rt: HostRuntime) -> Result<(), Fail> {
 }
 
 #[test]
-fn an_id_has_up_to_256_bytes(rt: HostRuntime) -> Result<(), Fail> {
+fn an_id_has_up_to_1024_bytes(rt: HostRuntime) -> Result<(), Fail> {
     let alloc = rt.alloc();
     let bad = b"HTTP/1.1 400 Bad Request\r\nContent-Length: 0\r\n\r\n".as_slice();
-    for (length, wanted) in [(256, LOCKED), (257, bad)] {
+    for (length, wanted) in [(1_024, LOCKED), (1_025, bad)] {
         let bytes = vec![in alloc; b'x'; length]?;
         let request = lock_request(alloc, str::from_utf8(&bytes)?)?;
         let left = once(&rt, alloc, &request)?;

@@ -152,7 +152,7 @@ const ROWS: [Row; 12] = [
         shows: "a file is told of in JSON",
         requests: &[["GET", "", "", ""]],
         replies: &[
-            "HTTP/1.1 200 OK\r\nContent-Length: 225\r\nContent-Type: application/json\r\n\r\n{\"BaseFileName\":\"a.csv\",\"OwnerId\":\"owner\",\"Size\":4,\"SupportsDeleteFile\":true,\"SupportsGetLock\":true,\"SupportsLocks\":true,\"SupportsUpdate\":true,\"UserCanNotWriteRelative\":false,\"UserCanWrite\":true,\"UserId\":\"ann\",\"Version\":\"v1\"}",
+            "HTTP/1.1 200 OK\r\nContent-Length: 259\r\nContent-Type: application/json\r\n\r\n{\"BaseFileName\":\"a.csv\",\"OwnerId\":\"owner\",\"Size\":4,\"SupportsDeleteFile\":true,\"SupportsExtendedLockLength\":true,\"SupportsGetLock\":true,\"SupportsLocks\":true,\"SupportsUpdate\":true,\"UserCanNotWriteRelative\":false,\"UserCanWrite\":true,\"UserId\":\"ann\",\"Version\":\"v1\"}",
         ],
         name: "a.csv",
         kept: "1,2\n",

@@ -307,7 +307,7 @@ const ROWS: [Row; 3] = [
         status: 0,
         notes: "",
         journal: &EVERY_LINE,
-        replies: b"HTTP/1.1 200 OK\r\nContent-Length: 225\r\n",
+        replies: b"HTTP/1.1 200 OK\r\nContent-Length: 259\r\n",
     },
 ];
 
