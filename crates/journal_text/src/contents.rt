@@ -5,26 +5,8 @@ ghost use Rattle.host_table.specs.Text.{hex_text, optional_hex};
 ghost use Rattle.journal_text.specs.Lines.{AreSized};
 
 use crate::values::is_word;
-use hex::FromHexError;
 use std::alloc::Global;
-use wopi_text::{Bytes, Memory};
-
-/// What hex digits of either case write, if they are such digits.
-fn decoded(alloc: Global, word: &[u8]) -> Result<Option<Vec<u8>>, Memory>
-    ensures some { IfOk result (λ read. IfSome read (λ bytes. decode_of word.now ≡ Ok bytes.items)) }
-    ensures none { IfOk result (λ read. IfNone read ((bytes : List ℕ) → decode_of word.now ≢ Ok bytes)) }
-{
-    match hex::decode(alloc, word) {
-        Ok(contents) => Ok(Some(contents)),
-        Err(error) => {
-            if error == FromHexError::OutOfMemory {
-                Err(Memory)
-            } else {
-                Ok(None)
-            }
-        }
-    }
-}
+use wopi_text::{Bytes, Memory, hex_decoded};
 
 /// The bytes that a word writes in lower-case hex, `-` for none.
 pub(crate) fn hex_read(alloc: Global, word: &[u8]) -> Result<Option<Bytes>, Memory>
@@ -37,7 +19,7 @@ pub(crate) fn hex_read(alloc: Global, word: &[u8]) -> Result<Option<Bytes>, Memo
     if word.is_empty() {
         return Ok(None);
     }
-    let Some(contents) = decoded(alloc, word)? else {
+    let Some(contents) = hex_decoded(alloc, word)? else {
         return Ok(None);
     };
     let text = hex::encode(alloc, contents.as_slice())?;

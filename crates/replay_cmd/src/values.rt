@@ -6,9 +6,8 @@ ghost use Rattle.replay_cmd.specs.declared.schedule.Reference.{Reference};
 ghost use Rattle.replay_cmd.specs.Words.{hex_text};
 
 use crate::Reference;
-use hex::FromHexError;
 use std::alloc::Global;
-use wopi_text::{Bytes, LockId, Memory, decimal_read};
+use wopi_text::{Bytes, LockId, Memory, decimal_read, hex_decoded};
 
 /// Twice the most bytes that a word writes.
 const MOST_DIGITS: usize = 16_384;
@@ -21,23 +20,6 @@ pub(crate) fn is_word(word: &[u8], other: &[u8]) -> bool
     ensures { IsTrue result ↔ (word.now ≡ other.now) }
 {
     word == other
-}
-
-/// What hex digits of either case write, if they are such digits.
-fn decoded(alloc: Global, word: &[u8]) -> Result<Option<Vec<u8>>, Memory>
-    ensures some { IfOk result (λ read. IfSome read (λ bytes. decode_of word.now ≡ Ok bytes.items)) }
-    ensures none { IfOk result (λ read. IfNone read ((bytes : List ℕ) → decode_of word.now ≢ Ok bytes)) }
-{
-    match hex::decode(alloc, word) {
-        Ok(contents) => Ok(Some(contents)),
-        Err(error) => {
-            if error == FromHexError::OutOfMemory {
-                Err(Memory)
-            } else {
-                Ok(None)
-            }
-        }
-    }
 }
 
 /// The contents that a word writes in lower-case hex, `-` for none.
@@ -54,7 +36,7 @@ pub(crate) fn hex_read(alloc: Global, word: &[u8]) -> Result<Option<Bytes>, Memo
     if word.len() > MOST_DIGITS {
         return Ok(None);
     }
-    let Some(contents) = decoded(alloc, word)? else {
+    let Some(contents) = hex_decoded(alloc, word)? else {
         return Ok(None);
     };
     let text = hex::encode(alloc, contents.as_slice())?;

@@ -23,7 +23,7 @@ pub use bytes::Bytes;
 pub use decimal::{are_digits, decimal_read, digits_read, digits_up_to};
 pub use faults::{BadId, BadName, Memory};
 pub use file_name::{FileName, NAME_LIMIT, is_name_char};
-pub use hex_digits::decode_hex;
+pub use hex_digits::{decode_hex, hex_decoded};
 pub use id::{id_read, id_text};
 pub use lock_field::LockField;
 pub use lock_id::LockId;

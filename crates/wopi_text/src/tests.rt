@@ -1,6 +1,6 @@
 use crate::{
     BadId, BadName, Bytes, FileName, LockId, are_digits, decimal_read, decode_hex, digits_read,
-    digits_up_to, id_read, id_text, is_name_char,
+    digits_up_to, hex_decoded, id_read, id_text, is_name_char,
 };
 use std::test::Fail;
 
@@ -64,6 +64,20 @@ fn digits_may_begin_with_zeros_and_end_at_a_limit(rt: HostRuntime) {
         digits_up_to(b"99999999999999999999999999999999", u64::MAX),
         None
     );
+}
+
+#[test]
+fn hex_of_either_case_gives_its_bytes(rt: HostRuntime) -> Result<(), Fail> {
+    let alloc = rt.alloc();
+    let bytes = hex_decoded(alloc, b"4a6F")?.expect(&rt, "digits");
+    assert!(rt; bytes.as_slice() == b"Jo".as_slice());
+    for digits in ["4", "4g", "4a-"] {
+        assert!(rt;
+            hex_decoded(alloc, digits.as_bytes())?.is_none(),
+            "{digits}"
+        );
+    }
+    Ok(())
 }
 
 #[test]
