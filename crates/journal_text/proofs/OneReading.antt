@@ -172,8 +172,8 @@ same_opened First opened first later version h k e =
 same_opened Second opened first later version h k e =
     let a = h.0 in
     let b = k.0 in
-    let c = h.1.most in
-    let d = k.1.most in (
+    let c = h.1.1 in
+    let d = k.1.1 in (
       decimal_injective opened later (omega (arith, a)) (omega (arith, b)) (ap (λ l. get_or l 4 []) e),
       decimal_injective first version (omega (arith, c)) (omega (arith, d)) (ap (λ l. get_or l 6 []) e),
     )

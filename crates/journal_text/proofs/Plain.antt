@@ -181,7 +181,7 @@ first-lacks First mark opened first m h =
     )
 first-lacks Second mark opened first m h =
     let moment = h.0 in
-    let most = h.1.most in (
+    let most = h.1.1 in (
       letters mark (codes "wopi") m refl,
       (
         letters mark (codes "journal") m refl,

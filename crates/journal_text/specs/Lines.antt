@@ -3,6 +3,7 @@ use Rattle.std.specs.Prelude.{◌≡◌, ⊤, ℕ, ◌<◌, ◌≤◌, ◌^◌, 
 use Rattle.hex.specs.Hex.{IsBytes}
 use Rattle.wopi_text.specs.FileName.{IsFileName}
 use Rattle.wopi_model.specs.Moment.{IsMoment}
+use Rattle.host_core.specs.Opening.{IsFirstVersion}
 use Rattle.host_core.specs.declared.entry.EntryAct.{EntryAct}
 use Rattle.host_core.specs.declared.entry.EntryAct.TheVariants as act
 use Rattle.journal_text.specs.declared.text.Format.{Format}
@@ -69,12 +70,7 @@ pub record IsFile (file : List ℕ × List ℕ) : Type 0 where
   pub name : IsFileName file.0
   pub contents : IsBytes file.1
 
--- the version of opening files
-pub record IsFirst (first : ℕ) : Type 0 where
-  pub least : 1 ≤ first
-  pub most : first ≤ 10 ^ 18
-
 -- what a first line may tell; the first form tells of the version 1 alone
 abbrev pub IsOpening : Format → ℕ → ℕ → Type 0
 IsOpening First opened first = IsMoment opened × (first ≡ 1)
-IsOpening Second opened first = IsMoment opened × IsFirst first
+IsOpening Second opened first = IsMoment opened × IsFirstVersion first

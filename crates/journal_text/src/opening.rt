@@ -1,19 +1,18 @@
 //! The first line, the lines of opening files, and the last line.
 ghost use Rattle.std.specs.Prelude.{◌≡◌, ◌≢◌, ◌↔◌, ◌∷◌, [], ℕ, List, Some, IfOk, IfSome, IfNone, IsTrue, codes, decimal};
+ghost use Rattle.host_core.specs.Opening.{IsFirstVersion};
 ghost use Rattle.wopi_model.specs.Moment.{IsMoment};
 ghost use Rattle.journal_text.specs.declared.text.Format.{Format};
-ghost use Rattle.journal_text.specs.Lines.{IsFile, IsFirst, IsOpening};
+ghost use Rattle.journal_text.specs.Lines.{IsFile, IsOpening};
 ghost use Rattle.journal_text.specs.Words.{file_words, first_words, last_words, words_of};
 
 use crate::contents::hex_read;
 use crate::splitting::{has_more, split_word};
 use crate::text::Format;
 use crate::values::{is_word, moment_read, number_read};
+use host_core::MOST_FIRST;
 use std::alloc::Global;
 use wopi_text::{Bytes, FileName, Memory, id_read};
-
-/// The greatest version that opening files can have.
-const MOST: u64 = 1_000_000_000_000_000_000;
 
 /// The form of a journal, when its host opened, and the version of the opening files.
 #[derive(Clone, Copy)]
@@ -93,8 +92,8 @@ fn first_form(row: &[u8]) -> Option<u64>
 
 /// When a host opened and the version of the opening files, in the second form.
 fn second_form(row: &[u8]) -> Option<(u64, u64)>
-    ensures some { IfSome result (λ read. IsMoment read.0 × IsFirst read.1 × (words_of row.now ≡ codes "opened" ∷ decimal read.0 ∷ codes "first" ∷ decimal read.1 ∷ [])) }
-    ensures none { IfNone result ((opened first : ℕ) → IsMoment opened → IsFirst first → words_of row.now ≢ codes "opened" ∷ decimal opened ∷ codes "first" ∷ decimal first ∷ []) }
+    ensures some { IfSome result (λ read. IsMoment read.0 × IsFirstVersion read.1 × (words_of row.now ≡ codes "opened" ∷ decimal read.0 ∷ codes "first" ∷ decimal read.1 ∷ [])) }
+    ensures none { IfNone result ((opened first : ℕ) → IsMoment opened → IsFirstVersion first → words_of row.now ≢ codes "opened" ∷ decimal opened ∷ codes "first" ∷ decimal first ∷ []) }
 {
     let (word, rest) = split_word(row)?;
     let (opened, rest) = split_word(rest)?;
@@ -115,13 +114,13 @@ fn second_form(row: &[u8]) -> Option<(u64, u64)>
 
 /// The version of opening files that a word is.
 fn version_read(word: &[u8]) -> Option<u64>
-    ensures { (n : ℕ) → (result ≡ Some n) ↔ (IsFirst n × (word.now ≡ decimal n)) }
+    ensures { (n : ℕ) → (result ≡ Some n) ↔ (IsFirstVersion n × (word.now ≡ decimal n)) }
 {
     let number = number_read(word)?;
     if number < 1 {
         return None;
     }
-    if number > MOST {
+    if number > MOST_FIRST {
         return None;
     }
     Some(number)

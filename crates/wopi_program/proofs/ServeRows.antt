@@ -3,6 +3,7 @@ use Rattle.std.proofs.Common.{◌≡◌, ◌↔◌, ℕ, suc, ◌<◌, ◌≤◌
 use Rattle.std.specs.Option.{option_len}
 use Rattle.std.specs.Str.{bytes_eq}
 use Rattle.access_tokens.specs.Keys.{IsWordOf}
+use Rattle.host_core.specs.Opening.{most_first}
 use Rattle.host_server.specs.Bases.{is_base}
 use Rattle.wopi_program.specs.declared.serve_words.ServeAsk.{ServeAsk}
 use Rattle.wopi_program.specs.declared.serve_words.ServeOptions.{ServeOptions}
@@ -59,7 +60,7 @@ before_more : (name word : List ℕ) (options : ServeOptions) → IsMore options
 before_more name word options =
     either (IsMore options) (bytes_eq name (codes "--journal")) _ _ (journal_more options.journal (number_in 32768 word) options refl)
     (either (IsMore options) (bytes_eq name (codes "--each")) _ _ (each_more options.each (number_in 1000000 word) options refl)
-    (either (IsMore options) (bytes_eq name (codes "--first")) _ _ (first_more options.first (number_in (10 ^ 18) word) options refl) tt))
+    (either (IsMore options) (bytes_eq name (codes "--first")) _ _ (first_more options.first (number_in (most_first) word) options refl) tt))
 
 -- each option has two words
 abbrev HaveTwo : ℕ → Option ServeOptions → Type 0

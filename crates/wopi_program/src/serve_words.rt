@@ -2,9 +2,11 @@
 ghost use Rattle.std.specs.Prelude.{◌≡◌, ◌≤◌, ◌^◌, ◌↔◌, ℕ, List, map, string_bytes, IfSome, IfNone, Some};
 ghost use Rattle.wopi_program.specs.ServeWords.{AreBounded, IsServe, IsServeRow, asked, asked_of, number_in, option_before, options_of, unless_told, with_each, with_first, with_journal};
 ghost use Rattle.access_tokens.specs.declared.keys.Keys.{Keys};
+ghost use Rattle.host_core.specs.Opening.{most_first};
 
 use crate::once_words::is_base;
 use access_tokens::Keys;
+use host_core::MOST_FIRST;
 use wopi_text::decimal_read;
 
 /// The most entries of a shard.
@@ -15,9 +17,6 @@ const ENTRIES: u32 = 4096;
 
 /// The most connections of a worker, and how many it serves where the words name no number.
 const LINKS: u32 = 1000000;
-
-/// The greatest version that a host can begin with.
-const MOST_FIRST: u64 = 1_000_000_000_000_000_000;
 
 /// The version that a host begins with where the words name no number.
 const FIRST: u64 = 1;
@@ -113,7 +112,7 @@ fn with_each(options: ServeOptions, word: &str) -> Option<ServeOptions>
 
 /// The options with `--first` in front of them.
 fn with_first(options: ServeOptions, word: &str) -> Option<ServeOptions>
-    ensures value { result ≡ with_first options (unless_told options.first (number_in (10 ^ 18) word.now)) }
+    ensures value { result ≡ with_first options (unless_told options.first (number_in (most_first) word.now)) }
     ensures fits { AreBounded options → IfSome result AreBounded }
 {
     match options.first {
@@ -168,7 +167,7 @@ fn asked(port: Option<u32>, workers: Option<u32>, options: Option<ServeOptions>)
     ensures value { result ≡ asked port workers options }
     ensures workers { IfSome result (λ ask. workers ≡ Some ask.workers) }
     ensures capacity { IfSome result (λ ask. (1 ≤ ask.capacity) × (ask.capacity ≤ 32768)) }
-    ensures first { IfSome result (λ ask. (1 ≤ ask.first) × (ask.first ≤ 10 ^ 18)) }
+    ensures first { IfSome result (λ ask. (1 ≤ ask.first) × (ask.first ≤ most_first)) }
 {
     match port {
         None => None,
@@ -193,7 +192,7 @@ fn asked_of(port: &str, workers: &str, rest: &[String]) -> Option<ServeAsk>
     ensures value { result ≡ asked_of port.now workers.now (map string_bytes rest.now) }
     ensures workers { IfSome result (λ ask. (1 ≤ ask.workers) × (ask.workers ≤ 16)) }
     ensures capacity { IfSome result (λ ask. (1 ≤ ask.capacity) × (ask.capacity ≤ 32768)) }
-    ensures first { IfSome result (λ ask. (1 ≤ ask.first) × (ask.first ≤ 10 ^ 18)) }
+    ensures first { IfSome result (λ ask. (1 ≤ ask.first) × (ask.first ≤ most_first)) }
 {
     asked(small_in(port, 65535), small_in(workers, 16), options(rest))
 }
@@ -203,7 +202,7 @@ pub(crate) fn serve_words(words: &[String]) -> Option<(Keys, &str, ServeAsk)>
     ensures some { IfSome result (λ row. IsServeRow (map string_bytes words.now) row.0 row.1.now row.2) }
     ensures workers { IfSome result (λ row. (1 ≤ row.2.workers) × (row.2.workers ≤ 16)) }
     ensures capacity { IfSome result (λ row. (1 ≤ row.2.capacity) × (row.2.capacity ≤ 32768)) }
-    ensures first { IfSome result (λ row. (1 ≤ row.2.first) × (row.2.first ≤ 10 ^ 18)) }
+    ensures first { IfSome result (λ row. (1 ≤ row.2.first) × (row.2.first ≤ most_first)) }
     ensures none { IfNone result (¬ IsServe (map string_bytes words.now)) }
 {
     match words {
