@@ -12,7 +12,7 @@ use Rattle.wopi_world.specs.World.{Setting, World, Event, comes, entry_of, first
 use Rattle.wopi_world.proofs.Coming.{kept-comes}
 use Rattle.wopi_world.proofs.Moving.{same_reopened}
 use Rattle.replay_cmd.specs.Hosts.{StandsFor}
-use Rattle.replay_cmd.specs.Pasts.{Ended, ended_from, began_from, IsOver, IsPast, ArePasts, ShowsHosts, left_by}
+use Rattle.replay_cmd.specs.Pasts.{Ended, ended_from, began_from, IsOver, IsPast, ArePasts, ShowsHosts, past_left_by}
 use Rattle.replay_cmd.specs.Stages.{Shows, IsStageOf}
 use Rattle.replay_cmd.specs.Starts.{Reopens}
 use Rattle.replay_cmd.specs.declared.stage.Stage.{Stage}
@@ -94,15 +94,15 @@ past_more (other ∷ pasts) (another ∷ hosts) past host h one = (h.0, past_mor
 -- at a restart one more comes, from the host that ends
 pub hosts_more : {F : Type 0} (start : Shard) (pasts : List (Left F)) (book book' : Book F) (world : World) (moment first next : ℕ)
     → after start world.history ≡ world.shard → StandsFor book world → Reopens book moment first book' → ShowsHosts start pasts book.opening world.history
-    → ShowsHosts start (pasts ++ left_by book ∷ []) book'.opening (world.history ++ Restarted moment next ∷ [])
+    → ShowsHosts start (pasts ++ past_left_by book ∷ []) book'.opening (world.history ++ Restarted moment next ∷ [])
 hosts_more start pasts book book' world moment first next leaves stands reopens shows =
     let began : Shard = began_from start [] world.history in
     let last : Ended = record { began = began; ran = last_run world.history } in
-    let one : IsPast (left_by book) last = record { made = sym stands.entries; over = shows.over } in
+    let one : IsPast (past_left_by book) last = record { made = sym stands.entries; over = shows.over } in
     let shard : world.shard ≡ run.after began (last_run world.history) = sym leaves ∙ after_hosts start [] world.history in
     record {
-      ended = subst (ArePasts (pasts ++ left_by book ∷ [])) (sym (ended_restarted start [] world.history moment next))
-          (past_more pasts (ended_from start [] world.history) (left_by book) last shows.ended one);
+      ended = subst (ArePasts (pasts ++ past_left_by book ∷ [])) (sym (ended_restarted start [] world.history moment next))
+          (past_more pasts (ended_from start [] world.history) (past_left_by book) last shows.ended one);
       over = λ name.
           reopens.contents name
           ∙ ap (λ (s : Shard). (s.files name).contents) (sym stands.shard)

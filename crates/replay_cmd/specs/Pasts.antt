@@ -47,5 +47,5 @@ pub record ShowsHosts {F : Type 0} (start : Shard) (pasts : List (Left F)) (open
   pub over : IsOver opening (began_from start [] history)
 
 -- what a shard leaves
-abbrev pub left_by : {F : Type 0} → Book F → Left F
-left_by book = record { opening = book.opening; made = book.made; start = book.start }
+abbrev pub past_left_by : {F : Type 0} → Book F → Left F
+past_left_by book = record { opening = book.opening; made = book.made; start = book.start }

@@ -6,7 +6,7 @@ use Rattle.host_core.specs.Opening.{IsOpening, IsTooLarge}
 use Rattle.host_core.specs.Value.{Book, Agrees, state_of, is_torn, faults_in}
 use Rattle.replay_cmd.specs.declared.faultless.FaultlessFolder.{FaultlessFolder}
 use Rattle.replay_cmd.specs.Hosts.{Watch, HasFileNames}
-use Rattle.replay_cmd.specs.Pasts.{left_by}
+use Rattle.replay_cmd.specs.Pasts.{past_left_by}
 use Rattle.replay_cmd.specs.Starts.{LeavesTooMuch, Reopens}
 use Rattle.replay_cmd.proofs.Anew.{left_over, left_too_much}
 use Rattle.replay_cmd.proofs.Chosen.{of_some, of_none}
@@ -55,4 +55,4 @@ returns-in_default-clause-none c =
 
 pub returns-clause-past : goal.returns-clause-past
 returns-clause-past c =
-    c.end-folder.ensures.past ∙ ap left_by (c.end.ensures.same ∙ ap (λ (w : Watch FaultlessFolder). w.shard) c.self.view_is)
+    c.end-folder.ensures.past ∙ ap past_left_by (c.end.ensures.same ∙ ap (λ (w : Watch FaultlessFolder). w.shard) c.self.view_is)
