@@ -15,7 +15,7 @@ use Rattle.file_versions.specs.Places.{IsFirst, first_of}
 use Rattle.kept_locks.specs.Locks.{Standing, Locks, AreChained, unlocked, ended_at, all_ended}
 use Rattle.kept_locks.specs.Ties.{BeganBy}
 use Rattle.host_core.specs.declared.accept.Carried.{Carried}
-use Rattle.host_core.specs.declared.carry.Uncarried.{Uncarried}
+use Rattle.host_core.specs.declared.store.StoreRefusal.{StoreRefusal}
 use Rattle.host_core.specs.declared.file.KeptFile.{KeptFile}
 use Rattle.host_core.specs.Archive.{IsStocked, AreOpeningFiles, AreWithin, IsKept, names_of, place_in}
 use Rattle.host_core.specs.declared.store.StoreRefusal.TheVariants as refusal
@@ -81,15 +81,15 @@ met_all oldest folder folder' v v' began count files place k k' old new call ope
     (met_steps oldest folder folder' v v' began count before place (whole k (standing_at ended place)) (seen k' new place) call opened now carried
     (stocked_any files old.files ended v stocked) (first_any files old.files ended call.name place first) (get_joined files place k ended e) moves')
 
-pub met_stopped : (oldest : ℕ) (folder folder' : Option Files) (v v' : List Version) (files : List KeptFile) (place : ℕ) (k k' : KeptFile) (old new : Locks) (call : Call) (opened now : ℕ) (uncarried : Uncarried)
+pub met_stopped : (oldest : ℕ) (folder folder' : Option Files) (v v' : List Version) (files : List KeptFile) (place : ℕ) (k k' : KeptFile) (old new : Locks) (call : Call) (opened now : ℕ) (why : StoreRefusal)
     → IsStocked (joined files old.files) v → IsFirst (is_named call.name) (joined files old.files) place → k ≡ get_or files place k → new ≡ old
-    → Stops folder folder' v v' (seen k old place) (seen k' new place) call opened now uncarried
-    → StopsAll oldest folder folder' v v' (joined files old.files) (joined (set files place k') new.files) call opened now uncarried
-met_stopped oldest folder folder' v v' files place k k' old new call opened now uncarried stocked first e same stops =
+    → Stops folder folder' v v' (seen k old place) (seen k' new place) call opened now why
+    → StopsAll oldest folder folder' v v' (joined files old.files) (joined (set files place k') new.files) call opened now why
+met_stopped oldest folder folder' v v' files place k k' old new call opened now why stocked first e same stops =
     let before = joined files old.files in
-    subst (λ (after : List Whole). StopsAll oldest folder folder' v v' before after call opened now uncarried)
+    subst (λ (after : List Whole). StopsAll oldest folder folder' v v' before after call opened now why)
     (sym (joined_put files place k' new.files old.files (λ n differ. ap (λ (l : Locks). standing_at l.files n) same)))
-    (met_stops oldest folder folder' v v' before place (seen k old place) (seen k' new place) call opened now uncarried stocked first (get_joined files place k old.files e) stops)
+    (met_stops oldest folder folder' v v' before place (seen k old place) (seen k' new place) call opened now why stocked first (get_joined files place k old.files e) stops)
 
 -- the locks after a step
 pub locked_turn : (files files' : List KeptFile) (old new : Locks) (place time now : ℕ) → AreLocked files old time → place < length files → length files' ≡ length files → Turns old new place now → AreLocked files' new now
@@ -224,13 +224,12 @@ locked_more files files' old new time e stands as_of longer locked = subst (λ (
 })
 
 -- nothing was done
-pub still_all : (oldest : ℕ) (folder : Option Files) (v : List Version) (before after : List Whole) (call : Call) (opened now : ℕ) (uncarried : Uncarried) → after ≡ before → IsStocked before v → uncarried.call ≡ call
-    → (uncarried.why ≡ refusal.KeptFull → ⊥) → StopsAll oldest folder folder v v before after call opened now uncarried
-still_all oldest folder v before after call opened now uncarried e stocked handed never = record {
+pub still_all : (oldest : ℕ) (folder : Option Files) (v : List Version) (before after : List Whole) (call : Call) (opened now : ℕ) (why : StoreRefusal) → after ≡ before → IsStocked before v
+    → (why ≡ refusal.Full → ⊥) → StopsAll oldest folder folder v v before after call opened now why
+still_all oldest folder v before after call opened now why e stocked never = record {
   shows = record { files = λ name. ap (λ (l : List Whole). files_of oldest l name) e; torn = λ name. ap (λ (l : List Whole). torn_in l name) e };
   stay = refl;
   folder = keeps_self folder;
-  handed = handed;
   full = λ h. absurd (never h);
   stays = record {
     stocked = subst (λ (l : List Whole). IsStocked l v) (sym e) stocked;
@@ -242,16 +241,15 @@ still_all oldest folder v before after call opened now uncarried e stocked hande
 }
 
 -- a call on a name that wasn't met was stopped
-pub stopped_new : (oldest : ℕ) (folder folder' : Option Files) (v v' : List Version) (before after : List Whole) (k k' : Whole) (call : Call) (opened now : ℕ) (uncarried : Uncarried) → after ≡ before → IsStocked before v
-    → first_of (is_named call.name) before ≡ None → file_of k ≡ never_met oldest → Stops folder folder' v v' k k' call opened now uncarried
-    → StopsAll oldest folder folder' v v' before after call opened now uncarried
-stopped_new oldest folder folder' v v' before after k k' call opened now uncarried e stocked none is stops =
+pub stopped_new : (oldest : ℕ) (folder folder' : Option Files) (v v' : List Version) (before after : List Whole) (k k' : Whole) (call : Call) (opened now : ℕ) (why : StoreRefusal) → after ≡ before → IsStocked before v
+    → first_of (is_named call.name) before ≡ None → file_of k ≡ never_met oldest → Stops folder folder' v v' k k' call opened now why
+    → StopsAll oldest folder folder' v v' before after call opened now why
+stopped_new oldest folder folder' v v' before after k k' call opened now why e stocked none is stops =
     let was : files_of oldest before call.name ≡ file_of k = ap (λ (o : Option Whole). unwrap_or (option_map file_of o) (never_met oldest)) none ∙ sym is in
     record {
       shows = record { files = λ name. ap (λ (l : List Whole). files_of oldest l name) e; torn = λ name. ap (λ (l : List Whole). torn_in l name) e };
       stay = stops.stay;
       folder = stops.folder;
-      handed = stops.handed;
       full = λ h. subst (λ (f : File). IsNoRoomFor f (kept_in v) call opened now) (sym was) (stops.full h);
       stays = record {
         stocked = subst (λ (l : List Whole). IsStocked l v') (sym e) (subst (IsStocked before) (sym stops.stay) stocked);

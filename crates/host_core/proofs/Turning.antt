@@ -21,7 +21,7 @@ use Rattle.wopi_model.specs.Settle.{standing, is_over}
 use Rattle.kept_locks.specs.Locks.{Standing, Locks, unlocked, ended_at, all_ended, stepped, with_lock}
 use Rattle.kept_locks.specs.Ties.{BeganBy, GoesOn, Spends, renewed, renewed_at}
 use Rattle.host_core.specs.Effects.{taken_of}
-use Rattle.host_core.specs.Turns.{LockFollows, SpendsOf, AllStand, AreAsOf}
+use Rattle.host_core.specs.Turns.{LockFollows, AllStand, AreAsOf}
 use Rattle.host_core.specs.Whole.{standing_at}
 use Rattle.host_core.proofs.Joining.{stands_at, stands_ended}
 
@@ -73,13 +73,6 @@ goes_on ss number now (Some lock) lt began follows = go (standing (standing_at s
   go None e h = new h
   go (Some held) e (inl same) = inl (ended_at now (standing_at ss number), held, there_ended ss number now lt, e, same)
   go (Some held) e (inr h) = new h
-
-pub spends : (ss : List Standing) (number now : ℕ) (spent : Option Spent) → number < length ss → SpendsOf (standing (standing_at ss number).lock now) spent → Spends (all_ended now ss) number spent
-spends ss number now None lt of = tt
-spends ss number now (Some spent) lt of = go (standing (standing_at ss number).lock now) refl of where
-  go : (old : Option Lock) → standing (standing_at ss number).lock now ≡ old → SpendsOf old (Some spent) → Spends (all_ended now ss) number (Some spent)
-  go None e h = absurd h
-  go (Some held) e h = (ended_at now (standing_at ss number), held, there_ended ss number now lt, e)
 
 pub stands_set : (ss : List Standing) (number : ℕ) (lock : Option Lock) (spend : Option Spent) (now : ℕ) → number < length ss
     → standing_at (with_lock ss number lock spend now) number ≡ stepped lock spend now (standing_at ss number)
@@ -141,13 +134,7 @@ new_by ss number now (Some lock) lt began follows one e = go (standing (standing
 pub ends_by : (old lock : Option Lock) (asked : LockAct) (expires now : ℕ) → lock ≡ lock_after (standing old now) asked expires now → LockFollows (standing old now) lock now
 ends_by old lock asked expires now after = subst (λ (l : Option Lock). LockFollows (standing old now) l now) (sym after) (follows_after (standing old now) asked expires now)
 
--- an id is spent only of a lock that stands
-pub spends_as : (old : Option Lock) (until : Option ℕ) → SpendsOf old (spent_as old until)
-spends_as None until = tt
-spends_as (Some held) None = tt
-spends_as (Some held) (Some until) = tt
-
--- so is it of what stands under a number
+-- an id is spent only of a lock that stands under the number
 pub spends_at : (ss : List Standing) (number : ℕ) (until : Option ℕ) → number < length ss → Spends ss number (spent_as (standing_at ss number).lock until)
 spends_at ss number until lt = go (standing_at ss number).lock refl until where
   go : (lock : Option Lock) → (standing_at ss number).lock ≡ lock → (end : Option ℕ) → Spends ss number (spent_as lock end)

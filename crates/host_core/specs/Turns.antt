@@ -1,7 +1,6 @@
 -- What a step makes of the locks.
 use Rattle.std.specs.Prelude.{◌≡◌, ◌≢◌, ◌⊎◌, ⊤, ℕ, ◌+◌, ◌≤◌, ◌<◌, List, length, Option, None, Some}
 use Rattle.wopi_model.specs.declared.locks.Lock.{Lock}
-use Rattle.wopi_model.specs.declared.locks.Spent.{Spent}
 use Rattle.wopi_model.specs.Settle.{standing}
 use Rattle.lock_machine.specs.Changes.{left_by}
 use Rattle.kept_locks.specs.Locks.{Standing, Locks, AreChained, ended_at}
@@ -27,12 +26,6 @@ abbrev pub LockFollows : Option Lock → Option Lock → ℕ → Type 0
 LockFollows old None now = ⊤
 LockFollows None (Some lock) now = lock.since ≡ now
 LockFollows (Some old) (Some lock) now = (old.since ≡ lock.since) ⊎ (lock.since ≡ now)
-
--- an id is spent only where a lock stood
-abbrev pub SpendsOf : Option Lock → Option Spent → Type 0
-SpendsOf old None = ⊤
-SpendsOf None (Some spent) = ⊥
-SpendsOf (Some old) (Some spent) = ⊤
 
 -- what a step may make of a lock, where that id is taken
 abbrev pub Ends : Option Lock → Option (List ℕ) → Effect → ℕ → Type 0

@@ -22,6 +22,9 @@ use std::alloc::Global;
 use std::collections::BTreeSet;
 use wopi_text::{Bytes, FileName, Memory};
 
+/// The greatest version that a host may begin with.
+pub const MOST_FIRST: u64 = 1_000_000_000_000_000_000;
+
 /// The most bytes of one file: 16 MiB.
 const MOST_CONTENTS: usize = 16_777_216;
 

@@ -9,6 +9,7 @@ ghost use Rattle.file_versions.specs.Versions.{kept_in};
 ghost use Rattle.host_core.specs.Whole.{standing_at};
 ghost use Rattle.kept_locks.specs.Locks.{unlocked};
 ghost use Rattle.host_core.specs.Stock.{IsStock};
+ghost use Rattle.host_core.specs.Effects.{begun};
 ghost use Rattle.host_core.specs.Entries.{history_of, back_of};
 ghost use Rattle.host_core.specs.Files.{files_of, torn_in};
 ghost use Rattle.host_core.specs.Ledger.{IsFullFault, handed_back};
@@ -16,6 +17,7 @@ ghost use Rattle.host_core.specs.Memory.{takes_no_memory};
 ghost use Rattle.host_core.specs.Turns.{AreAsOf};
 ghost use Rattle.host_core.specs.Opening.{IsFirstVersion, IsOfShard, IsOpening, Fits, IsTooLarge, IfTooLarge};
 
+use crate::accept::{Carried, begin};
 use crate::entry::Entry;
 use crate::file::KeptFile;
 use crate::ledger::{Ledger, StepFault, take_step};
@@ -23,6 +25,7 @@ use crate::names::{NameList, names_of};
 use crate::opening::{OpeningFile, StartFault, Stock, gather};
 use crate::past::Past;
 use crate::room::{Room, take_room};
+use crate::store::StoreRefusal;
 use crate::view::{FileView, view_of};
 use file_versions::Versions;
 use outside::Folder;
@@ -174,6 +177,48 @@ impl<F: Folder> Shard<F> {
         ensures fault { IfOk result (λ step. step.1.status ≡ 500 → Rose (F.faults self.old.folder) (F.faults self.new.folder)) }
         ensures lawful { IsLawful self.new (F.files self.new.start) (F.files self.new.folder) (F.faults self.new.start) (F.faults self.new.folder) }
     {
+        let mut call = call;
+        let mut carried = begin();
+        match self.make(&mut call, pass, floor, moment, &mut carried) {
+            Ok(stamp) => return Ok((stamp, carried.ruling, carried.back)),
+            Err(StoreRefusal::Full) => return Err(StepFault::Full(call)),
+            Err(StoreRefusal::Memory) => return Err(StepFault::Memory(call)),
+        }
+    }
+
+    /// The step, where the call and what is told of it stay where they lie. It gives the stamp.
+    pub(crate) fn make(
+        &mut self,
+        call: &mut Call,
+        pass: u32,
+        floor: u64,
+        moment: u64,
+        carried: &mut Carried,
+    ) -> Result<u64, StoreRefusal>
+        requires moment { IsMoment moment }
+        requires only { IsOfShard self.old.only call.old.name }
+        requires begun { carried.old ≡ begun }
+        ensures entry { IfOk result (λ stamp. self.new ≡ record self.old {
+          made = self.old.made ++ record {
+            time = max self.old.time moment;
+            step = record { stamp = stamp; pass = pass; moment = moment; call = call.old; ruling = carried.new.ruling };
+          } ∷ [];
+          time = max self.old.time moment;
+          folder = self.new.folder;
+        }) }
+        ensures stamp { IfOk result (λ stamp. stamp ≡ max (last_from 0 (stamps (entries (history_of self.old.made self.old.time)))) floor + 1) }
+        ensures back { OnOk result (carried.new.back ≡ back_of call.old.act carried.new.ruling) }
+        ensures room { OnOk result (FullAt self.old.opening self.old.opened self.old.first self.old.capacity (history_of self.old.made self.old.time) floor call.old moment → ⊥) }
+        ensures full { IfErr result (λ why. why ≡ StoreRefusal.Full
+            → FullAt self.old.opening self.old.opened self.old.first self.old.capacity (history_of self.old.made self.old.time) floor call.old moment) }
+        ensures err { OnErr result (self.new ≡ record self.old { folder = self.new.folder }) }
+        ensures call { OnErr result (call.new ≡ call.old) }
+        ensures light { IfErr result (λ why. takes_no_memory call.old.act ≡ true → why ≡ StoreRefusal.Full) }
+        ensures keeps { OnErr result (Keeps (F.files self.old.folder) (F.files self.new.folder)) }
+        ensures never_falls { F.faults self.old.folder ≤ F.faults self.new.folder }
+        ensures fault { OnOk result (carried.new.ruling.status ≡ 500 → Rose (F.faults self.old.folder) (F.faults self.new.folder)) }
+        ensures lawful { IsLawful self.new (F.files self.new.start) (F.files self.new.folder) (F.faults self.new.start) (F.faults self.new.folder) }
+    {
         let _name = call.name.as_slice();
         match take_step(
             &mut self.ledger,
@@ -182,9 +227,10 @@ impl<F: Folder> Shard<F> {
             pass,
             floor,
             moment,
+            carried,
         ) {
-            Ok(step) => return Ok((step.stamp, step.ruling, step.back)),
-            Err(fault) => return Err(fault),
+            Ok(stamp) => return Ok(stamp),
+            Err(why) => return Err(why),
         }
     }
 

@@ -8,27 +8,30 @@ ghost use Rattle.host_core.specs.Store.{Holds, MatchStored};
 
 use file_versions::{AddFault, MOST_KEPT, Versions};
 use outside::{Folder, OutFault};
+use std::alloc::Global;
+use std::mem;
 use wopi_text::{Bytes, FileName};
 
-/// How a store call ended. Contents that weren't stored are handed back.
-#[derive(Drop)]
+/// How a store call ended.
+#[derive(Clone, Copy, Debug, PartialEq, Eq)]
 pub enum Stored {
     Done,
-    Torn(Bytes),
+    Torn,
 }
 
-/// Why nothing was stored.
+/// Why a call was not taken.
 #[derive(Clone, Copy, Debug, PartialEq, Eq)]
 pub enum StoreRefusal {
-    KeptFull,
+    /// The entries, the stamps or the bytes are used up.
+    Full,
     Memory,
 }
 
-/// Contents that weren't stored, and why.
-#[derive(Drop)]
-pub struct Unsaved {
-    pub why: StoreRefusal,
-    pub contents: Bytes,
+/// Takes contents out of their place, and leaves no bytes there.
+pub fn take(alloc: Global, contents: &mut Bytes) -> Bytes
+    ensures { result ≡ contents.old }
+{
+    mem::replace(contents, Bytes::from_vec(Vec::new(alloc)))
 }
 
 /// The contents have room beside those that are kept.
@@ -54,48 +57,41 @@ fn keep(versions: &mut Versions, number: u32, version: u64, contents: Bytes)
     }
 }
 
-/// Writes contents to the folder, and keeps them as a version. What isn't done leaves the versions, and
-/// an `Err` leaves the folder.
+/// Writes contents to the folder, and keeps them as a version. What isn't done leaves the versions and the
+/// contents, and an `Err` leaves the folder.
 pub fn put_away<F: Folder>(
+    alloc: Global,
     folder: &mut F,
     versions: &mut Versions,
     number: u32,
     version: u64,
     name: &FileName,
-    contents: Bytes,
-) -> Result<Stored, Unsaved>
+    contents: &mut Bytes,
+) -> Result<Stored, StoreRefusal>
     requires fresh { found versions.old.list number version ≡ None }
     requires free { 1 ≤ versions.old.spare }
     ensures stored { IfOk result (λ stored. MatchStored stored
-        (Holds (F.files folder.new) name.now (Some contents) × (versions.new.list ≡ versions.old.list ++ record { number = number; version = version; contents = contents } ∷ []))
-        (λ back. (back ≡ contents) × (versions.new.list ≡ versions.old.list) × Rose (F.faults folder.old) (F.faults folder.new))) }
-    ensures room { OnOk result (kept_in versions.old.list + length contents ≤ most_kept) }
+        (Holds (F.files folder.new) name.now (Some contents.old) × (versions.new.list ≡ versions.old.list ++ record { number = number; version = version; contents = contents.old } ∷ []))
+        ((contents.new ≡ contents.old) × (versions.new.list ≡ versions.old.list) × Rose (F.faults folder.old) (F.faults folder.new))) }
+    ensures room { OnOk result (kept_in versions.old.list + length contents.old ≤ most_kept) }
     ensures others { OpensOnly (F.files folder.old) (F.files folder.new) name.now }
     ensures err { OnErr result (versions.new.list ≡ versions.old.list) }
     ensures keeps { OnErr result (Keeps (F.files folder.old) (F.files folder.new)) }
-    ensures back { IfErr result (λ unsaved. unsaved.contents ≡ contents) }
-    ensures full { IfErr result (λ unsaved. unsaved.why ≡ StoreRefusal.KeptFull → most_kept < kept_in versions.old.list + length contents) }
+    ensures back { OnErr result (contents.new ≡ contents.old) }
+    ensures full { IfErr result (λ why. why ≡ StoreRefusal.Full → most_kept < kept_in versions.old.list + length contents.old) }
     ensures never_falls { F.faults folder.old ≤ F.faults folder.new }
     ensures places { versions.old.spare ≤ versions.new.spare + 1 }
     ensures unused { OnErr result (versions.old.spare ≤ versions.new.spare) }
 {
-    if !has_room(versions, &contents) {
-        return Err(Unsaved {
-            why: StoreRefusal::KeptFull,
-            contents,
-        });
+    if !has_room(versions, contents) {
+        return Err(StoreRefusal::Full);
     }
     match folder.replace(name.as_str(), contents.as_slice()) {
         Ok(()) => {
-            keep(versions, number, version, contents);
+            keep(versions, number, version, take(alloc, contents));
             return Ok(Stored::Done);
         }
-        Err(OutFault::Failed) => return Ok(Stored::Torn(contents)),
-        Err(OutFault::Memory) => {
-            return Err(Unsaved {
-                why: StoreRefusal::Memory,
-                contents,
-            });
-        }
+        Err(OutFault::Failed) => return Ok(Stored::Torn),
+        Err(OutFault::Memory) => return Err(StoreRefusal::Memory),
     }
 }

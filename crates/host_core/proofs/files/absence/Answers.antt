@@ -7,12 +7,10 @@ use Rattle.host_core.proofs.files.absence.Goals as goal
 
 pub returns-then-is_unauthorized : goal.returns-then-is_unauthorized
 returns-then-is_unauthorized c = λ first.
-    c.bare.ensures
-    ∙ sym (ap (λ (d : Decision). ruling_of d (settled (never_met first) c.args.now) c.args.call.now c.args.now) (absent_decision first c.args.call.now c.args.opened c.args.now c.requires
+    sym (ap (λ (d : Decision). ruling_of d (settled (never_met first) c.args.now) c.args.call.now c.args.now) (absent_decision first c.args.call.now c.args.opened c.args.now c.requires
     ∙ ap (λ (b : Bool). if b then Refuse 401 else Refuse 404) (sym c.is_unauthorized.ensures ∙ c.if-is_unauthorized.true)))
 
 pub returns : goal.returns
 returns c = λ first.
-    c.bare-2.ensures
-    ∙ sym (ap (λ (d : Decision). ruling_of d (settled (never_met first) c.args.now) c.args.call.now c.args.now) (absent_decision first c.args.call.now c.args.opened c.args.now c.requires
+    sym (ap (λ (d : Decision). ruling_of d (settled (never_met first) c.args.now) c.args.call.now c.args.now) (absent_decision first c.args.call.now c.args.opened c.args.now c.requires
     ∙ ap (λ (b : Bool). if b then Refuse 401 else Refuse 404) (sym c.is_unauthorized.ensures ∙ c.if-is_unauthorized.false)))

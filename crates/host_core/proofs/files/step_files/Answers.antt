@@ -3,62 +3,62 @@ use Rattle.file_versions.specs.Versions.{kept_in}
 use Rattle.kept_locks.specs.Locks.{all_ended}
 use Rattle.host_core.specs.Files.{BeganAtMoment}
 use Rattle.host_core.proofs.Joining.{long_joined}
-use Rattle.host_core.proofs.Results.{ifok_map, iferr_map, ifok_onok, iferr_onerr}
+use Rattle.host_core.proofs.Results.{onok_map, iferr_map, iferr_onerr}
 use Rattle.host_core.proofs.Meeting.{lock_at, found_first, found_none, room_raw}
 use Rattle.host_core.proofs.files.step_files.Goals as goal
 
 pub step_met-requires-clause-place : goal.step_met-requires-clause-place
 step_met-requires-clause-place g c =
-    found_first c.args.files.now.items c.args.locks.now.files c.args.index.now c.args.call.name c.in-Some.number c.requires.numbered c.in-Some.ensures
+    found_first c.args.files.now.items c.args.locks.now.files c.args.index.now c.args.call.now.name c.in-Some.number c.requires.numbered c.in-Some.ensures
 
 pub step_met-requires-clause-moment : goal.step_met-requires-clause-moment
 step_met-requires-clause-moment g c =
     subst BeganAtMoment
-    (lock_at c.args.first c.args.files.now.items c.args.locks.now.files c.args.call.name c.in-Some.number (sym (c.requires.numbered c.args.call.name) ∙ sym c.in-Some.ensures))
+    (lock_at c.args.first c.args.files.now.items c.args.locks.now.files c.args.call.now.name c.in-Some.number (sym (c.requires.numbered c.args.call.now.name) ∙ sym c.in-Some.ensures))
     c.requires.moment
 
 pub step_unmet-requires-clause-place : goal.step_unmet-requires-clause-place
 step_unmet-requires-clause-place g c =
-    found_none c.args.files.now.items c.args.locks.now.files c.args.index.now c.args.call.name c.requires.numbered c.in-None.ensures
+    found_none c.args.files.now.items c.args.locks.now.files c.args.index.now c.args.call.now.name c.requires.numbered c.in-None.ensures
 
 pub returns-in-Some-clause-few : goal.returns-in-Some-clause-few
 returns-in-Some-clause-few g c =
-    ifok_onok c.step_met.result _ _
-    (λ carried kept. let few = (kept c.args.first).steps.few in let was = long_joined c.args.files.now.items (all_ended c.args.now c.args.locks.now.files) in let is = long_joined c.step_met.new.files.items c.step_met.new.locks.files in omega (arith, few, was, is))
+    onok_map c.step_met.result _ _
+    (λ kept. let few = (kept c.args.first).steps.few in let was = long_joined c.args.files.now.items (all_ended c.args.now c.args.locks.now.files) in let is = long_joined c.step_met.new.files.items c.step_met.new.locks.files in omega (arith, few, was, is))
     c.step_met.ensures.ok
 
 pub returns-in-Some-clause-long : goal.returns-in-Some-clause-long
 returns-in-Some-clause-long g c =
     iferr_onerr c.step_met.result _ _
-    (λ uncarried kept. let few = (kept c.args.first).stops.few in let was = long_joined c.args.files.now.items c.args.locks.now.files in let is = long_joined c.step_met.new.files.items c.step_met.new.locks.files in omega (arith, few, was, is))
+    (λ why kept. let few = (kept c.args.first).stops.few in let was = long_joined c.args.files.now.items c.args.locks.now.files in let is = long_joined c.step_met.new.files.items c.step_met.new.locks.files in omega (arith, few, was, is))
     c.step_met.ensures.err
 
 pub returns-in-Some-clause-room : goal.returns-in-Some-clause-room
 returns-in-Some-clause-room g c =
-    ifok_onok c.step_met.result _ _
-    (λ carried kept. room_raw c.args.first c.args.files.now.items c.args.locks.now.files c.args.call.name (kept_in c.args.versions.now.list) c.args.call c.args.opened c.args.now (kept c.args.first).steps.room)
+    onok_map c.step_met.result _ _
+    (λ kept. room_raw c.args.first c.args.files.now.items c.args.locks.now.files c.args.call.now.name (kept_in c.args.versions.now.list) c.args.call.now c.args.opened c.args.now (kept c.args.first).steps.room)
     c.step_met.ensures.ok
 
 pub returns-in-None-clause-few : goal.returns-in-None-clause-few
 returns-in-None-clause-few g c =
-    ifok_onok c.step_unmet.result _ _
-    (λ carried kept. let few = kept.steps.few in let was = long_joined c.args.files.now.items (all_ended c.args.now c.args.locks.now.files) in let is = long_joined c.step_unmet.new.files.items c.step_unmet.new.locks.files in omega (arith, few, was, is))
+    onok_map c.step_unmet.result _ _
+    (λ kept. let few = kept.steps.few in let was = long_joined c.args.files.now.items (all_ended c.args.now c.args.locks.now.files) in let is = long_joined c.step_unmet.new.files.items c.step_unmet.new.locks.files in omega (arith, few, was, is))
     c.step_unmet.ensures.ok
 
 pub returns-in-None-clause-long : goal.returns-in-None-clause-long
 returns-in-None-clause-long g c =
     iferr_onerr c.step_unmet.result _ _
-    (λ uncarried kept. let few = kept.stops.few in let was = long_joined c.args.files.now.items c.args.locks.now.files in let is = long_joined c.step_unmet.new.files.items c.step_unmet.new.locks.files in omega (arith, few, was, is))
+    (λ why kept. let few = kept.stops.few in let was = long_joined c.args.files.now.items c.args.locks.now.files in let is = long_joined c.step_unmet.new.files.items c.step_unmet.new.locks.files in omega (arith, few, was, is))
     c.step_unmet.ensures.err
 
 pub returns-in-None-clause-room : goal.returns-in-None-clause-room
 returns-in-None-clause-room g c =
-    ifok_onok c.step_unmet.result _ _
-    (λ carried kept. room_raw c.args.first c.args.files.now.items c.args.locks.now.files c.args.call.name (kept_in c.args.versions.now.list) c.args.call c.args.opened c.args.now kept.steps.room)
+    onok_map c.step_unmet.result _ _
+    (λ kept. room_raw c.args.first c.args.files.now.items c.args.locks.now.files c.args.call.now.name (kept_in c.args.versions.now.list) c.args.call.now c.args.opened c.args.now kept.steps.room)
     c.step_unmet.ensures.ok
 
 pub returns-in-Some-clause-ok : goal.returns-in-Some-clause-ok
-returns-in-Some-clause-ok g c = ifok_map c.step_met.result _ _ (λ carried kept. kept c.args.first) c.step_met.ensures.ok
+returns-in-Some-clause-ok g c = onok_map c.step_met.result _ _ (λ kept. kept c.args.first) c.step_met.ensures.ok
 
 pub returns-in-Some-clause-err : goal.returns-in-Some-clause-err
-returns-in-Some-clause-err g c = iferr_map c.step_met.result _ _ (λ uncarried kept. kept c.args.first) c.step_met.ensures.err
+returns-in-Some-clause-err g c = iferr_map c.step_met.result _ _ (λ why kept. kept c.args.first) c.step_met.ensures.err

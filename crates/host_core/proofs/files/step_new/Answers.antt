@@ -17,7 +17,7 @@ use Rattle.host_core.proofs.files.step_new.Goals as goal
 
 pub make_place-requires-clause-fresh : goal.make_place-requires-clause-fresh
 make_place-requires-clause-fresh g c =
-    fresh_name c.args.files.now.items c.args.locks.now.files c.args.index.now c.args.call.name c.copy-name.result c.requires.numbered c.requires.place c.copy-name.ensures
+    fresh_name c.args.files.now.items c.args.locks.now.files c.args.index.now c.args.call.now.name c.copy-name.result c.requires.numbered c.requires.place c.copy-name.ensures
 
 pub make_place-requires-clause-number : goal.make_place-requires-clause-number
 make_place-requires-clause-number g c = omega (arith, c.args.files.now.ok.0, c.len-number.ensures)
@@ -62,13 +62,13 @@ returns-in-Err-clause-err g c =
     let placed = c.make_place.ensures in
     let same = placed.spare in
     record {
-      stops = still_all c.args.first (g.F.Folder.files c.args.folder.now) c.args.versions.now.list (joined kept first.files) _ c.args.call c.args.opened c.args.now _
-          (joined_more kept c.make_place.new.files.items first c.make_place.new.locks placed.files placed.stands) c.requires.ready.stocked refl (λ h. cc);
+      stops = still_all c.args.first (g.F.Folder.files c.args.folder.now) c.args.versions.now.list (joined kept first.files) _ c.args.call.now c.args.opened c.args.now _
+          (joined_more kept c.make_place.new.files.items first c.make_place.new.locks placed.files placed.stands) c.requires.ready.stocked (λ h. cc);
       locked = λ time locked. locked_more kept c.make_place.new.files.items first c.make_place.new.locks time placed.files placed.stands placed.as_of placed.longer locked;
       stand = placed.stands;
       spare = omega (arith, same);
       shelf = omega arith;
-      light = create_takes c.args.call.act c.requires.create;
+      light = create_takes c.args.call.now.act c.requires.create;
     }
 
 pub returns-in-Err-clause-numbered : goal.returns-in-Err-clause-numbered
@@ -97,11 +97,11 @@ returns-then-is_met_by-clause-ok g c =
     let turns = c.in-Ok-step_file.ensures.turns in
     let same = c.make_place.ensures.spare in
     let more = turns.spare in
-    let named_k : k.name ≡ c.args.call.name = c.unmet-file.ensures.name ∙ c.copy-name.ensures in
+    let named_k : k.name ≡ c.args.call.now.name = c.unmet-file.ensures.name ∙ c.copy-name.ensures in
     let met : c.meet.new.files.items ≡ kept ++ k' ∷ [] = c.meet.ensures ∙ ap (λ (f : List KeptFile). f ++ k' ∷ []) c.make_place.ensures.files in
     record {
-      steps = subst (λ (f : List KeptFile). StepsAll c.args.first folder folder' v v' began count (joined kept (all_ended c.args.now first.files)) (joined f new.files) c.args.call c.args.opened c.args.now c.in-Ok-step_file.carried) (sym met)
-          (push_all c.args.first folder folder' v v' began count kept number k k' first mid new c.args.call c.args.opened c.args.now c.in-Ok-step_file.carried c.requires.ready.stocked c.requires.place stands beyond
+      steps = subst (λ (f : List KeptFile). StepsAll c.args.first folder folder' v v' began count (joined kept (all_ended c.args.now first.files)) (joined f new.files) c.args.call.now c.args.opened c.args.now c.step_file.new.carried) (sym met)
+          (push_all c.args.first folder folder' v v' began count kept number k k' first mid new c.args.call.now c.args.opened c.args.now c.step_file.new.carried c.requires.ready.stocked c.requires.place stands beyond
           c.unmet-file.ensures.file c.unmet-file.ensures.torn named_k at turns c.in-Ok-step_file.ensures.ok);
       locked = subst (λ (f : List KeptFile). AreLocked f new c.args.now) (sym met)
           (locked_push kept k' mid new c.args.now (λ n le. stands n ∙ beyond n le) c.in-Ok.ensures.room (subst (λ (n : ℕ). Turns mid new n c.args.now) at turns));
@@ -119,7 +119,7 @@ returns-then-is_met_by-clause-numbered g c =
     let met : c.meet.new.files.items ≡ kept ++ k' ∷ [] = c.meet.ensures ∙ ap (λ (f : List KeptFile). f ++ k' ∷ []) c.make_place.ensures.files in
     let name_is : k'.name ≡ c.copy-name.result = c.in-Ok-step_file.ensures.ok.steps.name ∙ c.unmet-file.ensures.name in
     let names : named c.meet.new.files.items ≡ named kept ++ c.copy-name.result ∷ [] = ap named met ∙ named_push kept k' ∙ ap (λ (n : List ℕ). named kept ++ n ∷ []) name_is in
-    let fresh = fresh_name kept c.args.locks.now.files c.args.index.now c.args.call.name c.copy-name.result c.requires.numbered c.requires.place c.copy-name.ensures in
+    let fresh = fresh_name kept c.args.locks.now.files c.args.index.now c.args.call.now.name c.copy-name.result c.requires.numbered c.requires.place c.copy-name.ensures in
     subst (IsNumbered c.make_place.new.index) (sym names)
     (numbered_push c.args.index.now c.make_place.new.index (named kept) c.copy-name.result number c.requires.numbered fresh (at ∙ sym (length-map kept (λ (f : KeptFile). f.name))) c.in-Ok.ensures.index)
 
@@ -146,10 +146,10 @@ returns-in-Ok-step_file-clause-ok g c =
     let more = turns.spare in
     let turned = sym c.is_met_by.ensures ∙ c.if-is_met_by.false in
     let bare = stands number ∙ beyond number (omega (arith, at)) in
-    let after = skip_bare c.args.first folder folder' v v' began count number k k' mid new c.args.call c.args.opened c.args.now c.in-Ok-step_file.carried bare c.unmet-file.ensures.file turned c.in-Ok-step_file.ensures.ok in
+    let after = skip_bare c.args.first folder folder' v v' began count number k k' mid new c.args.call.now c.args.opened c.args.now c.step_file.new.carried bare c.unmet-file.ensures.file turned c.in-Ok-step_file.ensures.ok in
     record {
-      steps = subst (λ (f : List KeptFile). StepsAll c.args.first folder folder' v v' began count (joined kept (all_ended c.args.now first.files)) (joined f new.files) c.args.call c.args.opened c.args.now c.in-Ok-step_file.carried) (sym c.make_place.ensures.files)
-          (skip_all c.args.first folder folder' v v' began count kept number k k' first mid new c.args.call c.args.opened c.args.now c.in-Ok-step_file.carried c.requires.ready.stocked c.requires.place stands beyond
+      steps = subst (λ (f : List KeptFile). StepsAll c.args.first folder folder' v v' began count (joined kept (all_ended c.args.now first.files)) (joined f new.files) c.args.call.now c.args.opened c.args.now c.step_file.new.carried) (sym c.make_place.ensures.files)
+          (skip_all c.args.first folder folder' v v' began count kept number k k' first mid new c.args.call.now c.args.opened c.args.now c.step_file.new.carried c.requires.ready.stocked c.requires.place stands beyond
           c.unmet-file.ensures.file c.unmet-file.ensures.torn at turns turned c.in-Ok-step_file.ensures.ok);
       locked = subst (λ (f : List KeptFile). AreLocked f new c.args.now) (sym c.make_place.ensures.files)
           (locked_skip kept mid new number c.args.now (λ n le. stands n ∙ beyond n le) c.in-Ok.ensures.room at after turns);
@@ -161,7 +161,7 @@ returns-in-Ok-step_file-clause-ok g c =
 pub returns-in-Ok-step_file-clause-numbered : goal.returns-in-Ok-step_file-clause-numbered
 returns-in-Ok-step_file-clause-numbered g c =
     let kept = c.args.files.now.items in
-    let fresh = fresh_name kept c.args.locks.now.files c.args.index.now c.args.call.name c.copy-name.result c.requires.numbered c.requires.place c.copy-name.ensures in
+    let fresh = fresh_name kept c.args.locks.now.files c.args.index.now c.args.call.now.name c.copy-name.result c.requires.numbered c.requires.place c.copy-name.ensures in
     subst (λ (f : List KeptFile). IsNumbered c.remove.new.self (named f)) (sym c.make_place.ensures.files)
     (numbered_back c.args.index.now c.make_place.new.index c.remove.new.self (named kept) c.copy-name.result c.len-number.result c.requires.numbered fresh c.in-Ok.ensures.index c.remove.ensures)
 
@@ -182,7 +182,7 @@ returns-in-Err-step_file-clause-err g c =
     let two : new.spare ≡ mid.spare = ap (λ (l : Locks). l.spare) stopped.same in
     record {
       stops = stopped_new c.args.first (g.F.Folder.files c.args.folder.now) (g.F.Folder.files c.step_file.new.folder) c.args.versions.now.list c.step_file.new.versions.list
-          (joined kept first.files) _ (seen k mid number) (seen c.step_file.new.file new number) c.args.call c.args.opened c.args.now c.in-Err-step_file.uncarried
+          (joined kept first.files) _ (seen k mid number) (seen c.step_file.new.file new number) c.args.call.now c.args.opened c.args.now c.in-Err-step_file.why
           (joined_more kept c.make_place.new.files.items first new placed.files stand) c.requires.ready.stocked c.requires.place is stopped.err;
       locked = λ time locked. subst (λ l. AreLocked c.make_place.new.files.items l time) (sym stopped.same)
           (locked_more kept c.make_place.new.files.items first mid time placed.files placed.stands placed.as_of placed.longer locked);
@@ -195,6 +195,6 @@ returns-in-Err-step_file-clause-err g c =
 pub returns-in-Err-step_file-clause-numbered : goal.returns-in-Err-step_file-clause-numbered
 returns-in-Err-step_file-clause-numbered g c =
     let kept = c.args.files.now.items in
-    let fresh = fresh_name kept c.args.locks.now.files c.args.index.now c.args.call.name c.copy-name.result c.requires.numbered c.requires.place c.copy-name.ensures in
+    let fresh = fresh_name kept c.args.locks.now.files c.args.index.now c.args.call.now.name c.copy-name.result c.requires.numbered c.requires.place c.copy-name.ensures in
     subst (λ (f : List KeptFile). IsNumbered c.remove-in-Err-step_file.new.self (named f)) (sym c.make_place.ensures.files)
     (numbered_back c.args.index.now c.make_place.new.index c.remove-in-Err-step_file.new.self (named kept) c.copy-name.result c.len-number.result c.requires.numbered fresh c.in-Ok.ensures.index c.remove-in-Err-step_file.ensures)
