@@ -257,6 +257,7 @@ module _ {F : Type 0} (p : PassView F) (k : ℕ) (v w : Place F) (inside : IsPas
             begins = subst Begins home (steps_of looks.later.0, begins);
             full = subst Full home (subst P terms looks.full);
             handed = looks.handed;
+            light = looks.light;
           }
 
     -- whatever was answered

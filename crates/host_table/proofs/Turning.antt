@@ -82,6 +82,7 @@ refused_call v w old new call floor moment refusal free based begins is declines
       later = (begins.0, begins.1 ∙ sym same);
       full = subst P (sym same) declines.full;
       handed = declines.handed;
+      light = declines.light;
       same = is ∙ (λ i. record { lock = v.lock; seen = sym seen i; own = own i; weight = v.weight; base = v.base; taken = sym free i });
     }
 

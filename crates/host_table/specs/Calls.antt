@@ -1,5 +1,5 @@
 -- A call in one shard, as its seat sees it. (Own.)
-use Rattle.std.specs.Prelude.{◌≡◌, ℕ, List, [], ◌∷◌, ◌++◌, length, Some}
+use Rattle.std.specs.Prelude.{◌≡◌, ℕ, List, [], ◌∷◌, ◌++◌, length, Some, true}
 use mathlib.Core.List.{IsPrefix}
 use Rattle.wopi_model.specs.declared.calls.Call.{Call}
 use Rattle.wopi_model.specs.Host.{FullAt}
@@ -7,6 +7,7 @@ use Rattle.host_core.specs.declared.caller.Receipt.{Receipt}
 use Rattle.host_core.specs.declared.caller.CallFault.{CallFault}
 use Rattle.host_core.specs.Caller.{entry_of, called_back, IsFullCall, next_stamp}
 use Rattle.host_core.specs.Entries.{Made, back_of}
+use Rattle.host_core.specs.Memory.{takes_no_memory}
 use Rattle.host_core.specs.Value.{Book}
 use Rattle.host_core.specs.Times.{untimed}
 use Rattle.host_table.specs.Passes.{Place}
@@ -33,4 +34,5 @@ module _ {F : Type 0} (v : Place F) (call : Call) where
     pub later : IsPrefix v.seen w.seen
     pub full : IsFullCall refusal → FullAt base.opening base.opened base.first base.capacity (untimed w.seen) floor call moment
     pub handed : called_back refusal ≡ call
+    pub light : takes_no_memory call.act ≡ true → IsFullCall refusal
     pub same : w ≡ record { lock = v.lock; seen = w.seen; own = v.own; weight = v.weight; base = v.base; taken = v.taken }

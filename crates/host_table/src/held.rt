@@ -3,8 +3,6 @@ ghost use Rattle.std.specs.Prelude.{◌≡◌, ◌≤◌, ◌<◌, Some, [], fal
 ghost use Rattle.outside.specs.Faults.{Rose};
 ghost use Rattle.outside.specs.Folder.{Keeps};
 ghost use Rattle.wopi_model.specs.Moment.{IsMoment};
-ghost use Rattle.host_core.specs.Caller.{IsFullCall};
-ghost use Rattle.host_core.specs.Memory.{takes_no_memory};
 ghost use Rattle.host_core.specs.Opening.{IsFirstVersion, IsOpening, Fits, IsTooLarge, IfTooLarge};
 ghost use Rattle.wopi_text.specs.FileName.{shard_of};
 ghost use Rattle.host_table.specs.Histories.{last_stamp, as_opened, IsSeen};
@@ -105,7 +103,6 @@ impl<F: Folder> Held<F> {
         ensures seen { IsSeen (as_opened self.new) self.new.made }
         ensures made { IfOk result (λ receipt. Adds self.old self.new call pass floor moment receipt) }
         ensures refused { IfErr result (λ refusal. Declines self.old self.new call floor moment refusal) }
-        ensures light { IfErr result (λ refusal. takes_no_memory call.act ≡ true → IsFullCall refusal) }
     {
         let shard = call.name.shard();
         let place = self.shard.len();

@@ -85,7 +85,6 @@ fn turn<F: Folder, R: Wait>(
     ensures seen { IsSomeAnd seat.old.base (λ base. IsSeen base seat.new.seen) }
     ensures made { IfOk result.1 (λ receipt. Calls seat.old call number floor moment receipt seat.new) }
     ensures refused { IfErr result.1 (λ refusal. Looks seat.old call floor moment refusal seat.new) }
-    ensures light { IfErr result.1 (λ refusal. takes_no_memory call.act ≡ true → IsFullCall refusal) }
 {
     let mut held = lock.take(rt, seat);
     let answer = held.call(call, number, floor, moment);

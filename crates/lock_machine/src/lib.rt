@@ -5,7 +5,8 @@
 //! where the act went through, and [`judge`] all three. All are exact, in both directions: their answers
 //! are those of the definitions of wopi_model. None takes memory, and none refuses. A lock id is long
 //! and lies where it is kept: what only looks at one borrows it, a lock that goes on is told by its
-//! moments, and only what begins a lock or spends an id copies it, once.
+//! moments, and only [`lock_left`], [`spent_left`] and
+//! [`judge`], which hand a lock or a spent id out, copy it.
 //!
 //! The table follows MS-WOPI's pages on Lock, GetLock, RefreshLock, Unlock, UnlockAndRelock, PutFile,
 //! PutRelativeFile and DeleteFile. That an id which has ended is refused for a while is a rule of

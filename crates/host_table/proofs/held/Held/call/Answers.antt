@@ -1,4 +1,4 @@
-use Rattle.std.proofs.Common.{max, Some, sym, ◌∙◌, subst, ap}
+use Rattle.std.proofs.Common.{max, Some, sym, ◌∙◌, subst, ap, tt}
 use Rattle.host_core.specs.declared.caller.CallFault.TheVariants as fault
 use Rattle.host_core.specs.Entries.{Made}
 use Rattle.host_core.specs.Value.{Book}
@@ -32,4 +32,9 @@ returns-in-Err-Memory-clause-seen g c = seen_stays c.self.inside.shard c.step.ne
 pub returns-in-Err-Full-clause-refused : goal.returns-in-Err-Full-clause-refused
 returns-in-Err-Full-clause-refused g c =
     let h = rw c.in-Err-Full.field-0-is at c.in-Err-Full.ensures in
-    rw (← c.self.view_is) (held_declines c.self.inside.shard c.step.new.self c.args.call c.args.floor c.args.moment (fault.Full c.in-Err-Full.call) (c.len-place.ensures.lawful.timely c.self.invariant.unticked) h.err h.full h.call)
+    rw (← c.self.view_is) (held_declines c.self.inside.shard c.step.new.self c.args.call c.args.floor c.args.moment (fault.Full c.in-Err-Full.call) (c.len-place.ensures.lawful.timely c.self.invariant.unticked) h.err h.full h.call (λ light. tt))
+
+pub returns-in-Err-Memory-clause-refused : goal.returns-in-Err-Memory-clause-refused
+returns-in-Err-Memory-clause-refused g c =
+    let h = rw c.in-Err-Memory.field-0-is at c.in-Err-Memory.ensures in
+    rw (← c.self.view_is) (held_declines c.self.inside.shard c.step.new.self c.args.call c.args.floor c.args.moment (fault.Memory c.in-Err-Memory.call) (c.len-place.ensures.lawful.timely c.self.invariant.unticked) h.err h.full h.call h.light)

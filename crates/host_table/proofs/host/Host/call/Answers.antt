@@ -2,6 +2,7 @@ use Rattle.std.proofs.Common.{ap, ◌≡◌, ◌∙◌, arith, max}
 use Rattle.wopi_text.specs.FileName.{shard_of}
 use Rattle.host_table.specs.Views.{pass_of}
 use Rattle.host_table.proofs.Calling.{seat_is, based_call, pass_then, frames_then, same_then, seen_all_then, makes_then, refuses_then, own_then, own_stays_then}
+use Rattle.host_table.proofs.Turning.{err_map}
 use Rattle.host_table.proofs.host.Host.call.Goals as goal
 
 pub turn-last-requires-clause-free : goal.turn-last-requires-clause-free
@@ -70,3 +71,6 @@ returns-clause-seen g c =
     seen_all_then (pass_of c.pass.inside) c.from-shard.result c.index_mut-seat.result.now c.turn-last.new.seat c.pass.invariant (omega arith) c.index_mut-seat.ensures.value
     c.max-pass-inside.result c.args.call c.args.moment home c.turn-last.ensures.seen (c.max-pass-inside.ensures ∙ ap (max c.pass.inside.last) c.turn-last.ensures.last)
     c.turn-last.result.1 c.turn-last.ensures.made c.turn-last.ensures.refused
+
+pub returns-clause-light : goal.returns-clause-light
+returns-clause-light g c = err_map c.turn-last.result.1 _ _ (λ refusal looks. looks.light) c.turn-last.ensures.refused
