@@ -9,8 +9,8 @@ use Rattle.std.proofs.lemmas.List.Folds.{list_any-append}
 use Rattle.std.proofs.Math.Bool.{or-true}
 use Rattle.std.proofs.Math.Seq.{drop-append_seam}
 use Rattle.hex.specs.Hex.{encode_with, lower_digits}
-use Rattle.wopi_text.specs.Ids.{id_of, IsId}
-use Rattle.wopi_headers.specs.Paths.{ending, file_path, IsFilePath, IsPlace}
+use Rattle.wopi_text.specs.Ids.{id_of}
+use Rattle.wopi_headers.specs.Paths.{ending, file_path, IsFilePath, IsPlace, IsIdIn}
 
 -- a text that ends with the back, and one that doesn't
 backed : (back text : List ℕ) → bytes_eq (drop (length text - length back) text) back ≡ true → text ≡ take (length text - length back) text ++ back
@@ -74,15 +74,17 @@ behind : (path rest name : List ℕ) (contents : Bool) → path ≡ files ++ res
 unfolding file_path
 behind path rest name contents is h = append_cancel_left files rest (id_of name ++ ending contents) (sym is ∙ h.path_is)
 
-contents_only : (path id name : List ℕ) (contents : Bool) → path ≡ files ++ (id ++ codes "/contents") → IsFilePath path name contents → IsId id
+contents_only : (path id name : List ℕ) (contents : Bool) → path ≡ files ++ (id ++ codes "/contents") → IsFilePath path name contents
+    → IsPlace id name × (contents ≡ true)
 contents_only path id name true is h =
-    (name, h.form, append_cancel_right id (id_of name) (codes "/contents") (behind path (id ++ codes "/contents") name true is h))
+    ((h.form, append_cancel_right id (id_of name) (codes "/contents") (behind path (id ++ codes "/contents") name true is h)), refl)
 contents_only path id name false is h =
     absurd (id_has_no_ending name id (sym (behind path (id ++ codes "/contents") name false is h ∙ append-nil (id_of name))))
 
-file_only : (path rest name : List ℕ) (contents : Bool) → path ≡ files ++ rest → ((id : List ℕ) → rest ≢ id ++ codes "/contents") → IsFilePath path name contents → IsId rest
+file_only : (path rest name : List ℕ) (contents : Bool) → path ≡ files ++ rest → ((id : List ℕ) → rest ≢ id ++ codes "/contents") → IsFilePath path name contents
+    → IsPlace rest name × (contents ≡ false)
 file_only path rest name true is none h = absurd (none (id_of name) (behind path rest name true is h))
-file_only path rest name false is none h = (name, h.form, behind path rest name false is h ∙ append-nil (id_of name))
+file_only path rest name false is none h = ((h.form, behind path rest name false is h ∙ append-nil (id_of name)), refl)
 
 is_path : (path rest id name : List ℕ) (contents : Bool) → path ≡ files ++ rest → rest ≡ id ++ ending contents → IsPlace id name → IsFilePath path name contents
 unfolding file_path
@@ -92,16 +94,11 @@ is_path path rest id name contents is back place = record {
 }
 
 -- a path of contents
-pub contents_path : (path rest id : List ℕ) (o : Option (List ℕ × Bool)) → path ≡ files ++ rest → rest ≡ id ++ codes "/contents"
-    → MatchOption o (¬ (IsId id)) (λ place. IsPlace id place.0 × (place.1 ≡ true))
-    → MatchOption o ((name : List ℕ) (contents : Bool) → ¬ (IsFilePath path name contents)) (λ place. IsFilePath path place.0 place.1)
-contents_path path rest id None is back h = λ name contents p. h (contents_only path id name contents (is ∙ ap (λ r. files ++ r) back) p)
-contents_path path rest id (Some place) is back h = is_path path rest id place.0 place.1 is (back ∙ ap (λ c. id ++ ending c) (sym h.1)) h.0
+pub contents_path : (path rest id : List ℕ) → path ≡ files ++ rest → rest ≡ id ++ codes "/contents" → IsIdIn path id true
+contents_path path rest id is back =
+    λ name c. (contents_only path id name c (is ∙ ap (λ r. files ++ r) back), λ h. is_path path rest id name c is (back ∙ ap (λ k. id ++ ending k) (sym h.1)) h.0)
 
 -- a path of a file
-pub file_path_found : (path rest : List ℕ) (o : Option (List ℕ × Bool)) → path ≡ files ++ rest → ((id : List ℕ) → rest ≢ id ++ codes "/contents")
-    → MatchOption o (¬ (IsId rest)) (λ place. IsPlace rest place.0 × (place.1 ≡ false))
-    → MatchOption o ((name : List ℕ) (contents : Bool) → ¬ (IsFilePath path name contents)) (λ place. IsFilePath path place.0 place.1)
-file_path_found path rest None is none h = λ name contents p. h (file_only path rest name contents is none p)
-file_path_found path rest (Some place) is none h =
-    is_path path rest rest place.0 place.1 is (sym (append-nil rest) ∙ ap (λ c. rest ++ ending c) (sym h.1)) h.0
+pub file_path_found : (path rest : List ℕ) → path ≡ files ++ rest → ((id : List ℕ) → rest ≢ id ++ codes "/contents") → IsIdIn path rest false
+file_path_found path rest is none =
+    λ name c. (file_only path rest name c is none, λ h. is_path path rest rest name c is (sym (append-nil rest) ∙ ap (λ k. rest ++ ending k) (sym h.1)) h.0)

@@ -1,20 +1,22 @@
-//! Requests read as operations.
-ghost use Rattle.std.specs.Prelude.{ℕ, List, ◌≡◌, ◌↔◌, false, IsTrue, IfOk, MatchOption};
+//! Requests read as operations. What is asked is made once, by the function of its row, in the place
+//! where it stays: lock ids stand inline, and each move of one would copy them whole.
+ghost use Rattle.std.specs.Prelude.{ℕ, List, Ok, ◌≡◌, ◌↔◌, false, IsTrue, MatchOption};
 ghost use Rattle.wopi_headers.specs.declared.ask.Op.{Op};
 ghost use Rattle.wopi_headers.specs.declared.row.Row.TheVariants.{Lock, GetFile, PutFile, RefreshLock, Unlock, PutRelativeFile};
-ghost use Rattle.wopi_headers.specs.Readings.{lock_name, IsLock};
+ghost use Rattle.wopi_headers.specs.Readings.{lock_name, old_lock_name, IsLock, IsMissing};
 ghost use Rattle.wopi_headers.specs.Rows.{has_two_targets};
-ghost use Rattle.wopi_headers.specs.Operations.{Says, HasOneOverride, IsAnswerTo};
+ghost use Rattle.wopi_headers.specs.Operations.{HasOneOverride, IsAnswerTo};
+ghost use Rattle.wopi_headers.specs.RowReads.{IsRead, IsRowIn};
 
 use crate::ask::{Ask, AskFault, Op};
 use crate::naming::target_named;
-use crate::path::read_path;
-use crate::reading::{any_lock_named, is_missing, lock_named, most_named};
+use crate::path::id_in;
+use crate::reading::{is_missing, lock_named, most_named};
 use crate::row::{Row, row_asked};
 use crate::target::{path_of, token_of};
 use std::alloc::Global;
-use wopi_http::{Field, Request, count_named};
-use wopi_text::{LockId, Memory};
+use wopi_http::{Field, Method, Request, count_named};
+use wopi_text::{Bytes, FileName, LockId, id_read};
 
 /// Whether a request of this row names its operation once, where it has to.
 fn has_one_override(row: Row, fields: &[Field]) -> bool
@@ -32,84 +34,172 @@ fn lock_of(fields: &[Field]) -> Option<LockId>
     lock_named(fields, b"X-WOPI-Lock")
 }
 
-/// A lock that is taken, in place of an old one where the fields name one.
-fn read_lock(fields: &[Field]) -> Option<Op>
-    ensures { MatchOption result ((op : Op) → ¬ (Says Lock fields.now op)) (Says Lock fields.now) }
+/// A lock that is taken, where the fields name no old one.
+fn ask_new_lock(file: FileName, token: Bytes, fields: &[Field]) -> Result<Ask, AskFault>
+    requires { IsMissing old_lock_name fields.now }
+    ensures { IsRead Lock file token fields.now result }
 {
     let Some(id) = lock_of(fields) else {
-        return None;
+        return Err(AskFault::Refused { status: 400 });
     };
+    Ok(Ask {
+        file,
+        token,
+        op: Op::Lock { id },
+    })
+}
+
+/// A lock that is taken in place of an old one.
+fn ask_relock(file: FileName, token: Bytes, fields: &[Field]) -> Result<Ask, AskFault>
+    requires { ¬ (IsMissing old_lock_name fields.now) }
+    ensures { IsRead Lock file token fields.now result }
+{
+    let Some(id) = lock_of(fields) else {
+        return Err(AskFault::Refused { status: 400 });
+    };
+    let Some(old) = lock_named(fields, b"X-WOPI-OldLock") else {
+        return Err(AskFault::Refused { status: 400 });
+    };
+    Ok(Ask {
+        file,
+        token,
+        op: Op::Relock { old, id },
+    })
+}
+
+fn ask_lock(file: FileName, token: Bytes, fields: &[Field]) -> Result<Ask, AskFault>
+    ensures { IsRead Lock file token fields.now result }
+{
     if is_missing(fields, b"X-WOPI-OldLock") {
-        return Some(Op::Lock { id });
-    }
-    match lock_named(fields, b"X-WOPI-OldLock") {
-        Some(old) => Some(Op::Relock { old, id }),
-        None => None,
+        ask_new_lock(file, token, fields)
+    } else {
+        ask_relock(file, token, fields)
     }
 }
 
-fn read_get(fields: &[Field]) -> Option<Op>
-    ensures { MatchOption result ((op : Op) → ¬ (Says GetFile fields.now op)) (Says GetFile fields.now) }
+fn ask_get(file: FileName, token: Bytes, fields: &[Field]) -> Result<Ask, AskFault>
+    ensures { IsRead GetFile file token fields.now result }
 {
-    match most_named(fields) {
-        Some(most) => Some(Op::Get { most }),
-        None => None,
-    }
+    let Some(most) = most_named(fields) else {
+        return Err(AskFault::Refused { status: 400 });
+    };
+    Ok(Ask {
+        file,
+        token,
+        op: Op::Get { most },
+    })
 }
 
-fn read_put(fields: &[Field]) -> Option<Op>
-    ensures { MatchOption result ((op : Op) → ¬ (Says PutFile fields.now op)) (Says PutFile fields.now) }
+/// A write under a lock.
+fn ask_locked_put(file: FileName, token: Bytes, fields: &[Field]) -> Result<Ask, AskFault>
+    requires { ¬ (IsMissing lock_name fields.now) }
+    ensures { IsRead PutFile file token fields.now result }
 {
-    match any_lock_named(fields, b"X-WOPI-Lock") {
-        Some(lock) => Some(Op::Put { lock }),
-        None => None,
-    }
+    let Some(id) = lock_of(fields) else {
+        return Err(AskFault::Refused { status: 400 });
+    };
+    Ok(Ask {
+        file,
+        token,
+        op: Op::Put { lock: Some(id) },
+    })
 }
 
-fn read_refresh(fields: &[Field]) -> Option<Op>
-    ensures { MatchOption result ((op : Op) → ¬ (Says RefreshLock fields.now op)) (Says RefreshLock fields.now) }
+fn ask_put(file: FileName, token: Bytes, fields: &[Field]) -> Result<Ask, AskFault>
+    ensures { IsRead PutFile file token fields.now result }
 {
-    match lock_of(fields) {
-        Some(id) => Some(Op::Refresh { id }),
-        None => None,
+    if !is_missing(fields, b"X-WOPI-Lock") {
+        return ask_locked_put(file, token, fields);
     }
+    Ok(Ask {
+        file,
+        token,
+        op: Op::Put { lock: None },
+    })
 }
 
-fn read_unlock(fields: &[Field]) -> Option<Op>
-    ensures { MatchOption result ((op : Op) → ¬ (Says Unlock fields.now op)) (Says Unlock fields.now) }
+fn ask_refresh(file: FileName, token: Bytes, fields: &[Field]) -> Result<Ask, AskFault>
+    ensures { IsRead RefreshLock file token fields.now result }
 {
-    match lock_of(fields) {
-        Some(id) => Some(Op::Unlock { id }),
-        None => None,
-    }
+    let Some(id) = lock_of(fields) else {
+        return Err(AskFault::Refused { status: 400 });
+    };
+    Ok(Ask {
+        file,
+        token,
+        op: Op::Refresh { id },
+    })
+}
+
+fn ask_unlock(file: FileName, token: Bytes, fields: &[Field]) -> Result<Ask, AskFault>
+    ensures { IsRead Unlock file token fields.now result }
+{
+    let Some(id) = lock_of(fields) else {
+        return Err(AskFault::Refused { status: 400 });
+    };
+    Ok(Ask {
+        file,
+        token,
+        op: Op::Unlock { id },
+    })
 }
 
 /// PutRelativeFile, with its target.
-fn read_copy(alloc: Global, fields: &[Field]) -> Result<Option<Op>, Memory>
+fn ask_copy(alloc: Global, file: FileName, token: Bytes, fields: &[Field]) -> Result<Ask, AskFault>
     requires { has_two_targets fields.now ≡ false }
-    ensures { IfOk result (λ found. MatchOption found ((op : Op) → ¬ (Says PutRelativeFile fields.now op)) (Says PutRelativeFile fields.now)) }
+    ensures { IsRead PutRelativeFile file token fields.now result }
 {
-    match target_named(alloc, fields)? {
-        Some(target) => Ok(Some(Op::PutRelative { target })),
-        None => Ok(None),
-    }
+    let Some(target) = target_named(alloc, fields)? else {
+        return Err(AskFault::Refused { status: 400 });
+    };
+    Ok(Ask {
+        file,
+        token,
+        op: Op::PutRelative { target },
+    })
 }
 
-/// The operation that the fields of a row say. Only a copy's takes memory.
-fn read_op(alloc: Global, row: Row, fields: &[Field]) -> Result<Option<Op>, Memory>
-    requires { row ≡ PutRelativeFile → has_two_targets fields.now ≡ false }
-    ensures { IfOk result (λ found. MatchOption found ((op : Op) → ¬ (Says row fields.now op)) (Says row fields.now)) }
+fn ask_info(file: FileName, token: Bytes) -> Result<Ask, AskFault>
+    ensures { result ≡ Ok (record { file = file; token = token; op = Op.Info }) }
 {
-    match row {
-        Row::CheckFileInfo => Ok(Some(Op::Info)),
-        Row::GetFile => Ok(read_get(fields)),
-        Row::PutFile => Ok(read_put(fields)),
-        Row::Lock => Ok(read_lock(fields)),
-        Row::GetLock => Ok(Some(Op::GetLock)),
-        Row::RefreshLock => Ok(read_refresh(fields)),
-        Row::Unlock => Ok(read_unlock(fields)),
-        Row::PutRelativeFile => read_copy(alloc, fields),
-        Row::DeleteFile => Ok(Some(Op::Delete)),
+    Ok(Ask {
+        file,
+        token,
+        op: Op::Info,
+    })
+}
+
+fn ask_held(file: FileName, token: Bytes) -> Result<Ask, AskFault>
+    ensures { result ≡ Ok (record { file = file; token = token; op = Op.GetLock }) }
+{
+    Ok(Ask {
+        file,
+        token,
+        op: Op::GetLock,
+    })
+}
+
+fn ask_delete(file: FileName, token: Bytes) -> Result<Ask, AskFault>
+    ensures { result ≡ Ok (record { file = file; token = token; op = Op.Delete }) }
+{
+    Ok(Ask {
+        file,
+        token,
+        op: Op::Delete,
+    })
+}
+
+/// The row of a request to a file, or to its contents, or the status that refuses it.
+fn row_in(method: Method, contents: bool, fields: &[Field]) -> Result<Row, u16>
+    ensures { IsRowIn method contents fields.now result }
+{
+    let Some(row) = row_asked(method, contents, fields) else {
+        return Err(501);
+    };
+    if has_one_override(row, fields) {
+        Ok(row)
+    } else {
+        Err(400)
     }
 }
 
@@ -122,20 +212,26 @@ pub fn ask_of(alloc: Global, request: &Request) -> Result<Ask, AskFault>
 {
     let target = request.target.as_slice();
     let fields = request.fields.as_slice();
-    let Some((file, contents)) = read_path(path_of(target)) else {
+    let Some((id, contents)) = id_in(path_of(target)) else {
         return Err(AskFault::Refused { status: 404 });
     };
-    let Some(row) = row_asked(request.method, contents, fields) else {
-        return Err(AskFault::Refused { status: 501 });
+    let Ok(file) = id_read(id) else {
+        return Err(AskFault::Refused { status: 404 });
     };
-    if !has_one_override(row, fields) {
-        return Err(AskFault::Refused { status: 400 });
-    }
-    match read_op(alloc, row, fields)? {
-        Some(op) => {
-            let token = token_of(alloc, target)?;
-            Ok(Ask { file, token, op })
-        }
-        None => Err(AskFault::Refused { status: 400 }),
+    let row = match row_in(request.method, contents, fields) {
+        Ok(row) => row,
+        Err(status) => return Err(AskFault::Refused { status }),
+    };
+    let token = token_of(alloc, target)?;
+    match row {
+        Row::CheckFileInfo => ask_info(file, token),
+        Row::GetFile => ask_get(file, token, fields),
+        Row::PutFile => ask_put(file, token, fields),
+        Row::Lock => ask_lock(file, token, fields),
+        Row::GetLock => ask_held(file, token),
+        Row::RefreshLock => ask_refresh(file, token, fields),
+        Row::Unlock => ask_unlock(file, token, fields),
+        Row::PutRelativeFile => ask_copy(alloc, file, token, fields),
+        Row::DeleteFile => ask_delete(file, token),
     }
 }

@@ -1,7 +1,7 @@
 //! What the header fields of a request say.
 ghost use Rattle.std.specs.Prelude.{ℕ, Bool, List, Option, ◌≡◌, ◌↔◌, IsTrue, IfOk, MatchOption};
 ghost use Rattle.std.specs.Option.{option_copied};
-ghost use Rattle.wopi_headers.specs.Readings.{value_named, most_name, IsMissing, IsLock, IsAnyLock, IsSize, IsMost, IsText, IsWordOf, IsOverwrite};
+ghost use Rattle.wopi_headers.specs.Readings.{value_named, most_name, IsMissing, IsLock, IsSize, IsMost, IsText, IsWordOf, IsOverwrite};
 ghost use Rattle.utf7_text.specs.Readings.{IsReading};
 ghost use Rattle.wopi_headers.specs.Values.{IsValue};
 
@@ -29,7 +29,9 @@ pub fn value_named<'a>(fields: &'a [Field], name: &[u8]) -> Option<&'a [u8]>
     Some(field.value.as_slice())
 }
 
-/// What the fields of the name say.
+/// What the fields of the name say. Inlined into each reader of a lock id, its loops would keep that
+/// from being built in the place where it stays.
+#[inline(never)]
 fn value_of<'a>(fields: &'a [Field], name: &[u8]) -> Value<'a>
     ensures { IsValue name.now fields.now result }
 {
@@ -61,19 +63,6 @@ pub fn lock_named(fields: &[Field], name: &[u8]) -> Option<LockId>
     match value_of(fields, name) {
         Value::Once(value) => LockId::read(value),
         _ => None,
-    }
-}
-
-/// The lock id that the field has, or none where it is missing or empty.
-pub fn any_lock_named(fields: &[Field], name: &[u8]) -> Option<Option<LockId>>
-    ensures { MatchOption result ((lock : Option (List ℕ)) → ¬ (IsAnyLock name.now fields.now lock)) (IsAnyLock name.now fields.now) }
-{
-    if is_missing(fields, name) {
-        return Some(None);
-    }
-    match lock_named(fields, name) {
-        Some(id) => Some(Some(id)),
-        None => None,
     }
 }
 

@@ -1,52 +1,109 @@
-use Rattle.std.proofs.lemmas.Option.{MatchOption-at_none}
-use Rattle.std.proofs.Common.{◌≡◌, ℕ, List, Bool, Option, Some, None, ◌∙◌, sym, ap, refl, subst}
+use Rattle.std.proofs.Common.{◌≡◌, ◌⊎◌, inl, inr, ℕ, List, Bool, Some, None, Result, Ok, Err, rules, ◌∙◌, sym, ap, refl, subst}
+use Rattle.wopi_text.specs.FileName.{IsFileName}
+use Rattle.wopi_text.specs.Ids.{id_of}
 use Rattle.wopi_http.specs.declared.message.Field.{Field}
 use Rattle.wopi_http.specs.declared.message.Request.{Request}
+use Rattle.wopi_headers.specs.declared.ask.Ask.{Ask}
+use Rattle.wopi_headers.specs.declared.ask.AskFault.{AskFault}
+use Rattle.wopi_headers.specs.declared.ask.AskFault.TheVariants.{Refused, Memory}
 use Rattle.wopi_headers.specs.declared.ask.Op.{Op}
 use Rattle.wopi_headers.specs.declared.row.Row.{Row}
-use Rattle.wopi_headers.specs.Targets.{path_of}
-use Rattle.wopi_headers.specs.Paths.{IsFilePath}
+use Rattle.wopi_headers.specs.Targets.{path_of, token_of}
+use Rattle.wopi_headers.specs.Paths.{IsFilePath, IsIdIn}
 use Rattle.wopi_headers.specs.Rows.{row_asked}
-use Rattle.wopi_headers.specs.Operations.{Says, HasOneOverride, IsRefusal}
+use Rattle.wopi_headers.specs.Operations.{Says, HasOneOverride, AsksFor, IsRefusal, IsAnswerTo}
 use Rattle.wopi_headers.specs.Operations.IsRefusal.{no_row, no_reading}
+use Rattle.wopi_headers.specs.RowReads.{IsRead, IsRowIn}
 use Rattle.wopi_headers.proofs.OneTarget.{one_target}
 use Rattle.wopi_headers.proofs.asking.ask_of.Goals as goal
 
 -- what was found of a request, in the slices that were looked at
-module _ (q : Request) (target path : List ℕ) (fields : List Field) (name : List ℕ) (contents : Bool) (found : Option Row)
+module _ (q : Request) (target path : List ℕ) (fields : List Field) (id name : List ℕ) (contents : Bool)
     (target_is : target ≡ q.target) (fields_are : fields ≡ q.fields) (path_is : path ≡ path_of target)
-    (place : IsFilePath path name contents) (found_is : found ≡ row_asked q.method contents fields) where
+    (in_path : IsIdIn path id contents) (form : IsFileName name) (id_is : id ≡ id_of name) where
   at_path : IsFilePath (path_of q.target) name contents
-  at_path = let P : List ℕ → Type 0 = λ p. IsFilePath p name contents in subst P (path_is ∙ ap path_of target_is) place
+  at_path =
+      let P : List ℕ → Type 0 = λ p. IsFilePath p name contents in
+      subst P (path_is ∙ ap path_of target_is) ((in_path name contents).1 ((form, id_is), refl))
 
-  row_is : row_asked q.method contents q.fields ≡ found
-  row_is = sym (found_is ∙ ap (row_asked q.method contents) fields_are)
+  fields_is : row_asked q.method contents q.fields ≡ row_asked q.method contents fields
+  fields_is = ap (row_asked q.method contents) (sym fields_are)
 
-  is_no_row : found ≡ None → IsRefusal q 501
-  is_no_row none = no_row refl name contents at_path (row_is ∙ none)
-
-  is_no_reading : (row : Row) → found ≡ Some row → ((op : Op) → HasOneOverride row fields → ¬ (Says row fields op)) → IsRefusal q 400
-  is_no_reading row some none =
+  unread : (row : Row) (s : ℕ) → s ≡ 400 → row_asked q.method contents fields ≡ Some row → ((op : Op) → HasOneOverride row fields → ¬ (Says row fields op)) → IsRefusal q s
+  unread row s is some none =
       let P : List Field → Type 0 = λ fs. (op : Op) → HasOneOverride row fs → ¬ (Says row fs op) in
-      no_reading refl name contents row at_path (row_is ∙ some) (subst P fields_are none)
+      no_reading is name contents row at_path (fields_is ∙ some) (subst P fields_are none)
 
-pub returns-in_default-row_asked : goal.returns-in_default-row_asked
-returns-in_default-row_asked c =
-    is_no_row c.args.request.now _ _ _ _ _ _ c.as_slice-target.ensures c.as_slice-fields.ensures c.path_of.ensures c.in-Some.ensures
-    c.row_asked.ensures c.in_default-row_asked.is
+  refused : (s : ℕ) → IsRowIn q.method contents fields (Err s) → IsRefusal q s
+  refused s (inl h) = no_row h.0 name contents at_path (fields_is ∙ h.1)
+  refused s (inr h) = unread h.1.0 s h.0 h.1.1 (λ op once says. h.1.2 once)
 
-pub returns-then-not-has_one_override : goal.returns-then-not-has_one_override
-returns-then-not-has_one_override c =
-    is_no_reading c.args.request.now _ _ _ _ _ _ c.as_slice-target.ensures c.as_slice-fields.ensures c.path_of.ensures c.in-Some.ensures
-    c.row_asked.ensures _ c.in-Some-row_asked.is (λ op once says. absurd (cc (c.if-not-has_one_override.ensures.1 once)))
+  read : (row : Row) (token : List ℕ) → row_asked q.method contents fields ≡ Some row → HasOneOverride row fields → token ≡ token_of target
+      → (r : Result Ask AskFault) → IsRead row name token fields r → IsAnswerTo q r
+  read row token some once token_is (Ok a) h =
+      let P : List Field → Type 0 = λ fs. HasOneOverride row fs in
+      let S : List Field → Type 0 = λ fs. Says row fs a.op in
+      let F : List ℕ → Type 0 = λ n. IsFilePath (path_of q.target) n contents in
+      record {
+        contents = contents;
+        row = row;
+        path = subst F (sym h.0) at_path;
+        row_is = fields_is ∙ some;
+        once = subst P fields_are once;
+        says = subst S fields_are h.2;
+        token_is = h.1 ∙ token_is ∙ ap token_of target_is;
+      }
+  read row token some once token_is (Err (Refused s)) h = unread row s h.0 some (λ op one says. h.1 op says)
+  read row token some once token_is (Err Memory) h = tt
 
-pub returns-in-None : goal.returns-in-None
-returns-in-None c =
-    let fields = c.as_slice-fields.result.now in
-    let row = c.in-Some-row_asked.row in
-    let unread = MatchOption-at_none ((op : Op) → ¬ (Says row fields op)) (Says row fields) c.in-None.is c.in_ok-op.ensures in
-    is_no_reading c.args.request.now _ _ _ _ _ _ c.as_slice-target.ensures c.as_slice-fields.ensures c.path_of.ensures c.in-Some.ensures
-    c.row_asked.ensures _ c.in-Some-row_asked.is (λ op once says. unread op says)
+  -- by the reader of the row that was found
+  answered : (row kind : Row) (token : List ℕ) → row ≡ kind → IsRowIn q.method contents fields (Ok row) → token ≡ token_of target
+      → (r : Result Ask AskFault) → IsRead kind name token fields r → IsAnswerTo q r
+  answered row kind token is found token_is r h =
+      let R : Row → Type 0 = λ k. IsRead k name token fields r in
+      read row token found.0 found.1 token_is r (subst R (sym is) h)
 
-pub read_op-requires : goal.read_op-requires
-read_op-requires c = λ is. one_target _ _ c.as_slice-fields.result.now c.in-Some-row_asked.row (sym c.row_asked.ensures ∙ c.in-Some-row_asked.is) is
+pub returns-in-Err : goal.returns-in-Err
+returns-in-Err c =
+    let form : IsFileName c.in-Ok.file = search rules in
+    refused c.args.request.now _ _ _ _ _ _ c.as_slice-target.ensures c.as_slice-fields.ensures c.path_of.ensures c.in-Some.ensures
+    form c.in-Ok.ensures.value c.in-Err.status c.in-Err.ensures
+
+pub ask_copy-requires : goal.ask_copy-requires
+ask_copy-requires c = one_target _ _ c.as_slice-fields.result.now c.in-Ok-row_in.row c.in-Ok-row_in.ensures.0 c.in-PutRelativeFile.is
+
+pub returns-in-GetFile : goal.returns-in-GetFile
+returns-in-GetFile c =
+    let form : IsFileName c.in-Ok.file = search rules in
+    answered c.args.request.now _ _ _ _ _ _ c.as_slice-target.ensures c.as_slice-fields.ensures c.path_of.ensures c.in-Some.ensures
+    form c.in-Ok.ensures.value _ _ _ c.in-GetFile.is c.in-Ok-row_in.ensures c.in_ok-token.ensures c.ask_get.result c.ask_get.ensures
+
+pub returns-in-PutFile : goal.returns-in-PutFile
+returns-in-PutFile c =
+    let form : IsFileName c.in-Ok.file = search rules in
+    answered c.args.request.now _ _ _ _ _ _ c.as_slice-target.ensures c.as_slice-fields.ensures c.path_of.ensures c.in-Some.ensures
+    form c.in-Ok.ensures.value _ _ _ c.in-PutFile.is c.in-Ok-row_in.ensures c.in_ok-token.ensures c.ask_put.result c.ask_put.ensures
+
+pub returns-in-Lock : goal.returns-in-Lock
+returns-in-Lock c =
+    let form : IsFileName c.in-Ok.file = search rules in
+    answered c.args.request.now _ _ _ _ _ _ c.as_slice-target.ensures c.as_slice-fields.ensures c.path_of.ensures c.in-Some.ensures
+    form c.in-Ok.ensures.value _ _ _ c.in-Lock.is c.in-Ok-row_in.ensures c.in_ok-token.ensures c.ask_lock.result c.ask_lock.ensures
+
+pub returns-in-RefreshLock : goal.returns-in-RefreshLock
+returns-in-RefreshLock c =
+    let form : IsFileName c.in-Ok.file = search rules in
+    answered c.args.request.now _ _ _ _ _ _ c.as_slice-target.ensures c.as_slice-fields.ensures c.path_of.ensures c.in-Some.ensures
+    form c.in-Ok.ensures.value _ _ _ c.in-RefreshLock.is c.in-Ok-row_in.ensures c.in_ok-token.ensures c.ask_refresh.result c.ask_refresh.ensures
+
+pub returns-in-Unlock : goal.returns-in-Unlock
+returns-in-Unlock c =
+    let form : IsFileName c.in-Ok.file = search rules in
+    answered c.args.request.now _ _ _ _ _ _ c.as_slice-target.ensures c.as_slice-fields.ensures c.path_of.ensures c.in-Some.ensures
+    form c.in-Ok.ensures.value _ _ _ c.in-Unlock.is c.in-Ok-row_in.ensures c.in_ok-token.ensures c.ask_unlock.result c.ask_unlock.ensures
+
+pub returns-in-PutRelativeFile : goal.returns-in-PutRelativeFile
+returns-in-PutRelativeFile c =
+    let form : IsFileName c.in-Ok.file = search rules in
+    answered c.args.request.now _ _ _ _ _ _ c.as_slice-target.ensures c.as_slice-fields.ensures c.path_of.ensures c.in-Some.ensures
+    form c.in-Ok.ensures.value _ _ _ c.in-PutRelativeFile.is c.in-Ok-row_in.ensures c.in_ok-token.ensures c.ask_copy.result c.ask_copy.ensures
