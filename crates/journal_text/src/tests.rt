@@ -180,7 +180,9 @@ fn bad_under_id(alloc: Global, front: &str, count: usize, end: &str) -> Result<O
 }
 
 #[test]
-fn lock_ids_have_at_most_256_bytes_in_the_first_form_and_1024_in_the_second(rt: HostRuntime) -> Result<(), Fail> {
+fn lock_ids_have_at_most_256_bytes_in_the_first_form_and_1024_in_the_second(
+    rt: HostRuntime,
+) -> Result<(), Fail> {
     let first = "wopi journal 1 opened 0\n1 11 0 5 612e637376 lock ";
     let second = "wopi journal 2 opened 0 first 1\n1 11 0 5 5 612e637376 lock ";
     let end = " u.612e637376.w.2.0.9 200 - - v1 -\nend\n";
