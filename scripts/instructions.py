@@ -5,7 +5,11 @@ PROGRAM is the built one, as crates/mokdrai/out/mokdrai. Each number is the diff
 `serve` of one worker, without and with a hundred more of the request, by a hundred. First over folders of 10,
 1,000 and 10,000 files, on the last one; then over one file after so many entries, those of relocks of the file
 (10, 1,000 and 30,000 where none are named).
+
+Under glibc large pieces of memory are cleared and copied by one instruction that callgrind counts once for each
+byte, so here by its loops, as small ones are.
 """
+import os
 import pathlib
 import re
 import socket
@@ -17,6 +21,7 @@ import time
 KEY, PORT, LAST = "4a656665", 18093, "253402300799999"
 BASE = f"http://127.0.0.1:{PORT}"
 MANY, REPLIES = 100, 9000
+LOOPS = "glibc.cpu.x86_rep_stosb_threshold=1000000000:glibc.cpu.x86_rep_movsb_threshold=1000000000"
 
 
 def token(program, name):
@@ -90,7 +95,8 @@ def instructions(program, room, folder, requests):
     parts = [requests[at : at + REPLIES] for at in range(0, len(requests), REPLIES)]
     words = ["valgrind", "--tool=callgrind", f"--callgrind-out-file={room}/out", program]
     words += ["serve", str(folder), str(PORT), KEY, BASE, "1", "--journal", "32768", "--each", str(len(parts))]
-    host = subprocess.Popen(words, stdout=subprocess.DEVNULL, stderr=subprocess.PIPE, text=True)
+    loops = {**os.environ, "GLIBC_TUNABLES": LOOPS}
+    host = subprocess.Popen(words, stdout=subprocess.DEVNULL, stderr=subprocess.PIPE, text=True, env=loops)
     for part in parts:
         ask_all(host, part)
     notes = host.communicate()[1]
