@@ -14,7 +14,6 @@ use Rattle.wopi_text.specs.contracts.lock_field.LockField as lock_field
 use Rattle.host_core.specs.contracts.extent.Extent as extent
 use Rattle.host_core.specs.contracts.file.KeptFile as file
 use Rattle.host_core.specs.contracts.entry.EntryAct as act
-use Rattle.host_core.specs.contracts.entry.Asked as asked
 use Rattle.host_core.specs.contracts.entry.Entry as entry
 use Rattle.host_core.specs.contracts.ledger.Ledger as ledger
 use Rattle.host_core.specs.contracts.shard.Shard as shard
@@ -39,14 +38,11 @@ act_send = search (sendable, any.crosses, id_send) depth 20
 field_send : IsSend (lock_field.the_field).row
 field_send = search (sendable, any.crosses, id_send) depth 20
 
-asked_send : IsSend asked.the_row
-asked_send = search (sendable, any.crosses, name_send, token_send, act_send) depth 20
-
 reason_send : IsSend (reason.the_field).row
 reason_send = search sendable depth 20
 
 entry_send : IsSend entry.the_row
-entry_send = search (sendable, any.crosses, asked_send, field_send, reason_send) depth 20
+entry_send = search (sendable, any.crosses, name_send, token_send, act_send, field_send, reason_send) depth 20
 
 ledger_field : IsSend (ledger.the_field).row
 ledger_field = search (sendable, any.crosses, file_send, index_send, locks_send, entry_send, versions_send) depth 20

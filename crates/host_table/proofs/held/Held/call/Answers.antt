@@ -1,4 +1,4 @@
-use Rattle.std.proofs.Common.{max, Some, sym, ◌∙◌, subst, ap, tt}
+use Rattle.std.proofs.Common.{max, Some, sym, ◌∙◌, subst, ap}
 use Rattle.host_core.specs.declared.caller.CallFault.TheVariants as fault
 use Rattle.host_core.specs.Entries.{Made}
 use Rattle.host_core.specs.Value.{Book}
