@@ -1,5 +1,5 @@
 //! The host.
-ghost use Rattle.std.specs.Prelude.{◌≡◌, ◌+◌, ◌<◌, ◌≤◌, ◌∷◌, [], ◌++◌, length, map, IfOk, IfErr, OnOk, OnErr, None, Some, true, IsSomeAnd, IsTrue, ◌↔◌};
+ghost use Rattle.std.specs.Prelude.{◌≡◌, ◌+◌, ◌<◌, ◌≤◌, ◌∷◌, [], ◌++◌, length, map, IfOk, IfErr, OnOk, OnErr, None, Some, true, IsSomeAnd, IsTrue, max, ◌↔◌};
 ghost use Rattle.std.specs.List.{AllByRecursion};
 ghost use Rattle.wopi_model.specs.Moment.{IsMoment};
 ghost use Rattle.host_core.specs.Opening.{IsFirstVersion};
@@ -67,30 +67,30 @@ pub enum CloseFault<F: Folder> {
     Memory(Host<F>, Vec<Pass<F>>),
 }
 
-/// One call in the shard's turn, and the last stamp that was then seen there.
+/// One call in the shard's turn. `last` is the greatest stamp that was seen in any shard.
 fn turn<F: Folder, R: Wait>(
     rt: &R,
     lock: &TurnLock<Held<F>>,
     seat: &mut Seat<Held<F>>,
     call: Call,
     number: u32,
-    floor: u64,
+    last: &mut u64,
     moment: u64,
-) -> (u64, Result<Receipt, CallFault>)
+) -> Result<Receipt, CallFault>
     requires lock { seat.old.lock ≡ lock.now }
     requires free { seat.old.taken ≡ None }
     requires based { IsSomeAnd seat.old.base (λ base. base.only ≡ Some (shard_of call.name)) }
     requires moment { IsMoment moment }
-    ensures last { result.0 ≡ last_stamp seat.new.seen }
+    ensures last { last.new ≡ max last.old (last_stamp seat.new.seen) }
     ensures seen { IsSomeAnd seat.old.base (λ base. IsSeen base seat.new.seen) }
-    ensures made { IfOk result.1 (λ receipt. Calls seat.old call number floor moment receipt seat.new) }
-    ensures refused { IfErr result.1 (λ refusal. Looks seat.old call floor moment refusal seat.new) }
+    ensures made { IfOk result (λ receipt. Calls seat.old call number last.old moment receipt seat.new) }
+    ensures refused { IfErr result (λ refusal. Looks seat.old call last.old moment refusal seat.new) }
 {
     let mut held = lock.take(rt, seat);
-    let answer = held.call(call, number, floor, moment);
-    let last = held.last();
+    let answer = held.call(call, number, *last, moment);
+    *last = (*last).max(held.last());
     lock.give_back(seat, held);
-    (last, answer)
+    answer
 }
 
 /// The host over these locks, and the pass of their first seats.
@@ -247,13 +247,10 @@ impl<F: Folder> Host<F> {
         ensures seen { HasSeen pass.new }
     {
         let number = pass.number;
-        let floor = pass.last;
         let shard = usize::from(call.name.shard());
         let lock = &self.locks[shard];
         let seat = &mut pass.seats[shard];
-        let (last, answer) = turn(rt, lock, seat, call, number, floor, moment);
-        pass.last = floor.max(last);
-        answer
+        turn(rt, lock, seat, call, number, &mut pass.last, moment)
     }
 
     /// These are all passes of the host: their numbers are those below how many were made, each once, and their

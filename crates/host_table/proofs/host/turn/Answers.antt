@@ -22,12 +22,12 @@ pub returns-clause-made : goal.returns-clause-made
 returns-clause-made g c =
     let v = c.args.seat.now in let w = c.give_back.new.seat in let old = c.take-held.result in let new = c.call-answer.new.self in
     let after = given_back v c.take-held.new.seat w old new c.take-held.ensures.seat c.give_back.ensures in
-    ifok_map c.call-answer.result _ (λ receipt. Calls v c.args.call c.args.number c.args.floor c.args.moment receipt w)
-    (λ receipt adds. made_call v w old new c.args.call c.args.number c.args.floor c.args.moment receipt c.requires.free c.take-held.ensures.base c.take-held.ensures.prefix after adds) c.call-answer.ensures.made
+    ifok_map c.call-answer.result _ (λ receipt. Calls v c.args.call c.args.number c.args.last.now c.args.moment receipt w)
+    (λ receipt adds. made_call v w old new c.args.call c.args.number c.args.last.now c.args.moment receipt c.requires.free c.take-held.ensures.base c.take-held.ensures.prefix after adds) c.call-answer.ensures.made
 
 pub returns-clause-refused : goal.returns-clause-refused
 returns-clause-refused g c =
     let v = c.args.seat.now in let w = c.give_back.new.seat in let old = c.take-held.result in let new = c.call-answer.new.self in
     let after = given_back v c.take-held.new.seat w old new c.take-held.ensures.seat c.give_back.ensures in
-    err_map c.call-answer.result _ (λ refusal. Looks v c.args.call c.args.floor c.args.moment refusal w)
-    (λ refusal declines. refused_call v w old new c.args.call c.args.floor c.args.moment refusal c.requires.free c.take-held.ensures.base c.take-held.ensures.prefix after declines) c.call-answer.ensures.refused
+    err_map c.call-answer.result _ (λ refusal. Looks v c.args.call c.args.last.now c.args.moment refusal w)
+    (λ refusal declines. refused_call v w old new c.args.call c.args.last.now c.args.moment refusal c.requires.free c.take-held.ensures.base c.take-held.ensures.prefix after declines) c.call-answer.ensures.refused
