@@ -131,7 +131,7 @@ pub host_within : {F : Type 0} (journal : JournalView F) → KeepsBounds journal
 host_within journal keeps =
     let few = keeps.left.few in let long = length-map journal.merge line_of in
     record {
-      opening = (keeps.left.opened_is, record { least = keeps.left.first_is.0; most = keeps.left.first_is.1 });
+      opening = (keeps.left.opened_is, keeps.left.first_is);
       files = files 0 journal.parts keeps.left.openings_are keeps.files None tt;
       lines = lines journal.merge keeps.entries;
       few = omega (arith, few, long);
