@@ -1,12 +1,11 @@
 -- A copy that is asked for has one target.
-use Rattle.std.proofs.Common.{◌≡◌, ◌==◌, ℕ, ◌<◌, Bool, true, false, ◌&&◌, cond, nat_lt, List, Option, Some, None, codes, refl, sym, ap, ◌∙◌, arith}
+use Rattle.std.proofs.Common.{◌≡◌, ℕ, Bool, true, false, cond, List, Option, Some, None, codes, refl, ap, ◌∙◌}
 use Rattle.std.specs.Str.{bytes_eq}
-use Rattle.std.proofs.lemmas.Bool.Decides.{nat_tests}
 use Rattle.wopi_http.specs.declared.message.Field.{Field}
 use Rattle.wopi_http.specs.declared.message.Method.{Method}
 use Rattle.wopi_http.specs.declared.message.Method.TheVariants.{Get, Post, Other}
 use Rattle.wopi_headers.specs.declared.row.Row.{Row}
-use Rattle.wopi_headers.specs.declared.row.Row.TheVariants.{CheckFileInfo, GetFile, PutFile, Lock, GetLock, RefreshLock, Unlock, PutRelativeFile, DeleteFile}
+use Rattle.wopi_headers.specs.declared.row.Row.TheVariants.{PutFile, PutRelativeFile}
 use Rattle.wopi_headers.specs.Readings.{override_name, value_named}
 use Rattle.wopi_headers.specs.Rows.{by_override, row_of, has_two_targets, row_asked}
 

@@ -1,10 +1,15 @@
 -- What was found under a name.
-use Rattle.std.specs.Prelude.{ℕ, ◌≡◌, ◌<◌, List}
+use Rattle.std.specs.Prelude.{ℕ, ◌≡◌, ◌<◌, ◌+◌, List, Some}
 use Rattle.wopi_http.specs.declared.message.Field.{Field}
 use Rattle.wopi_http.specs.Fields.{count_named}
 use Rattle.wopi_headers.specs.declared.reading.Value.{Value}
 use Rattle.wopi_headers.specs.declared.reading.Value.TheVariants.{Missing, Once, Several}
-use Rattle.wopi_headers.specs.Readings.{IsOnce}
+use Rattle.wopi_headers.specs.Readings.{value_named, IsOnce}
+
+-- The first field of the name has this value, and these are the fields behind it.
+pub record IsFirst (name : List ℕ) (fields : List Field) (value : List ℕ) (rest : List Field) : Type 0 where
+  pub value_is : value_named name fields ≡ Some value
+  pub count_is : count_named name fields ≡ 1 + count_named name rest
 
 abbrev pub IsValue : List ℕ → List Field → Value → Type 0
 IsValue name fields Missing = count_named name fields ≡ 0

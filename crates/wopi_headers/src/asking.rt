@@ -1,9 +1,9 @@
 //! Requests read as operations. What is asked is made once, by the function of its row, in the place
 //! where it stays: lock ids stand inline, and each move of one would copy them whole.
-ghost use Rattle.std.specs.Prelude.{ℕ, List, Ok, ◌≡◌, ◌↔◌, false, IsTrue, MatchOption};
+ghost use Rattle.std.specs.Prelude.{Ok, ◌≡◌, ◌↔◌, false, IsTrue};
 ghost use Rattle.wopi_headers.specs.declared.ask.Op.{Op};
 ghost use Rattle.wopi_headers.specs.declared.row.Row.TheVariants.{Lock, GetFile, PutFile, RefreshLock, Unlock, PutRelativeFile};
-ghost use Rattle.wopi_headers.specs.Readings.{lock_name, old_lock_name, IsLock, IsMissing};
+ghost use Rattle.wopi_headers.specs.Readings.{lock_name, old_lock_name, IsMissing};
 ghost use Rattle.wopi_headers.specs.Rows.{has_two_targets};
 ghost use Rattle.wopi_headers.specs.Operations.{HasOneOverride, IsAnswerTo};
 ghost use Rattle.wopi_headers.specs.RowReads.{IsRead, IsRowIn};
@@ -16,7 +16,7 @@ use crate::row::{Row, row_asked};
 use crate::target::{path_of, token_of};
 use std::alloc::Global;
 use wopi_http::{Field, Method, Request, count_named};
-use wopi_text::{Bytes, FileName, LockId, id_read};
+use wopi_text::{Bytes, FileName, id_read};
 
 /// Whether a request of this row names its operation once, where it has to.
 fn has_one_override(row: Row, fields: &[Field]) -> bool
@@ -28,33 +28,12 @@ fn has_one_override(row: Row, fields: &[Field]) -> bool
     }
 }
 
-fn lock_of(fields: &[Field]) -> Option<LockId>
-    ensures { MatchOption result ((id : List ℕ) → ¬ (IsLock lock_name fields.now id)) (IsLock lock_name fields.now) }
-{
-    lock_named(fields, b"X-WOPI-Lock")
-}
-
-/// A lock that is taken, where the fields name no old one.
-fn ask_new_lock(file: FileName, token: Bytes, fields: &[Field]) -> Result<Ask, AskFault>
-    requires { IsMissing old_lock_name fields.now }
-    ensures { IsRead Lock file token fields.now result }
-{
-    let Some(id) = lock_of(fields) else {
-        return Err(AskFault::Refused { status: 400 });
-    };
-    Ok(Ask {
-        file,
-        token,
-        op: Op::Lock { id },
-    })
-}
-
 /// A lock that is taken in place of an old one.
 fn ask_relock(file: FileName, token: Bytes, fields: &[Field]) -> Result<Ask, AskFault>
     requires { ¬ (IsMissing old_lock_name fields.now) }
     ensures { IsRead Lock file token fields.now result }
 {
-    let Some(id) = lock_of(fields) else {
+    let Some(id) = lock_named(fields, b"X-WOPI-Lock") else {
         return Err(AskFault::Refused { status: 400 });
     };
     let Some(old) = lock_named(fields, b"X-WOPI-OldLock") else {
@@ -67,14 +46,21 @@ fn ask_relock(file: FileName, token: Bytes, fields: &[Field]) -> Result<Ask, Ask
     })
 }
 
+/// A lock that is taken, in place of an old one where the fields name one.
 fn ask_lock(file: FileName, token: Bytes, fields: &[Field]) -> Result<Ask, AskFault>
     ensures { IsRead Lock file token fields.now result }
 {
-    if is_missing(fields, b"X-WOPI-OldLock") {
-        ask_new_lock(file, token, fields)
-    } else {
-        ask_relock(file, token, fields)
+    if !is_missing(fields, b"X-WOPI-OldLock") {
+        return ask_relock(file, token, fields);
     }
+    let Some(id) = lock_named(fields, b"X-WOPI-Lock") else {
+        return Err(AskFault::Refused { status: 400 });
+    };
+    Ok(Ask {
+        file,
+        token,
+        op: Op::Lock { id },
+    })
 }
 
 fn ask_get(file: FileName, token: Bytes, fields: &[Field]) -> Result<Ask, AskFault>
@@ -95,7 +81,7 @@ fn ask_locked_put(file: FileName, token: Bytes, fields: &[Field]) -> Result<Ask,
     requires { ¬ (IsMissing lock_name fields.now) }
     ensures { IsRead PutFile file token fields.now result }
 {
-    let Some(id) = lock_of(fields) else {
+    let Some(id) = lock_named(fields, b"X-WOPI-Lock") else {
         return Err(AskFault::Refused { status: 400 });
     };
     Ok(Ask {
@@ -121,7 +107,7 @@ fn ask_put(file: FileName, token: Bytes, fields: &[Field]) -> Result<Ask, AskFau
 fn ask_refresh(file: FileName, token: Bytes, fields: &[Field]) -> Result<Ask, AskFault>
     ensures { IsRead RefreshLock file token fields.now result }
 {
-    let Some(id) = lock_of(fields) else {
+    let Some(id) = lock_named(fields, b"X-WOPI-Lock") else {
         return Err(AskFault::Refused { status: 400 });
     };
     Ok(Ask {
@@ -134,7 +120,7 @@ fn ask_refresh(file: FileName, token: Bytes, fields: &[Field]) -> Result<Ask, As
 fn ask_unlock(file: FileName, token: Bytes, fields: &[Field]) -> Result<Ask, AskFault>
     ensures { IsRead Unlock file token fields.now result }
 {
-    let Some(id) = lock_of(fields) else {
+    let Some(id) = lock_named(fields, b"X-WOPI-Lock") else {
         return Err(AskFault::Refused { status: 400 });
     };
     Ok(Ask {

@@ -1,13 +1,14 @@
 //! What the header fields of a request say.
-ghost use Rattle.std.specs.Prelude.{ℕ, Bool, List, Option, ◌≡◌, ◌↔◌, IsTrue, IfOk, MatchOption};
+ghost use Rattle.std.specs.Prelude.{ℕ, Bool, List, Option, ◌≡◌, ◌↔◌, IsTrue, IfOk, MatchOption, position};
 ghost use Rattle.std.specs.Option.{option_copied};
+ghost use Rattle.wopi_http.specs.Fields.{is_named, count_named};
 ghost use Rattle.wopi_headers.specs.Readings.{value_named, most_name, IsMissing, IsLock, IsSize, IsMost, IsText, IsWordOf, IsOverwrite};
 ghost use Rattle.utf7_text.specs.Readings.{IsReading};
-ghost use Rattle.wopi_headers.specs.Values.{IsValue};
+ghost use Rattle.wopi_headers.specs.Values.{IsFirst, IsValue};
 
 use std::alloc::Global;
 use utf7_text::{Utf7Fault, utf7_read};
-use wopi_http::{Field, count_named, first_named};
+use wopi_http::{Field, count_named, first_named, is_named};
 use wopi_text::{Bytes, LockId, Memory, digits_read};
 
 /// The most digits of a size.
@@ -29,19 +30,36 @@ pub fn value_named<'a>(fields: &'a [Field], name: &[u8]) -> Option<&'a [u8]>
     Some(field.value.as_slice())
 }
 
+/// Where the first field of the name stands.
+fn place_named(fields: &[Field], name: &[u8]) -> Option<usize>
+    ensures { result ≡ position (is_named name.now) fields.now }
+{
+    fields.iter().position(|f| is_named(f, name))
+}
+
+/// The value of the first field of the name, and the fields behind that one.
+fn first_and_rest<'a>(fields: &'a [Field], name: &[u8]) -> Option<(&'a [u8], &'a [Field])>
+    ensures { MatchOption result (count_named name.now fields.now ≡ 0) (λ found. IsFirst name.now fields.now found.0.now found.1.now) }
+{
+    let Some(place) = place_named(fields, name) else {
+        return None;
+    };
+    Some((fields[place].value.as_slice(), &fields[place + 1..]))
+}
+
 /// What the fields of the name say. Inlined into each reader of a lock id, its loops would keep that
 /// from being built in the place where it stays.
 #[inline(never)]
 fn value_of<'a>(fields: &'a [Field], name: &[u8]) -> Value<'a>
     ensures { IsValue name.now fields.now result }
 {
-    match count_named(fields, name) {
-        0 => Value::Missing,
-        1 => match value_named(fields, name) {
-            Some(value) => Value::Once(value),
-            None => Value::Missing,
-        },
-        _ => Value::Several,
+    let Some((value, rest)) = first_and_rest(fields, name) else {
+        return Value::Missing;
+    };
+    if count_named(rest, name) == 0 {
+        Value::Once(value)
+    } else {
+        Value::Several
     }
 }
 
@@ -60,10 +78,10 @@ pub fn is_missing(fields: &[Field], name: &[u8]) -> bool
 pub fn lock_named(fields: &[Field], name: &[u8]) -> Option<LockId>
     ensures { MatchOption result ((id : List ℕ) → ¬ (IsLock name.now fields.now id)) (IsLock name.now fields.now) }
 {
-    match value_of(fields, name) {
-        Value::Once(value) => LockId::read(value),
-        _ => None,
-    }
+    let Value::Once(value) = value_of(fields, name) else {
+        return None;
+    };
+    LockId::read(value)
 }
 
 /// The number of 1 to 19 digits.

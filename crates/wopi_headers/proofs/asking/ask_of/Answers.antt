@@ -1,4 +1,4 @@
-use Rattle.std.proofs.Common.{◌≡◌, ◌⊎◌, inl, inr, ℕ, List, Bool, Some, None, Result, Ok, Err, rules, ◌∙◌, sym, ap, refl, subst}
+use Rattle.std.proofs.Common.{◌≡◌, inl, inr, ℕ, List, Bool, Some, Result, Ok, Err, rules, ◌∙◌, sym, ap, refl, subst}
 use Rattle.wopi_text.specs.FileName.{IsFileName}
 use Rattle.wopi_text.specs.Ids.{id_of}
 use Rattle.wopi_http.specs.declared.message.Field.{Field}
@@ -11,7 +11,7 @@ use Rattle.wopi_headers.specs.declared.row.Row.{Row}
 use Rattle.wopi_headers.specs.Targets.{path_of, token_of}
 use Rattle.wopi_headers.specs.Paths.{IsFilePath, IsIdIn}
 use Rattle.wopi_headers.specs.Rows.{row_asked}
-use Rattle.wopi_headers.specs.Operations.{Says, HasOneOverride, AsksFor, IsRefusal, IsAnswerTo}
+use Rattle.wopi_headers.specs.Operations.{Says, HasOneOverride, IsRefusal, IsAnswerTo}
 use Rattle.wopi_headers.specs.Operations.IsRefusal.{no_row, no_reading}
 use Rattle.wopi_headers.specs.RowReads.{IsRead, IsRowIn}
 use Rattle.wopi_headers.proofs.OneTarget.{one_target}
