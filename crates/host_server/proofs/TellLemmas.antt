@@ -55,6 +55,10 @@ module _ (always : Sight → Type 0) (old new : Sight) where
   tells_whole P deeds a (Ok b) does is said = (deeds, does, subst (P deeds) (sym said) is)
   tells_whole P deeds a (Err fault) does is said = (deeds, does, inr ([], a, subst (λ ds. P ds a) (sym (append-nil deeds)) is))
 
+  -- nothing was done
+  pub tells_nothing : (P : List Deed → Answer → Type 0) (fault : Memory) → Does always old new [] → Tells P always old new (Err fault)
+  tells_nothing P fault does = ([], does, inl refl)
+
   module _ (call : Call) (moment : ℕ) where
     pub ruled_tells : (ruling : Ruling) (back : Option (List ℕ)) (r : Result Answer Memory) → Calls always old new call moment (RuledCall ruling back) → IfOk r (λ a. a ≡ told_of call ruling)
         → Tells (TellsCall call moment) always old new r

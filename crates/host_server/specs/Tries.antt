@@ -1,26 +1,16 @@
 -- What the calls of a PutRelativeFile do, one by one.
 use Rattle.std.specs.Prelude.{◌≡◌, ◌<◌, ℕ, List, [], ◌∷◌, ◌++◌, length, map, Option, None, Some}
-use Rattle.wopi_headers.specs.declared.ask.Op.{Op}
-use Rattle.wopi_headers.specs.declared.ask.Op.TheVariants as op
 use Rattle.wopi_headers.specs.declared.ask.Target.{Target}
 use Rattle.wopi_model.specs.declared.calls.Call.{Call}
 use Rattle.wopi_model.specs.declared.calls.Ruling.{Ruling}
 use Rattle.wopi_model.specs.Shard.{Entry}
-use Rattle.wopi_acts.specs.Acts.{act_of}
 use Rattle.host_core.specs.Caller.{Sight}
-use Rattle.host_server.specs.declared.answering.Task.{Task}
-use Rattle.host_server.specs.declared.answering.Task.TheVariants.{One, Copy}
 use Rattle.host_server.specs.declared.creating.Attempt.{Attempt}
 use Rattle.host_server.specs.declared.creating.Attempt.TheVariants as attempt
 use Rattle.host_server.specs.declared.creating.Outcome.{Outcome}
 use Rattle.host_server.specs.declared.creating.Outcome.TheVariants as outcome
 use Rattle.host_server.specs.Deeds.{Made, Blocked, IsFull, IsOf, Does}
 use Rattle.host_server.specs.Copies.{CanBeHad, asked_name, IsTaken, AreTaken, Decides}
-
--- what an operation with that body is for the host
-abbrev pub IsTask : Op → List ℕ → Task → Type 0
-IsTask asked body (One act) = act_of asked body ≡ Some act
-IsTask asked body (Copy target contents) = (asked ≡ op.PutRelative target) × (contents ≡ body)
 
 -- the name that a target asks for, or none where no file can have it
 abbrev pub IsAsked : List ℕ → Target → Option (List ℕ) → Type 0

@@ -1,74 +1,94 @@
 //! Requests answered by calls on files.
-ghost use Rattle.std.specs.Prelude.{◌≡◌, true, false};
+ghost use Rattle.std.specs.Prelude.{◌≡◌, Some, true, false};
 ghost use Rattle.wopi_model.specs.Moment.{IsMoment};
 ghost use Rattle.access_tokens.specs.Remembering.{Remembers};
-ghost use Rattle.host_server.specs.Telling.{is_info};
+ghost use Rattle.access_tokens.specs.TokenText.{IsWritable};
+ghost use Rattle.wopi_acts.specs.Acts.{act_of};
 ghost use Rattle.host_server.specs.Answering.{Ruled};
-ghost use Rattle.host_server.specs.Calls.{TellsCall, Tells};
-ghost use Rattle.host_server.specs.Tries.{IsTask};
+ghost use Rattle.host_server.specs.Asking.{asks_info, is_copy, TellsAct, TellsCopy};
+ghost use Rattle.host_server.specs.Calls.{Tells};
 ghost use Rattle.host_server.specs.Turns.{Answers};
 
 use crate::calling::{Called, make};
 use crate::copying::{Copying, put_beside};
 use crate::desk::Desk;
 use crate::telling::{info_told, journal_full, ruling_told, status_only};
-use access_tokens::LastToken;
-use host_core::{Act, Call, Caller};
+use access_tokens::{LastToken, Token};
+use host_core::{Act, Call, CallFault, Caller};
 use std::alloc::Global;
+use std::mem;
 use wopi_headers::{Answer, Ask, AskFault, Op, Target, ask_of};
 use wopi_http::Request;
-use wopi_text::{Bytes, Memory};
+use wopi_text::{Bytes, LockId, Memory};
 
-/// What an operation is for the host.
-#[derive(Drop)]
-enum Task {
-    /// One act.
-    One(Act),
-    /// A PutRelativeFile of these contents.
-    Copy { target: Target, contents: Bytes },
+fn is_info(op: &Op) -> bool
+    ensures { result ≡ asks_info op.now }
+{
+    matches!(op, Op::Info)
 }
 
-/// What an operation is for the host, with the request's body.
-fn task_of(op: Op, body: Bytes) -> Task
-    ensures { IsTask op body result }
+fn is_copy(op: &Op) -> bool
+    ensures { result ≡ is_copy op.now }
 {
-    match op {
-        Op::Info => Task::One(Act::Info),
-        Op::Get { most } => Task::One(Act::Get { most }),
-        Op::Put { lock } => Task::One(Act::Put {
-            lock,
-            contents: body,
-        }),
-        Op::Lock { id } => Task::One(Act::Lock { id }),
-        Op::GetLock => Task::One(Act::GetLock),
-        Op::Refresh { id } => Task::One(Act::Refresh { id }),
-        Op::Unlock { id } => Task::One(Act::Unlock { id }),
-        Op::Relock { old, id } => Task::One(Act::Relock { old, id }),
-        Op::PutRelative { target } => Task::Copy {
-            target,
-            contents: body,
-        },
-        Op::Delete => Task::One(Act::Delete),
+    matches!(op, Op::PutRelative { target: _ })
+}
+
+fn lock_copied(lock: &Option<LockId>) -> Option<LockId>
+    ensures { result ≡ lock.now }
+{
+    match lock {
+        Some(id) => Some(id.copy()),
+        None => None,
     }
 }
 
-/// Makes the call, which is no CheckFileInfo, and tells what became of it.
+/// The act of an operation, which is no PutRelativeFile, with the request's body.
+fn act_of(op: &Op, body: Bytes) -> Act
+    requires { is_copy op.now ≡ false }
+    ensures { act_of op.now body ≡ Some result }
+{
+    match op {
+        Op::Info => Act::Info,
+        Op::Get { most } => Act::Get { most: *most },
+        Op::Put { lock } => Act::Put {
+            lock: lock_copied(lock),
+            contents: body,
+        },
+        Op::Lock { id } => Act::Lock { id: id.copy() },
+        Op::GetLock => Act::GetLock,
+        Op::Refresh { id } => Act::Refresh { id: id.copy() },
+        Op::Unlock { id } => Act::Unlock { id: id.copy() },
+        Op::Relock { old, id } => Act::Relock {
+            old: old.copy(),
+            id: id.copy(),
+        },
+        Op::PutRelative { target: _ } => unreachable!(),
+        Op::Delete => Act::Delete,
+    }
+}
+
+/// Makes the call of an operation that is no PutRelativeFile and no CheckFileInfo, and tells what became of it.
 fn make_and_tell<C: Caller>(
     alloc: Global,
     caller: &mut C,
-    call: Call,
+    ask: &Ask,
+    token: Token,
+    body: Bytes,
     moment: u64,
 ) -> Result<Answer, Memory>
     requires moment { IsMoment moment }
-    requires other { is_info call.act ≡ false }
-    ensures tells { Tells (TellsCall call moment) C.always (C.sight caller.old) (C.sight caller.new) result }
+    requires alone { is_copy ask.now.op ≡ false }
+    requires other { asks_info ask.now.op ≡ false }
+    ensures tells { TellsAct ask.now token body moment C.always (C.sight caller.old) (C.sight caller.new) result }
     ensures basis { C.basis caller.new ≡ C.basis caller.old }
     ensures references { C.references caller.new ≡ C.references caller.old }
 {
-    match make(caller, call, moment) {
-        Called::Ruled { ruling, back: _ } => ruling_told(alloc, ruling),
-        Called::Full => journal_full(alloc),
-        Called::Memory => Err(Memory),
+    let name = ask.file.copy();
+    let act = act_of(&ask.op, body);
+    match caller.call(Call { name, token, act }, moment) {
+        Ok(receipt) => ruling_told(alloc, receipt.ruling),
+        Err(CallFault::Full(_)) => journal_full(alloc),
+        Err(CallFault::Memory(_)) => Err(Memory),
     }
 }
 
@@ -76,47 +96,61 @@ fn make_and_tell<C: Caller>(
 fn check_file_info<C: Caller>(
     alloc: Global,
     caller: &mut C,
-    call: Call,
+    ask: &Ask,
+    token: Token,
+    body: Bytes,
     moment: u64,
 ) -> Result<Answer, Memory>
     requires moment { IsMoment moment }
-    requires info { is_info call.act ≡ true }
-    ensures tells { Tells (TellsCall call moment) C.always (C.sight caller.old) (C.sight caller.new) result }
+    requires info { asks_info ask.now.op ≡ true }
+    ensures tells { TellsAct ask.now token body moment C.always (C.sight caller.old) (C.sight caller.new) result }
     ensures basis { C.basis caller.new ≡ C.basis caller.old }
     ensures references { C.references caller.new ≡ C.references caller.old }
 {
-    let name = call.name.copy();
-    let token = call.token.copy();
+    let name = ask.file.copy();
+    let shown = token.copy();
+    let call = Call {
+        name,
+        token: shown,
+        act: Act::Info,
+    };
     match make(caller, call, moment) {
-        Called::Ruled { ruling, back: _ } => info_told(alloc, &name, &token, ruling),
+        Called::Ruled { ruling, back: _ } => info_told(alloc, &ask.file, &token, ruling),
         Called::Full => journal_full(alloc),
         Called::Memory => Err(Memory),
     }
 }
 
-fn is_info(act: &Act) -> bool
-    ensures { result ≡ is_info act.now }
-{
-    matches!(act, Act::Info)
-}
-
-/// Makes the call of an act, and tells what became of it.
-fn answer_call<C: Caller>(
+/// Makes the calls of a PutRelativeFile, and tells what became of them. The target is taken out of the ask.
+fn copy_asked<C: Caller>(
     alloc: Global,
     caller: &mut C,
-    call: Call,
+    desk: &Desk,
+    ask: &mut Ask,
+    token: Token,
+    body: Bytes,
     moment: u64,
 ) -> Result<Answer, Memory>
-    requires { IsMoment moment }
-    ensures tells { Tells (TellsCall call moment) C.always (C.sight caller.old) (C.sight caller.new) result }
+    requires moment { IsMoment moment }
+    requires copy { is_copy ask.old.op ≡ true }
+    requires asking { IsWritable token }
+    ensures tells { TellsCopy desk.now ask.old token body moment C.always (C.sight caller.old) (C.sight caller.new) result }
     ensures basis { C.basis caller.new ≡ C.basis caller.old }
     ensures references { C.references caller.new ≡ C.references caller.old }
 {
-    if is_info(&call.act) {
-        check_file_info(alloc, caller, call, moment)
-    } else {
-        make_and_tell(alloc, caller, call, moment)
-    }
+    let source = ask.file.copy();
+    let Op::PutRelative { target } = &mut ask.op else {
+        unreachable!()
+    };
+    let none = Target::Suggested(Bytes::from_vec(Vec::new(alloc)));
+    let copying = Copying {
+        source,
+        token,
+        target: mem::replace(target, none),
+        contents: body,
+        moment,
+    };
+    put_beside(alloc, caller, desk, copying)
 }
 
 /// Answers what was asked, with the request's body: its token is read under the desk's keys, and then the call is made.
@@ -125,41 +159,28 @@ fn answer_ask<C: Caller>(
     caller: &mut C,
     desk: &Desk,
     last: &mut LastToken,
-    ask: Ask,
+    ask: &mut Ask,
     body: Bytes,
     moment: u64,
 ) -> Result<Answer, Memory>
     requires moment { IsMoment moment }
     requires remembers { Remembers desk.now.keys last.old }
-    ensures tells { Tells (Ruled desk.now ask body moment) C.always (C.sight caller.old) (C.sight caller.new) result }
+    ensures tells { Tells (Ruled desk.now ask.old body moment) C.always (C.sight caller.old) (C.sight caller.new) result }
     ensures basis { C.basis caller.new ≡ C.basis caller.old }
     ensures references { C.references caller.new ≡ C.references caller.old }
     ensures remembers { Remembers desk.now.keys last.new }
 {
-    let Ask { file, token, op } = ask;
-    let Some(token) = last.read(&desk.keys, token) else {
+    let text = mem::replace(&mut ask.token, Bytes::from_vec(Vec::new(alloc)));
+    let Some(token) = last.read(&desk.keys, text) else {
         return Ok(status_only(alloc, 401));
     };
-    match task_of(op, body) {
-        Task::One(act) => {
-            let call = Call {
-                name: file,
-                token,
-                act,
-            };
-            answer_call(alloc, caller, call, moment)
-        }
-        Task::Copy { target, contents } => {
-            let copying = Copying {
-                source: file,
-                token,
-                target,
-                contents,
-                moment,
-            };
-            put_beside(alloc, caller, desk, copying)
-        }
+    if is_copy(&ask.op) {
+        return copy_asked(alloc, caller, desk, ask, token, body, moment);
     }
+    if is_info(&ask.op) {
+        return check_file_info(alloc, caller, ask, token, body, moment);
+    }
+    make_and_tell(alloc, caller, ask, token, body, moment)
 }
 
 /// Answers a request as [`answer`] does. A token with the text of the last one isn't read anew.
@@ -179,7 +200,7 @@ pub(crate) fn answer_again<C: Caller>(
     ensures remembers { Remembers desk.now.keys last.new }
 {
     match ask_of(alloc, &request) {
-        Ok(ask) => answer_ask(alloc, caller, desk, last, ask, request.body, moment),
+        Ok(mut ask) => answer_ask(alloc, caller, desk, last, &mut ask, request.body, moment),
         Err(AskFault::Refused { status }) => Ok(status_only(alloc, status)),
         Err(AskFault::Memory) => Err(Memory),
     }

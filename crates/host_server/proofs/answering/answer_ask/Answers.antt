@@ -1,24 +1,36 @@
+use Rattle.std.proofs.Common.{refl, sym, subst, List, ℕ}
+use Rattle.access_tokens.specs.TokenText.{IsSigned}
 use Rattle.host_server.proofs.TellLemmas.{dead_tells, call_tells, copy_tells}
-use Rattle.std.proofs.Common.{refl}
 use Rattle.host_server.proofs.answering.answer_ask.Goals as goal
 
 pub returns-in_default-clause-tells : goal.returns-in_default-clause-tells
 returns-in_default-clause-tells g c =
-    dead_tells c.args.desk.now c.args.ask c.args.body c.args.moment g.C.Caller.always (g.C.Caller.sight c.args.caller.now) _
-    (λ token signed. let read = (c.read.ensures.exact token).1 signed in absurd (cc)) c.status_only.ensures
+    dead_tells c.args.desk.now c.args.ask.now c.args.body c.args.moment g.C.Caller.always (g.C.Caller.sight c.args.caller.now) _
+    (λ token signed.
+    let shown = subst (λ (t : List ℕ). IsSigned c.args.desk.now.keys t token) (sym c.replace-text.ensures.value) signed in
+    let read = (c.read.ensures.exact token).1 shown in absurd (cc)) c.status_only.ensures
 
-pub returns-in-One-clause-tells : goal.returns-in-One-clause-tells
-returns-in-One-clause-tells g c =
-    call_tells c.args.desk.now c.args.ask c.args.body c.args.moment g.C.Caller.always c.in-Some.token c.in-One.act
-    ((c.in-Some.ensures.exact c.in-Some.token).0 refl) c.in-One.ensures
-    (g.C.Caller.sight c.args.caller.now) (g.C.Caller.sight c.answer_call.new.caller) c.answer_call.result c.answer_call.ensures.tells
+pub returns-then-is_copy-clause-tells : goal.returns-then-is_copy-clause-tells
+returns-then-is_copy-clause-tells g c =
+    let told = c.copy_asked.ensures.tells in
+    let signed = subst (λ (t : List ℕ). IsSigned c.args.desk.now.keys t c.in-Some.token) c.replace-text.ensures.value ((c.in-Some.ensures.exact c.in-Some.token).0 refl) in
+    copy_tells c.args.desk.now c.args.ask.now c.args.body c.args.moment g.C.Caller.always c.in-Some.token told.0 signed told.1 c.args.body refl
+    (g.C.Caller.sight c.args.caller.now) (g.C.Caller.sight c.copy_asked.new.caller) c.copy_asked.result told.2
 
-pub returns-in-Copy-clause-tells : goal.returns-in-Copy-clause-tells
-returns-in-Copy-clause-tells g c =
-    copy_tells c.args.desk.now c.args.ask c.args.body c.args.moment g.C.Caller.always c.in-Some.token c.in-Copy.target
-    ((c.in-Some.ensures.exact c.in-Some.token).0 refl) c.in-Copy.ensures.0 c.in-Copy.contents c.in-Copy.ensures.1
-    (g.C.Caller.sight c.args.caller.now) (g.C.Caller.sight c.put_beside.new.caller) c.put_beside.result c.put_beside.ensures.tells
+pub returns-then-is_info-clause-tells : goal.returns-then-is_info-clause-tells
+returns-then-is_info-clause-tells g c =
+    let told = c.check_file_info.ensures.tells in
+    let signed = subst (λ (t : List ℕ). IsSigned c.args.desk.now.keys t c.in-Some.token) c.replace-text.ensures.value ((c.in-Some.ensures.exact c.in-Some.token).0 refl) in
+    call_tells c.args.desk.now c.args.ask.now c.args.body c.args.moment g.C.Caller.always c.in-Some.token told.0 signed told.1
+    (g.C.Caller.sight c.args.caller.now) (g.C.Caller.sight c.check_file_info.new.caller) c.check_file_info.result told.2
+
+pub returns-clause-tells : goal.returns-clause-tells
+returns-clause-tells g c =
+    let told = c.make_and_tell.ensures.tells in
+    let signed = subst (λ (t : List ℕ). IsSigned c.args.desk.now.keys t c.in-Some.token) c.replace-text.ensures.value ((c.in-Some.ensures.exact c.in-Some.token).0 refl) in
+    call_tells c.args.desk.now c.args.ask.now c.args.body c.args.moment g.C.Caller.always c.in-Some.token told.0 signed told.1
+    (g.C.Caller.sight c.args.caller.now) (g.C.Caller.sight c.make_and_tell.new.caller) c.make_and_tell.result told.2
 
 -- a token that is read can be written
-pub put_beside-requires-clause-asking : goal.put_beside-requires-clause-asking
-put_beside-requires-clause-asking g c = ((c.in-Some.ensures.exact c.in-Some.token).0 refl).3.form
+pub copy_asked-requires-clause-asking : goal.copy_asked-requires-clause-asking
+copy_asked-requires-clause-asking g c = ((c.in-Some.ensures.exact c.in-Some.token).0 refl).3.form
