@@ -1,4 +1,4 @@
-use Rattle.std.proofs.Common.{ap, ◌≡◌, ◌∙◌, arith, max}
+use Rattle.std.proofs.Common.{◌≡◌, ◌∙◌, arith}
 use Rattle.wopi_text.specs.FileName.{shard_of}
 use Rattle.host_table.specs.Views.{pass_of}
 use Rattle.host_table.proofs.Calling.{seat_is, based_call, pass_then, frames_then, same_then, seen_all_then, makes_then, refuses_then, own_then, own_stays_then}
