@@ -3,29 +3,47 @@ ghost use Rattle.std.specs.Prelude.{◌≡◌, ◌↔◌, IsTrue, IsSome, IfSome
 ghost use Rattle.std.specs.List.{list_all};
 ghost use Rattle.wopi_model.specs.User.{IsUser, is_user_byte};
 
-use arrayvec::ArrayVec;
 use std::marker::Model;
 
 /// The most bytes of a user's name.
 const MOST: usize = 64;
 
 /// A user's name: 1 to 64 ASCII letters, digits, `_` and `-`.
-#[derive(PartialEq, Eq, Drop)]
+#[derive(Drop)]
 pub struct User {
-    bytes: ArrayVec<u8, MOST>,
+    len: usize,
+    // The first `len` of them count.
+    bytes: [u8; MOST],
 }
 
 impl Model for User {
-    ghost use Rattle.std.specs.Prelude.{List, ℕ};
+    ghost use Rattle.std.specs.Prelude.{List, ℕ, take, ◌≤◌};
     ghost use Rattle.wopi_model.specs.User.{IsUser};
 
     ghost Value = { List ℕ };
 
-    ghost view = { λ s. s.bytes.items };
+    ghost view = { λ s. take s.len s.bytes };
 
-    ghost invariant = { λ s. IsUser s.bytes.items };
+    ghost invariant = { λ s. IsUser (take s.len s.bytes) × (s.len ≤ 64) };
+}
 
-    ghost inverse = { λ xs. record { bytes = record { items = xs } } };
+impl PartialEq for User {
+    ghost use Rattle.std.specs.Prelude.{nat_eq};
+    ghost use Rattle.std.specs.Cmp.{partial_equiv_from_equiv};
+    ghost use Rattle.std.specs.Cmp.Lexicographic.{pointwise, nat_list_eq_equiv};
+
+    ghost eq = { pointwise nat_eq };
+    ghost laws = { partial_equiv_from_equiv nat_list_eq_equiv };
+
+    fn eq(&self, other: &User) -> bool {
+        self.as_slice() == other.as_slice()
+    }
+}
+
+impl Eq for User {
+    ghost use Rattle.std.specs.Cmp.Lexicographic.{nat_list_eq_equiv};
+
+    ghost laws = { nat_list_eq_equiv };
 }
 
 impl User {
@@ -37,9 +55,12 @@ impl User {
         if !is_user(bytes) {
             return None;
         }
-        let mut inline = ArrayVec::new();
-        let _fits = inline.try_extend_from_slice(bytes);
-        Some(User { bytes: inline })
+        let mut inline = [0u8; MOST];
+        inline[..bytes.len()].copy_from_slice(bytes);
+        Some(User {
+            len: bytes.len(),
+            bytes: inline,
+        })
     }
 
     /// The letters of the name.
@@ -47,16 +68,17 @@ impl User {
         ensures value { result.now ≡ self.now }
         ensures form { IsUser self.now }
     {
-        self.bytes.as_slice()
+        &self.bytes[..self.len]
     }
 
     /// An equal name. It takes no memory.
     pub fn copy(&self) -> User
         ensures { result ≡ self.now }
     {
-        let mut inline = ArrayVec::new();
-        let _fits = inline.try_extend_from_slice(self.bytes.as_slice());
-        User { bytes: inline }
+        User {
+            len: self.len,
+            bytes: self.bytes,
+        }
     }
 }
 

@@ -5,7 +5,6 @@ ghost use Rattle.std.specs.Str.{chars};
 ghost use Rattle.wopi_text.specs.FileName.{IsFileName, is_name_char, forbidden, shard_of};
 
 use crate::BadName;
-use arrayvec::ArrayVec;
 use std::marker::Model;
 
 /// The most bytes of a file's name.
@@ -16,22 +15,42 @@ const SHARDS: u32 = 16;
 
 /// A file's name: 1 to 128 bytes of UTF-8 without control characters and without the characters
 /// that file systems keep for themselves, with no leading period and no closing period or space.
-#[derive(PartialEq, Eq, Drop)]
+#[derive(Drop)]
 pub struct FileName {
-    bytes: ArrayVec<u8, NAME_LIMIT>,
+    len: usize,
+    // The first `len` of them count.
+    bytes: [u8; NAME_LIMIT],
 }
 
 impl Model for FileName {
-    ghost use Rattle.std.specs.Prelude.{List, ℕ};
+    ghost use Rattle.std.specs.Prelude.{List, ℕ, take, ◌≤◌};
     ghost use Rattle.wopi_text.specs.FileName.{IsFileName};
 
     ghost Value = { List ℕ };
 
-    ghost view = { λ s. s.bytes.items };
+    ghost view = { λ s. take s.len s.bytes };
 
-    ghost invariant = { λ s. IsFileName s.bytes.items };
+    ghost invariant = { λ s. IsFileName (take s.len s.bytes) × (s.len ≤ 128) };
+}
 
-    ghost inverse = { λ xs. record { bytes = record { items = xs } } };
+impl PartialEq for FileName {
+    ghost use Rattle.std.specs.Prelude.{nat_eq};
+    ghost use Rattle.std.specs.Cmp.{partial_equiv_from_equiv};
+    ghost use Rattle.std.specs.Cmp.Lexicographic.{pointwise, nat_list_eq_equiv};
+
+    ghost eq = { pointwise nat_eq };
+
+    ghost laws = { partial_equiv_from_equiv nat_list_eq_equiv };
+
+    fn eq(&self, other: &FileName) -> bool {
+        self.as_slice() == other.as_slice()
+    }
+}
+
+impl Eq for FileName {
+    ghost use Rattle.std.specs.Cmp.Lexicographic.{nat_list_eq_equiv};
+
+    ghost laws = { nat_list_eq_equiv };
 }
 
 impl FileName {
@@ -43,9 +62,12 @@ impl FileName {
         if !is_file_name(bytes) {
             return Err(BadName);
         }
-        let mut inline = ArrayVec::new();
-        let _fits = inline.try_extend_from_slice(bytes);
-        Ok(FileName { bytes: inline })
+        let mut inline = [0u8; NAME_LIMIT];
+        inline[..bytes.len()].copy_from_slice(bytes);
+        Ok(FileName {
+            len: bytes.len(),
+            bytes: inline,
+        })
     }
 
     /// The name as UTF-8.
@@ -53,7 +75,7 @@ impl FileName {
         ensures value { result.now ≡ self.now }
         ensures form { IsFileName self.now }
     {
-        self.bytes.as_slice()
+        &self.bytes[..self.len]
     }
 
     /// The name as text.
@@ -72,7 +94,7 @@ impl FileName {
     pub fn shard(&self) -> u8
         ensures { result ≡ shard_of self.now }
     {
-        let total: u32 = self.bytes.as_slice().iter().map(|b| u32::from(*b)).sum();
+        let total: u32 = self.as_slice().iter().map(|b| u32::from(*b)).sum();
         (total % SHARDS) as u8
     }
 
@@ -80,9 +102,10 @@ impl FileName {
     pub fn copy(&self) -> FileName
         ensures { result ≡ self.now }
     {
-        let mut inline = ArrayVec::new();
-        let _fits = inline.try_extend_from_slice(self.bytes.as_slice());
-        FileName { bytes: inline }
+        FileName {
+            len: self.len,
+            bytes: self.bytes,
+        }
     }
 }
 
