@@ -1,12 +1,12 @@
 -- What is known of a text that was read before.
-use Rattle.std.proofs.Common.{◌≡◌, List, ℕ, Option, None, Some, Ok, Err, ap, subst}
-use Rattle.std.specs.Prelude.{◌↔◌}
+use Rattle.std.proofs.Common.{◌≡◌, List, ℕ, None, Some, Ok, Err, ap, subst}
+use Rattle.std.specs.Prelude.{◌↔◌, Bool, true, false, cond, [], ◌∷◌, ◌++◌}
+use Rattle.std.specs.List.{All}
+use Rattle.std.proofs.lemmas.List.Elements.{All-push}
 use Rattle.wopi_model.specs.declared.token.Token.{Token}
-use Rattle.access_tokens.specs.Remembering.{IsKnown, MayBeKnown}
 use Rattle.access_tokens.specs.TokenText.{IsSigned}
 use Rattle.access_tokens.specs.declared.keys.Keys.{Keys}
 use Rattle.access_tokens.specs.declared.reading.TokenFault.{TokenFault}
-use Rattle.access_tokens.specs.declared.remembering.Known.{Known}
 use Rattle.access_tokens.proofs.Readings.{one_reading}
 
 same_token : (first second : Token) → Some first ≡ Some second → first ≡ second
@@ -25,5 +25,7 @@ pub signed_never : (keys : Keys) (text : List ℕ) (fault : TokenFault) → ((to
     → (token : Token) → (None ≡ Some token) ↔ IsSigned keys text token
 signed_never keys text fault exact token = (λ e. cc e, λ signed. let e : Err fault ≡ Ok token = (exact token).1 signed in absurd (cc e))
 
-pub known_is : (keys : Keys) (kept : Option Known) (known : Known) → kept ≡ Some known → MayBeKnown keys kept → IsKnown keys known
-known_is keys kept known e remembered = subst (MayBeKnown keys) e remembered
+-- what holds of each element holds once another one was added, or was not
+pub all_pushed : {X : Type 0} (P : X → Type 0) (fits : Bool) (xs : List X) (x : X) → All P xs → P x → All P (cond fits (xs ++ x ∷ []) xs)
+all_pushed P true xs x all one = All-push P xs x all one
+all_pushed P false xs x all one = all

@@ -13,7 +13,7 @@
 //! whose number it has, where its text has the form, that key is in force and its code is right.
 //! [`live`] says whether a token that was read counts at a moment: what it allows is for the caller to
 //! judge. A text has one reading at most, and what is minted of a token with legal moments is read back
-//! (the functions of [`laws`]). [`LastToken`] spares a text its code that is read again and again. [`may_write`] and [`moment_read`] read single fields. Nothing but
+//! (the functions of [`laws`]). [`RecentTokens`] spares a text its code that was read before. [`may_write`] and [`moment_read`] read single fields. Nothing but
 //! [`mint`] takes memory.
 #![tactic(auto)]
 
@@ -39,7 +39,7 @@ pub use mac::hmac;
 pub use minting::mint;
 pub use numbers::moment_read;
 pub use reading::{TokenFault, read};
-pub use remembering::LastToken;
+pub use remembering::RecentTokens;
 pub use wopi_model::{Token, User};
 
 #[cfg(test)]

@@ -1,14 +1,25 @@
-//! The token that was read last.
-ghost use Rattle.std.specs.Prelude.{◌≡◌, ◌↔◌, Some};
+//! The tokens that were read of late.
+ghost use Rattle.std.specs.List.{All};
+ghost use Rattle.std.specs.Prelude.{◌≡◌, ◌↔◌, Some, IfSome};
 ghost use Rattle.wopi_model.specs.declared.token.Token.{Token};
-ghost use Rattle.access_tokens.specs.Remembering.{Remembers};
+ghost use Rattle.access_tokens.specs.Remembering.{IsKnown, Remembers};
 ghost use Rattle.access_tokens.specs.TokenText.{IsSigned};
 ghost use Rattle.access_tokens.specs.declared.keys.Keys.{Keys};
 
 use crate::Keys;
 use crate::reading::{are_equal, read};
+use std::alloc::Global;
 use wopi_model::Token;
 use wopi_text::Bytes;
+
+/// The most texts that are remembered.
+const MOST: usize = 64;
+
+/// How many marks texts have.
+const MARKS: usize = 256;
+
+/// How many of a text's last bytes its mark is made of.
+const MARKED: usize = 4;
 
 /// A text and the token that it has.
 #[derive(Drop)]
@@ -17,38 +28,90 @@ struct Known {
     token: Token,
 }
 
-/// The token that was read last, and its text. Who shows the same text again is spared its code: that
-/// costs a comparison. It serves the keys that it was made for.
+/// The last 64 tokens that were read, and their texts. Who shows such a text again is spared its code: that
+/// costs one comparison, with the last of the texts that had its mark. They serve the keys under which
+/// they were read.
 #[derive(Drop)]
-pub struct LastToken {
-    known: Option<Known>,
+pub struct RecentTokens {
+    known: Vec<Known>,
+    /// The place that the next one takes, from the oldest where there are 64.
+    next: usize,
+    /// The place of the last text of each mark. A wrong one costs time and nothing else.
+    places: [u8; MARKS],
 }
 
-impl LastToken {
-    /// Nothing was read yet under these keys.
-    pub fn new(_keys: &Keys) -> LastToken
-        ensures { Remembers _keys.now result }
+/// A text's mark, made of its last bytes, which are those of its code.
+fn mark_of(text: &[u8]) -> u8 {
+    text.iter()
+        .rev()
+        .take(MARKED)
+        .fold(0u8, |mark, byte| mark.wrapping_mul(31) ^ *byte)
+}
+
+impl RecentTokens {
+    /// Nothing was read yet. It takes no memory.
+    pub fn new(alloc: Global) -> RecentTokens
+        ensures { (keys : Keys) → Remembers keys result }
     {
-        LastToken { known: None }
+        RecentTokens {
+            known: Vec::new(alloc),
+            next: 0,
+            places: [0; MARKS],
+        }
     }
 
-    /// The token with this text under the keys, if there is one. It takes no memory, and keeps the text
-    /// of a token.
+    /// The token with this text under the keys, if there is one. It keeps the text of a token, where there is
+    /// memory for it.
     pub fn read(&mut self, keys: &Keys, text: Bytes) -> Option<Token>
         requires { Remembers keys.now self.old }
         ensures exact { (token : Token) → (result ≡ Some token) ↔ IsSigned keys.now text token }
         ensures remembers { Remembers keys.now self.new }
     {
-        if let Some(known) = &self.known {
-            if are_equal(known.text.as_slice(), text.as_slice()) {
-                return Some(known.token.copy());
-            }
+        let mark = mark_of(text.as_slice());
+        if let Some(token) = self.find(mark, text.as_slice()) {
+            return Some(token);
         }
         let Ok(token) = read(keys, text.as_slice()) else {
             return None;
         };
         let kept = token.copy();
-        self.known = Some(Known { text, token: kept });
+        self.keep(mark, Known { text, token: kept });
         Some(token)
+    }
+
+    /// The token of the text, where it is the last one of its mark that is remembered.
+    fn find(&self, mark: u8, text: &[u8]) -> Option<Token>
+        ensures { (keys : Keys) → Remembers keys self.now → IfSome result (λ token. IsSigned keys text.now token) }
+    {
+        let place = self.places[usize::from(mark)];
+        match self.known.get(usize::from(place)) {
+            Some(known) if are_equal(known.text.as_slice(), text) => Some(known.token.copy()),
+            _ => None,
+        }
+    }
+
+    /// Remembers one more, in the place of the oldest where there are 64.
+    fn keep(&mut self, mark: u8, known: Known)
+        ensures { (keys : Keys) → Remembers keys self.old → IsKnown keys known → Remembers keys self.new }
+    {
+        let place = self.next % MOST;
+        if put(&mut self.known, place, known) {
+            self.next = place + 1;
+            self.places[usize::from(mark)] = place as u8;
+        }
+    }
+}
+
+/// Puts it at a place of the list, or at its end where the list is shorter, and says whether there was memory for it.
+fn put(list: &mut Vec<Known>, place: usize, known: Known) -> bool
+    ensures { (keys : Keys) → All (IsKnown keys) list.old.items → IsKnown keys known → All (IsKnown keys) list.new.items }
+{
+    if place < list.len() {
+        list[place] = known;
+        return true;
+    }
+    match list.push(known) {
+        Ok(()) => true,
+        Err(_) => false,
     }
 }

@@ -1,6 +1,6 @@
 ghost use Rattle.access_tokens.specs.Remembering.{Remembers};
 
-use crate::{Key, Keys, LastToken, Token, TokenFault, User, hmac, live, mint, read};
+use crate::{Key, Keys, RecentTokens, Token, TokenFault, User, hmac, live, mint, read};
 use std::alloc::Global;
 use std::test::Fail;
 use wopi_text::{Bytes, FileName};
@@ -214,28 +214,42 @@ fn a_token_is_live_from_the_opening_until_it_expires(rt: HostRuntime) -> Result<
     Ok(())
 }
 
-/// Whether a text has a token, read by one who remembers the last.
-fn is_read(alloc: Global, last: &mut LastToken, keys: &Keys, text: &str) -> Result<bool, Fail>
-    requires { Remembers keys.now last.old }
-    ensures { Remembers keys.now last.new }
+/// Whether a text has a token, read by one who remembers.
+fn is_read(alloc: Global, recent: &mut RecentTokens, keys: &Keys, text: &str) -> Result<bool, Fail>
+    requires { Remembers keys.now recent.old }
+    ensures { Remembers keys.now recent.new }
 {
     let text = Bytes::from_slice(alloc, text.as_bytes())?;
-    Ok(last.read(keys, text).is_some())
+    Ok(recent.read(keys, text).is_some())
 }
 
 #[test]
 fn a_text_shown_again_is_read_again_and_no_other_for_it(rt: HostRuntime) -> Result<(), Fail> {
     let alloc = rt.alloc();
     let keys = keys(b"0:4a656665,255:6b")?;
-    let mut last = LastToken::new(&keys);
-    assert!(rt; is_read(alloc, &mut last, &keys, TEXT)?);
-    assert!(rt; is_read(alloc, &mut last, &keys, TEXT)?);
+    let mut recent = RecentTokens::new(alloc);
+    assert!(rt; is_read(alloc, &mut recent, &keys, TEXT)?);
+    assert!(rt; is_read(alloc, &mut recent, &keys, TEXT)?);
     let other = TEXT.replace(alloc, ".w.", ".r.")?;
-    assert!(rt; !is_read(alloc, &mut last, &keys, &other)?);
+    assert!(rt; !is_read(alloc, &mut recent, &keys, &other)?);
     let forged = TEXT.replace(alloc, "1e48", "1e49")?;
-    assert!(rt; !is_read(alloc, &mut last, &keys, &forged)?);
-    assert!(rt; !is_read(alloc, &mut last, &keys, SIGNED)?);
-    assert!(rt; is_read(alloc, &mut last, &keys, LAST_TEXT)?);
-    assert!(rt; is_read(alloc, &mut last, &keys, TEXT)?);
+    assert!(rt; !is_read(alloc, &mut recent, &keys, &forged)?);
+    assert!(rt; !is_read(alloc, &mut recent, &keys, SIGNED)?);
+    assert!(rt; is_read(alloc, &mut recent, &keys, LAST_TEXT)?);
+    assert!(rt; is_read(alloc, &mut recent, &keys, TEXT)?);
+    Ok(())
+}
+
+#[test]
+fn more_texts_than_are_remembered_are_all_read(rt: HostRuntime) -> Result<(), Fail> {
+    let alloc = rt.alloc();
+    let keys = keys(WORD)?;
+    let mut recent = RecentTokens::new(alloc);
+    'numbers: for number in 0u64..140 {
+        let mut token = token(true)?;
+        token.serial = number % 70;
+        let text = mint(alloc, &keys, &token)?;
+        assert!(rt; recent.read(&keys, text).is_some());
+    }
     Ok(())
 }
