@@ -3,10 +3,10 @@
 
     scripts/long_journals.py PROGRAM
 
-PROGRAM is the built program, as crates/mokdrai/out/mokdrai. Each journal is of the former form: one of nearly
+PROGRAM is the built program, as crates/mokdrai/out/mokdrai. Each journal is of the first form: one of nearly
 268,435,456 bytes with few large saves, one of 524,288 short entries (the most), one of as many that are longer, and one
 of a million small opening files.
-What is written has to be the same journal in today's form, which `upgrade` leaves as it is. One byte more than the
+What is written has to be the same journal in the second form, which `upgrade` leaves as it is. One byte more than the
 limit has to end with 13 and one line on the notes, one entry more and a journal whose last line is missing with 7
 and the number of the line. It is no part of the gate.
 """
@@ -30,7 +30,7 @@ def must(holds, what):
 
 
 def entry(number, act, token=TOKEN, contents="-", told="-"):
-    """A line, up to the moment and behind it: today's form has the shard's time between the two."""
+    """A line, up to the moment and behind it: the second form has the shard's time between the two."""
     return f"{number} 11 0 5", f"{FILE} {act} {token} 200 - - {told} {contents}"
 
 
@@ -48,7 +48,7 @@ def long(number):
 
 
 def write_files(path, count):
-    """A journal of opening files alone, in the former form, and what it has to become."""
+    """A journal of opening files alone, in the first form, and what it has to become."""
     names = (b"%07d" % number for number in range(count))
     rows = b"".join(b"file %s 31\n" % name.hex().encode() for name in sorted(names, key=lambda name: (sum(name) % 16, name)))
     with open(path, "wb") as old, open(path + ".new", "wb") as new:
@@ -57,7 +57,7 @@ def write_files(path, count):
 
 
 def write(path, line, count, behind=b"end\n"):
-    """The former form, and what it has to become."""
+    """The first form, and what it has to become."""
     with open(path, "wb") as old, open(path + ".new", "wb") as new:
         old.write(b"wopi journal 1 opened 0\n")
         new.write(b"wopi journal 2 opened 0 first 1\n")
@@ -99,7 +99,7 @@ def is_upgraded(program, room, what, text):
     must((status, notes) == (0, b""), f"{what}: status {status}, {notes}")
     must(same(out, path + ".new"), f"{what}: another text")
     if os.path.getsize(out) <= MOST:
-        must(upgrade(program, out, again)[0] == 0 and same(again, out), f"{what}: today's form changed")
+        must(upgrade(program, out, again)[0] == 0 and same(again, out), f"{what}: the second form changed")
     print(f"{what}: {size:,} bytes, {seconds:.1f} seconds, {most:,.0f} MiB at most, {most * 2**20 / size:.1f} times its size")
 
 

@@ -132,7 +132,7 @@ SCHEDULE = (b"file 612e637376 312c320a\nsession 612e637376 n 9000000\nopen 1\nde
             b"deliver 3 0\nanswer 3\nsave 1 41\nlose 1\nlose 1\nlose 1\nsave 1 42\ndeliver 7 10\nanswer 4\ndeliver 8 11\n"
             b"answer 5\ndeliver 4 12\n")
 SCRIPT = b"open\nset 1 2 9\nsave\nset 1 1 7\nsave\nclose\n"
-LAST_YEAR = b"""wopi journal 1 opened 0
+FIRST_FORM = b"""wopi journal 1 opened 0
 file 612e637376 312c320a
 1 11 0 5 612e637376 lock 4c31 ann.612e637376.w.2.0.9000000 200 - - v1 -
 2 11 0 9 612e637376 put 4c31 2 ann.612e637376.w.2.0.9000000 200 - - v2 3432
@@ -335,9 +335,9 @@ def written(room):
 
 
 def upgraded(room):
-    status, output, notes = room.run(["upgrade"], LAST_YEAR)
+    status, output, notes = room.run(["upgrade"], FIRST_FORM)
     is_told(status, notes, (0, 3, 4, 6))
-    whole = room.run(["upgrade"], LAST_YEAR, refusing=False)[1]
+    whole = room.run(["upgrade"], FIRST_FORM, refusing=False)[1]
     must(whole.startswith(b"wopi journal 2 ") and whole.startswith(output), f"another journal: {output[:80]}")
     must(status != 0 or output == whole, "status 0, and a part of the journal")
     must(status != 6 or not output, "want of memory after a part of the journal")
