@@ -97,6 +97,14 @@ impl Versions {
         Ok(self.list.reserve(n)?)
     }
 
+    /// Gives up the room that no version takes. Where the allocator refuses a smaller piece, the room stays.
+    pub fn shrink_to_fit(&mut self)
+        ensures list { self.new.list ≡ self.old.list }
+        ensures spare { self.new.spare ≤ self.old.spare }
+    {
+        self.list.shrink_to_fit();
+    }
+
     /// Keeps the contents of a version that isn't kept yet. An `Err` leaves the list.
     pub fn add(&mut self, number: u32, version: u64, contents: Bytes) -> Result<(), AddFault>
         requires { found self.old.list number version ≡ None }
@@ -241,6 +249,22 @@ mod tests {
         assert_eq!(rt; versions.len(), 1);
         let held = versions.near(0, 0, 1).ok_or("a version")?;
         assert_eq!(rt; held.as_slice(), b"x".as_slice());
+        Ok(())
+    }
+
+    #[test]
+    fn room_that_is_given_up_takes_no_version_along(rt: HostRuntime) -> Result<(), Fail> {
+        let alloc = rt.alloc();
+        let mut versions = Versions::new(alloc);
+        versions.reserve(64)?;
+        let added = versions.add(0, 1, bytes(alloc, b"x")?);
+        assert!(rt; matches!(added, Ok(())));
+        versions.shrink_to_fit();
+        let held = versions.at(0, 1).ok_or("a version")?;
+        assert_eq!(rt; held.as_slice(), b"x".as_slice());
+        let next = versions.add(0, 2, bytes(alloc, b"y")?);
+        assert!(rt; matches!(next, Ok(())));
+        assert_eq!(rt; versions.len(), 2);
         Ok(())
     }
 }
