@@ -363,20 +363,24 @@ impl<F: Folder> Shard<F> {
         }
     }
 
-    /// Gives the folder as the last step left it, and what the shard leaves. It takes no memory.
+    /// Gives the folder as the last step left it, and what the shard leaves. It needs no memory. Room that nothing
+    /// took is given up, and where the allocator refuses a smaller piece it stays with what is left.
     pub fn end(self) -> (F, Past<F>)
         ensures folder { result.0 ≡ self.folder }
         ensures past { result.1 ≡ record { opening = self.opening; made = self.made; start = self.start } }
         ensures lawful { IsLawful self (F.files self.start) (F.files self.folder) (F.faults self.start) (F.faults self.folder) }
     {
         let Shard {
-            ledger,
+            mut ledger,
             folder,
             ticked: _ticked,
             only: _only,
             start,
             opening,
         } = self;
+        ledger.files.shrink_to_fit();
+        ledger.versions.shrink_to_fit();
+        ledger.entries.shrink_to_fit();
         let past = Past {
             first: ledger.first,
             first_files: ledger.first_files,
