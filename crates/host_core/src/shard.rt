@@ -147,6 +147,7 @@ impl<F: Folder> Shard<F> {
     /// One act on one file at a moment, in milliseconds: the call is judged, stored and recorded. It gives the
     /// entry's stamp, which is one more than the greater of the last one and the floor, the ruling, and the contents
     /// of a Put or Create that weren't accepted. An `Err` leaves all but the folder's count of faults as it was, and hands the call back.
+    #[inline(always)]
     pub fn step(
         &mut self,
         call: Call,
