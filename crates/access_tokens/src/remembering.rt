@@ -13,7 +13,7 @@ use wopi_model::Token;
 use wopi_text::Bytes;
 
 /// The most texts that are remembered.
-const MOST: usize = 64;
+const MOST: u8 = 64;
 
 /// How many marks texts have.
 const MARKS: usize = 256;
@@ -34,8 +34,8 @@ struct Known {
 #[derive(Drop)]
 pub struct RecentTokens {
     known: Vec<Known>,
-    /// The place that the next one takes, from the oldest where there are 64.
-    next: usize,
+    /// The place that the next one with a new mark takes, from the oldest where there are 64.
+    next: u8,
     /// The place of the last text of each mark. A wrong one costs time and nothing else.
     places: [u8; MARKS],
 }
@@ -90,14 +90,28 @@ impl RecentTokens {
         }
     }
 
-    /// Remembers one more, in the place of the oldest where there are 64.
+    /// Remembers one more, in the place of the one with its mark, or of the oldest where there are 64.
     fn keep(&mut self, mark: u8, known: Known)
         ensures { (keys : Keys) → Remembers keys self.old → IsKnown keys known → Remembers keys self.new }
     {
-        let place = self.next % MOST;
-        if put(&mut self.known, place, known) {
-            self.next = place + 1;
-            self.places[usize::from(mark)] = place as u8;
+        let place = self.place_for(mark);
+        if put(&mut self.known, usize::from(place), known) {
+            self.places[usize::from(mark)] = place;
+        }
+    }
+
+    /// The place of the text with this mark, so that only texts of one mark push each other out; else the next one.
+    fn place_for(&mut self, mark: u8) -> u8
+        ensures { self.new.known.items ≡ self.old.known.items }
+    {
+        let place = self.places[usize::from(mark)];
+        match self.known.get(usize::from(place)) {
+            Some(known) if mark_of(known.text.as_slice()) == mark => place,
+            _ => {
+                let next = self.next;
+                self.next = next.wrapping_add(1) % MOST;
+                next
+            }
         }
     }
 }
