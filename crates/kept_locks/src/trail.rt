@@ -123,9 +123,9 @@ pub fn spend_now(
     }
 }
 
-/// Whether an id is spent on the file, and still refused at that moment. The chain is looked at only
-/// where the moment is before the last step and the chain is purged.
-pub fn refuses_on(
+/// Whether an id of a chain is still refused at that moment. The chain itself is looked at only where the moment is before
+/// the last step and the chain is purged.
+fn refuses_chained(
     chains: &SpentChains,
     index: &HashMap<SpentOn, u64>,
     file: u32,
@@ -144,4 +144,24 @@ pub fn refuses_on(
         return chains.refuses(trail.chain, id, now);
     }
     is_refused(index, file, id, trail.as_of)
+}
+
+/// Whether an id is spent on the file, and still refused at that moment. Where the file has no chain, the index isn't
+/// asked.
+pub fn refuses_on(
+    chains: &SpentChains,
+    index: &HashMap<SpentOn, u64>,
+    file: u32,
+    trail: Trail,
+    id: &LockId,
+    now: u64,
+) -> bool
+    requires live { IsLive chains.now trail.chain }
+    requires tells { Tells (refused_by index.now file) chains.now trail }
+    ensures { result ≡ is_spent (still_spent (shown_of chains.now trail) now) id.now }
+{
+    match trail.chain {
+        None => return false,
+        Some(_) => return refuses_chained(chains, index, file, trail, id, now),
+    }
 }

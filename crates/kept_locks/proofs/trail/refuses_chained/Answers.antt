@@ -3,7 +3,7 @@ use Rattle.wopi_model.specs.Act.{is_spent}
 use Rattle.wopi_model.specs.declared.locks.Spent.{Spent}
 use Rattle.expiry_queue.specs.Chains.{spent_of}
 use Rattle.kept_locks.proofs.Trails.{shown_later, shown_early}
-use Rattle.kept_locks.proofs.trail.refuses_on.Goals as goal
+use Rattle.kept_locks.proofs.trail.refuses_chained.Goals as goal
 
 pub returns-then-trail-now : goal.returns-then-trail-now
 returns-then-trail-now c =
