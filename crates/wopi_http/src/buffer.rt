@@ -2,7 +2,10 @@
 ghost use Rattle.std.specs.Prelude.{◌≡◌, ◌≤◌, ◌<◌, ◌+◌, ◌-◌, [], ◌++◌, IfOk, OnOk, OnErr, length, take, drop, vec_len, vec_capacity};
 ghost use Rattle.std.specs.Io.KnownBytes.{Consumes, Keeps, IsAtEnd, prepend_known};
 ghost use Rattle.outside.specs.Faults.{Rose};
+ghost use Rattle.wopi_http.specs.HeadReads.{HeadSays};
 
+use crate::head::{FIELD_LIMIT, HeadRead, read_head};
+use httparse::spans::{EMPTY_HEADER_SPAN, HeaderSpan};
 use outside::{Failed, Source};
 use std::alloc::Global;
 use std::marker::Model;
@@ -23,6 +26,8 @@ pub struct Buffer {
     space: Vec<u8>,
     at: usize,
     end: usize,
+    // The place of the spans of a head while it is read.
+    headers: [HeaderSpan; FIELD_LIMIT],
 }
 
 impl Model for Buffer {
@@ -47,6 +52,7 @@ impl Buffer {
             space,
             at: 0,
             end: 0,
+            headers: [EMPTY_HEADER_SPAN; FIELD_LIMIT],
         })
     }
 
@@ -67,6 +73,18 @@ impl Buffer {
         ensures { result.now ≡ self.now }
     {
         &self.space[self.at..self.end]
+    }
+
+    /// Looks for a head at the front of what is there.
+    pub(crate) fn head(&mut self) -> Result<HeadRead, Memory>
+        ensures says { IfOk result (HeadSays self.old) }
+        ensures same { self.new ≡ self.old }
+    {
+        read_head(
+            self.alloc,
+            &self.space[self.at..self.end],
+            &mut self.headers,
+        )
     }
 
     /// Takes the first n bytes off.
