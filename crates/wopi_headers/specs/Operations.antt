@@ -1,5 +1,5 @@
 -- Which operation a request asks for, and why a request asks for none (MS-WOPI; the order of the refusals is own).
-use Rattle.std.specs.Prelude.{ℕ, ◌≡◌, Bool, List, Some, None, Result, Ok, Err, ⊤}
+use Rattle.std.specs.Prelude.{ℕ, ◌≡◌, Bool, List, Option, Some, None, Result, Ok, Err, ⊤}
 use Rattle.wopi_http.specs.declared.message.Field.{Field}
 use Rattle.wopi_http.specs.declared.message.Request.{Request}
 use Rattle.wopi_http.specs.Fields.{count_named}
@@ -59,3 +59,9 @@ abbrev pub IsAnswerTo : Request → Result Ask AskFault → Type 0
 IsAnswerTo q (Ok a) = AsksFor q a
 IsAnswerTo q (Err (Refused s)) = IsRefusal q s
 IsAnswerTo q (Err Memory) = ⊤
+
+-- What is answered where an ask is put into a place, and what stands there then.
+abbrev pub IsAnswerIn : Request → Result (Unit {0}) AskFault → Option Ask → Type 0
+IsAnswerIn q (Ok done) (Some a) = AsksFor q a
+IsAnswerIn q (Ok done) None = ⊥
+IsAnswerIn q (Err fault) place = IsAnswerTo q (Err fault)

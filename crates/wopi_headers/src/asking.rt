@@ -1,11 +1,11 @@
 //! Requests read as operations. What is asked is made once, by the function of its row, in the place
-//! where it stays: lock ids stand inline, and each move of one would copy them whole.
-ghost use Rattle.std.specs.Prelude.{Ok, ◌≡◌, ◌↔◌, false, IsTrue};
+//! that the caller has for it: lock ids stand inline, and each move of one would copy them whole.
+ghost use Rattle.std.specs.Prelude.{Ok, Some, ◌≡◌, ◌↔◌, false, IsTrue};
 ghost use Rattle.wopi_headers.specs.declared.ask.Op.{Op};
 ghost use Rattle.wopi_headers.specs.declared.row.Row.TheVariants.{Lock, GetFile, PutFile, RefreshLock, Unlock, PutRelativeFile};
 ghost use Rattle.wopi_headers.specs.Readings.{lock_name, old_lock_name, IsMissing};
 ghost use Rattle.wopi_headers.specs.Rows.{has_two_targets};
-ghost use Rattle.wopi_headers.specs.Operations.{HasOneOverride, IsAnswerTo};
+ghost use Rattle.wopi_headers.specs.Operations.{HasOneOverride, IsAnswerIn, IsAnswerTo};
 ghost use Rattle.wopi_headers.specs.RowReads.{IsRead, IsRowIn};
 
 use crate::ask::{Ask, AskFault, Op};
@@ -29,9 +29,14 @@ fn has_one_override(row: Row, fields: &[Field]) -> bool
 }
 
 /// A lock that is taken in place of an old one.
-fn ask_relock(file: FileName, token: Bytes, fields: &[Field]) -> Result<Ask, AskFault>
+fn ask_relock(
+    file: FileName,
+    token: Bytes,
+    fields: &[Field],
+    place: &mut Option<Ask>,
+) -> Result<(), AskFault>
     requires { ¬ (IsMissing old_lock_name fields.now) }
-    ensures { IsRead Lock file token fields.now result }
+    ensures { IsRead Lock file token fields.now result place.new }
 {
     let Some(id) = lock_named(fields, b"X-WOPI-Lock") else {
         return Err(AskFault::Refused { status: 400 });
@@ -39,140 +44,190 @@ fn ask_relock(file: FileName, token: Bytes, fields: &[Field]) -> Result<Ask, Ask
     let Some(old) = lock_named(fields, b"X-WOPI-OldLock") else {
         return Err(AskFault::Refused { status: 400 });
     };
-    Ok(Ask {
+    *place = Some(Ask {
         file,
         token,
         op: Op::Relock { old, id },
-    })
+    });
+    Ok(())
 }
 
 /// A lock that is taken, in place of an old one where the fields name one.
-fn ask_lock(file: FileName, token: Bytes, fields: &[Field]) -> Result<Ask, AskFault>
-    ensures { IsRead Lock file token fields.now result }
+fn ask_lock(
+    file: FileName,
+    token: Bytes,
+    fields: &[Field],
+    place: &mut Option<Ask>,
+) -> Result<(), AskFault>
+    ensures { IsRead Lock file token fields.now result place.new }
 {
     if !is_missing(fields, b"X-WOPI-OldLock") {
-        return ask_relock(file, token, fields);
+        return ask_relock(file, token, fields, place);
     }
     let Some(id) = lock_named(fields, b"X-WOPI-Lock") else {
         return Err(AskFault::Refused { status: 400 });
     };
-    Ok(Ask {
+    *place = Some(Ask {
         file,
         token,
         op: Op::Lock { id },
-    })
+    });
+    Ok(())
 }
 
-fn ask_get(file: FileName, token: Bytes, fields: &[Field]) -> Result<Ask, AskFault>
-    ensures { IsRead GetFile file token fields.now result }
+fn ask_get(
+    file: FileName,
+    token: Bytes,
+    fields: &[Field],
+    place: &mut Option<Ask>,
+) -> Result<(), AskFault>
+    ensures { IsRead GetFile file token fields.now result place.new }
 {
     let Some(most) = most_named(fields) else {
         return Err(AskFault::Refused { status: 400 });
     };
-    Ok(Ask {
+    *place = Some(Ask {
         file,
         token,
         op: Op::Get { most },
-    })
+    });
+    Ok(())
 }
 
 /// A write under a lock.
-fn ask_locked_put(file: FileName, token: Bytes, fields: &[Field]) -> Result<Ask, AskFault>
+fn ask_locked_put(
+    file: FileName,
+    token: Bytes,
+    fields: &[Field],
+    place: &mut Option<Ask>,
+) -> Result<(), AskFault>
     requires { ¬ (IsMissing lock_name fields.now) }
-    ensures { IsRead PutFile file token fields.now result }
+    ensures { IsRead PutFile file token fields.now result place.new }
 {
     let Some(id) = lock_named(fields, b"X-WOPI-Lock") else {
         return Err(AskFault::Refused { status: 400 });
     };
-    Ok(Ask {
+    *place = Some(Ask {
         file,
         token,
         op: Op::Put { lock: Some(id) },
-    })
+    });
+    Ok(())
 }
 
-fn ask_put(file: FileName, token: Bytes, fields: &[Field]) -> Result<Ask, AskFault>
-    ensures { IsRead PutFile file token fields.now result }
+fn ask_put(
+    file: FileName,
+    token: Bytes,
+    fields: &[Field],
+    place: &mut Option<Ask>,
+) -> Result<(), AskFault>
+    ensures { IsRead PutFile file token fields.now result place.new }
 {
     if !is_missing(fields, b"X-WOPI-Lock") {
-        return ask_locked_put(file, token, fields);
+        return ask_locked_put(file, token, fields, place);
     }
-    Ok(Ask {
+    *place = Some(Ask {
         file,
         token,
         op: Op::Put { lock: None },
-    })
+    });
+    Ok(())
 }
 
-fn ask_refresh(file: FileName, token: Bytes, fields: &[Field]) -> Result<Ask, AskFault>
-    ensures { IsRead RefreshLock file token fields.now result }
+fn ask_refresh(
+    file: FileName,
+    token: Bytes,
+    fields: &[Field],
+    place: &mut Option<Ask>,
+) -> Result<(), AskFault>
+    ensures { IsRead RefreshLock file token fields.now result place.new }
 {
     let Some(id) = lock_named(fields, b"X-WOPI-Lock") else {
         return Err(AskFault::Refused { status: 400 });
     };
-    Ok(Ask {
+    *place = Some(Ask {
         file,
         token,
         op: Op::Refresh { id },
-    })
+    });
+    Ok(())
 }
 
-fn ask_unlock(file: FileName, token: Bytes, fields: &[Field]) -> Result<Ask, AskFault>
-    ensures { IsRead Unlock file token fields.now result }
+fn ask_unlock(
+    file: FileName,
+    token: Bytes,
+    fields: &[Field],
+    place: &mut Option<Ask>,
+) -> Result<(), AskFault>
+    ensures { IsRead Unlock file token fields.now result place.new }
 {
     let Some(id) = lock_named(fields, b"X-WOPI-Lock") else {
         return Err(AskFault::Refused { status: 400 });
     };
-    Ok(Ask {
+    *place = Some(Ask {
         file,
         token,
         op: Op::Unlock { id },
-    })
+    });
+    Ok(())
 }
 
 /// PutRelativeFile, with its target.
-fn ask_copy(alloc: Global, file: FileName, token: Bytes, fields: &[Field]) -> Result<Ask, AskFault>
+fn ask_copy(
+    alloc: Global,
+    file: FileName,
+    token: Bytes,
+    fields: &[Field],
+    place: &mut Option<Ask>,
+) -> Result<(), AskFault>
     requires { has_two_targets fields.now ≡ false }
-    ensures { IsRead PutRelativeFile file token fields.now result }
+    ensures { IsRead PutRelativeFile file token fields.now result place.new }
 {
     let Some(target) = target_named(alloc, fields)? else {
         return Err(AskFault::Refused { status: 400 });
     };
-    Ok(Ask {
+    *place = Some(Ask {
         file,
         token,
         op: Op::PutRelative { target },
-    })
+    });
+    Ok(())
 }
 
-fn ask_info(file: FileName, token: Bytes) -> Result<Ask, AskFault>
-    ensures { result ≡ Ok (record { file = file; token = token; op = Op.Info }) }
+fn ask_info(file: FileName, token: Bytes, place: &mut Option<Ask>) -> Result<(), AskFault>
+    ensures done { result ≡ Ok (record {}) }
+    ensures value { place.new ≡ Some (record { file = file; token = token; op = Op.Info }) }
 {
-    Ok(Ask {
+    *place = Some(Ask {
         file,
         token,
         op: Op::Info,
-    })
+    });
+    Ok(())
 }
 
-fn ask_held(file: FileName, token: Bytes) -> Result<Ask, AskFault>
-    ensures { result ≡ Ok (record { file = file; token = token; op = Op.GetLock }) }
+fn ask_held(file: FileName, token: Bytes, place: &mut Option<Ask>) -> Result<(), AskFault>
+    ensures done { result ≡ Ok (record {}) }
+    ensures value { place.new ≡ Some (record { file = file; token = token; op = Op.GetLock }) }
 {
-    Ok(Ask {
+    *place = Some(Ask {
         file,
         token,
         op: Op::GetLock,
-    })
+    });
+    Ok(())
 }
 
-fn ask_delete(file: FileName, token: Bytes) -> Result<Ask, AskFault>
-    ensures { result ≡ Ok (record { file = file; token = token; op = Op.Delete }) }
+fn ask_delete(file: FileName, token: Bytes, place: &mut Option<Ask>) -> Result<(), AskFault>
+    ensures done { result ≡ Ok (record {}) }
+    ensures value { place.new ≡ Some (record { file = file; token = token; op = Op.Delete }) }
 {
-    Ok(Ask {
+    *place = Some(Ask {
         file,
         token,
         op: Op::Delete,
-    })
+    });
+    Ok(())
 }
 
 /// The row of a request to a file, or to its contents, or the status that refuses it.
@@ -189,12 +244,10 @@ fn row_in(method: Method, contents: bool, fields: &[Field]) -> Result<Row, u16>
     }
 }
 
-/// What a request asks for. A request that asks for nothing is refused: with 404 where its path names
-/// no file, else with 501 where method, path and override are no row of the table or a copy is asked
-/// for under two names, else with 400 where a header that the row reads is missing, stands twice or
-/// is out of form.
-pub fn ask_of(alloc: Global, request: &Request) -> Result<Ask, AskFault>
-    ensures { IsAnswerTo request.now result }
+/// What a request asks for, put into a place, as [`ask_of`] tells it. A place that is used again spares
+/// the moves of what is asked.
+pub fn ask_into(alloc: Global, request: &Request, place: &mut Option<Ask>) -> Result<(), AskFault>
+    ensures { IsAnswerIn request.now result place.new }
 {
     let target = request.target.as_slice();
     let fields = request.fields.as_slice();
@@ -210,14 +263,31 @@ pub fn ask_of(alloc: Global, request: &Request) -> Result<Ask, AskFault>
     };
     let token = token_of(alloc, target)?;
     match row {
-        Row::CheckFileInfo => ask_info(file, token),
-        Row::GetFile => ask_get(file, token, fields),
-        Row::PutFile => ask_put(file, token, fields),
-        Row::Lock => ask_lock(file, token, fields),
-        Row::GetLock => ask_held(file, token),
-        Row::RefreshLock => ask_refresh(file, token, fields),
-        Row::Unlock => ask_unlock(file, token, fields),
-        Row::PutRelativeFile => ask_copy(alloc, file, token, fields),
-        Row::DeleteFile => ask_delete(file, token),
+        Row::CheckFileInfo => ask_info(file, token, place),
+        Row::GetFile => ask_get(file, token, fields, place),
+        Row::PutFile => ask_put(file, token, fields, place),
+        Row::Lock => ask_lock(file, token, fields, place),
+        Row::GetLock => ask_held(file, token, place),
+        Row::RefreshLock => ask_refresh(file, token, fields, place),
+        Row::Unlock => ask_unlock(file, token, fields, place),
+        Row::PutRelativeFile => ask_copy(alloc, file, token, fields, place),
+        Row::DeleteFile => ask_delete(file, token, place),
+    }
+}
+
+/// What a request asks for. A request that asks for nothing is refused: with 404 where its path names
+/// no file, else with 501 where method, path and override are no row of the table or a copy is asked
+/// for under two names, else with 400 where a header that the row reads is missing, stands twice or
+/// is out of form.
+pub fn ask_of(alloc: Global, request: &Request) -> Result<Ask, AskFault>
+    ensures { IsAnswerTo request.now result }
+{
+    let mut place = None;
+    match ask_into(alloc, request, &mut place) {
+        Ok(()) => match place {
+            Some(ask) => Ok(ask),
+            None => unreachable!(),
+        },
+        Err(fault) => Err(fault),
     }
 }

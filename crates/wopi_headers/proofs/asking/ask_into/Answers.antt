@@ -1,4 +1,4 @@
-use Rattle.std.proofs.Common.{◌≡◌, inl, inr, ℕ, List, Bool, Some, Result, Ok, Err, rules, ◌∙◌, sym, ap, refl, subst}
+use Rattle.std.proofs.Common.{◌≡◌, inl, inr, ℕ, List, Bool, Option, None, Some, Result, Ok, Err, rules, ◌∙◌, sym, ap, refl, subst}
 use Rattle.wopi_text.specs.FileName.{IsFileName}
 use Rattle.wopi_text.specs.Ids.{id_of}
 use Rattle.wopi_http.specs.declared.message.Field.{Field}
@@ -11,11 +11,11 @@ use Rattle.wopi_headers.specs.declared.row.Row.{Row}
 use Rattle.wopi_headers.specs.Targets.{path_of, token_of}
 use Rattle.wopi_headers.specs.Paths.{IsFilePath, IsIdIn}
 use Rattle.wopi_headers.specs.Rows.{row_asked}
-use Rattle.wopi_headers.specs.Operations.{Says, HasOneOverride, IsRefusal, IsAnswerTo}
+use Rattle.wopi_headers.specs.Operations.{Says, HasOneOverride, IsRefusal, IsAnswerIn}
 use Rattle.wopi_headers.specs.Operations.IsRefusal.{no_row, no_reading}
 use Rattle.wopi_headers.specs.RowReads.{IsRead, IsRowIn}
 use Rattle.wopi_headers.proofs.OneTarget.{one_target}
-use Rattle.wopi_headers.proofs.asking.ask_of.Goals as goal
+use Rattle.wopi_headers.proofs.asking.ask_into.Goals as goal
 
 -- what was found of a request, in the slices that were looked at
 module _ (q : Request) (target path : List ℕ) (fields : List Field) (id name : List ℕ) (contents : Bool)
@@ -39,8 +39,9 @@ module _ (q : Request) (target path : List ℕ) (fields : List Field) (id name :
   refused s (inr h) = unread h.1.0 s h.0 h.1.1 (λ op once says. h.1.2 once)
 
   read : (row : Row) (token : List ℕ) → row_asked q.method contents fields ≡ Some row → HasOneOverride row fields → token ≡ token_of target
-      → (r : Result Ask AskFault) → IsRead row name token fields r → IsAnswerTo q r
-  read row token some once token_is (Ok a) h =
+      → (r : Result (Unit {0}) AskFault) (p : Option Ask) → IsRead row name token fields r p → IsAnswerIn q r p
+  read row token some once token_is (Ok done) None h = absurd h
+  read row token some once token_is (Ok done) (Some a) h =
       let P : List Field → Type 0 = λ fs. HasOneOverride row fs in
       let S : List Field → Type 0 = λ fs. Says row fs a.op in
       let F : List ℕ → Type 0 = λ n. IsFilePath (path_of q.target) n contents in
@@ -53,15 +54,15 @@ module _ (q : Request) (target path : List ℕ) (fields : List Field) (id name :
         says = subst S fields_are h.2;
         token_is = h.1 ∙ token_is ∙ ap token_of target_is;
       }
-  read row token some once token_is (Err (Refused s)) h = unread row s h.0 some (λ op one says. h.1 op says)
-  read row token some once token_is (Err Memory) h = tt
+  read row token some once token_is (Err (Refused s)) p h = unread row s h.0 some (λ op one says. h.1 op says)
+  read row token some once token_is (Err Memory) p h = tt
 
   -- by the reader of the row that was found
   answered : (row kind : Row) (token : List ℕ) → row ≡ kind → IsRowIn q.method contents fields (Ok row) → token ≡ token_of target
-      → (r : Result Ask AskFault) → IsRead kind name token fields r → IsAnswerTo q r
-  answered row kind token is found token_is r h =
-      let R : Row → Type 0 = λ k. IsRead k name token fields r in
-      read row token found.0 found.1 token_is r (subst R (sym is) h)
+      → (r : Result (Unit {0}) AskFault) (p : Option Ask) → IsRead kind name token fields r p → IsAnswerIn q r p
+  answered row kind token is found token_is r p h =
+      let R : Row → Type 0 = λ k. IsRead k name token fields r p in
+      read row token found.0 found.1 token_is r p (subst R (sym is) h)
 
 pub returns-in-Err : goal.returns-in-Err
 returns-in-Err c =
@@ -76,34 +77,34 @@ pub returns-in-GetFile : goal.returns-in-GetFile
 returns-in-GetFile c =
     let form : IsFileName c.in-Ok.file = search rules in
     answered c.args.request.now _ _ _ _ _ _ c.as_slice-target.ensures c.as_slice-fields.ensures c.path_of.ensures c.in-Some.ensures
-    form c.in-Ok.ensures.value _ _ _ c.in-GetFile.is c.in-Ok-row_in.ensures c.in_ok-token.ensures c.ask_get.result c.ask_get.ensures
+    form c.in-Ok.ensures.value _ _ _ c.in-GetFile.is c.in-Ok-row_in.ensures c.in_ok-token.ensures c.ask_get.result c.ask_get.new.place c.ask_get.ensures
 
 pub returns-in-PutFile : goal.returns-in-PutFile
 returns-in-PutFile c =
     let form : IsFileName c.in-Ok.file = search rules in
     answered c.args.request.now _ _ _ _ _ _ c.as_slice-target.ensures c.as_slice-fields.ensures c.path_of.ensures c.in-Some.ensures
-    form c.in-Ok.ensures.value _ _ _ c.in-PutFile.is c.in-Ok-row_in.ensures c.in_ok-token.ensures c.ask_put.result c.ask_put.ensures
+    form c.in-Ok.ensures.value _ _ _ c.in-PutFile.is c.in-Ok-row_in.ensures c.in_ok-token.ensures c.ask_put.result c.ask_put.new.place c.ask_put.ensures
 
 pub returns-in-Lock : goal.returns-in-Lock
 returns-in-Lock c =
     let form : IsFileName c.in-Ok.file = search rules in
     answered c.args.request.now _ _ _ _ _ _ c.as_slice-target.ensures c.as_slice-fields.ensures c.path_of.ensures c.in-Some.ensures
-    form c.in-Ok.ensures.value _ _ _ c.in-Lock.is c.in-Ok-row_in.ensures c.in_ok-token.ensures c.ask_lock.result c.ask_lock.ensures
+    form c.in-Ok.ensures.value _ _ _ c.in-Lock.is c.in-Ok-row_in.ensures c.in_ok-token.ensures c.ask_lock.result c.ask_lock.new.place c.ask_lock.ensures
 
 pub returns-in-RefreshLock : goal.returns-in-RefreshLock
 returns-in-RefreshLock c =
     let form : IsFileName c.in-Ok.file = search rules in
     answered c.args.request.now _ _ _ _ _ _ c.as_slice-target.ensures c.as_slice-fields.ensures c.path_of.ensures c.in-Some.ensures
-    form c.in-Ok.ensures.value _ _ _ c.in-RefreshLock.is c.in-Ok-row_in.ensures c.in_ok-token.ensures c.ask_refresh.result c.ask_refresh.ensures
+    form c.in-Ok.ensures.value _ _ _ c.in-RefreshLock.is c.in-Ok-row_in.ensures c.in_ok-token.ensures c.ask_refresh.result c.ask_refresh.new.place c.ask_refresh.ensures
 
 pub returns-in-Unlock : goal.returns-in-Unlock
 returns-in-Unlock c =
     let form : IsFileName c.in-Ok.file = search rules in
     answered c.args.request.now _ _ _ _ _ _ c.as_slice-target.ensures c.as_slice-fields.ensures c.path_of.ensures c.in-Some.ensures
-    form c.in-Ok.ensures.value _ _ _ c.in-Unlock.is c.in-Ok-row_in.ensures c.in_ok-token.ensures c.ask_unlock.result c.ask_unlock.ensures
+    form c.in-Ok.ensures.value _ _ _ c.in-Unlock.is c.in-Ok-row_in.ensures c.in_ok-token.ensures c.ask_unlock.result c.ask_unlock.new.place c.ask_unlock.ensures
 
 pub returns-in-PutRelativeFile : goal.returns-in-PutRelativeFile
 returns-in-PutRelativeFile c =
     let form : IsFileName c.in-Ok.file = search rules in
     answered c.args.request.now _ _ _ _ _ _ c.as_slice-target.ensures c.as_slice-fields.ensures c.path_of.ensures c.in-Some.ensures
-    form c.in-Ok.ensures.value _ _ _ c.in-PutRelativeFile.is c.in-Ok-row_in.ensures c.in_ok-token.ensures c.ask_copy.result c.ask_copy.ensures
+    form c.in-Ok.ensures.value _ _ _ c.in-PutRelativeFile.is c.in-Ok-row_in.ensures c.in_ok-token.ensures c.ask_copy.result c.ask_copy.new.place c.ask_copy.ensures
