@@ -56,10 +56,10 @@ module _ {F : Type 0} (files : F → Option Files) (faults : F → ℕ) where
       let few = spots_few 0 books parts folders taken in let small = is.small in
       record {
         found = found;
-        left = record {
+        head = record {
           opened_is = is.opened_is;
           first_is = is.first_is;
           openings_are = openings_are host.opened host.first host.capacity 0 books parts folders taken bases;
-          few = omega (arith, long, same, few, small, sums);
         };
+        few = omega (arith, long, same, few, small, sums);
       }

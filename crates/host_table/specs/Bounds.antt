@@ -80,20 +80,21 @@ module _ {F : Type 0} where
   AreOpenings shard (part ∷ parts) =
       (IsByName part.opening × AllByRecursion (λ file. MayKeep (Some shard) file.0) part.opening) × AreOpenings (shard + 1) parts
 
-  -- how a host leaves it
-  pub record IsLeftByHost (journal : JournalView F) : Type 0 where
-    pub opened_is : IsMoment journal.opened
-    pub first_is : IsFirstVersion journal.first
-    pub openings_are : AreOpenings 0 journal.parts
-    pub few : length journal.merge ≤ most_entries
+  -- when the host opened, its first version, and the order of its opening files
+  pub record HasHead (opened first : ℕ) (parts : List (Left F)) : Type 0 where
+    pub opened_is : IsMoment opened
+    pub first_is : IsFirstVersion first
+    pub openings_are : AreOpenings 0 parts
 
   -- what a journal keeps: its entries stand at the spots
   pub record IsKept (opened first : ℕ) (parts : List (Left F)) (spots : List Spot) : Type 0 where
     pub found : AreFound parts spots
-    pub left : IsLeftByHost (record { opened = opened; first = first; parts = parts; merge = merge_of parts spots })
+    pub head : HasHead opened first parts
+    pub few : length (merge_of parts spots) ≤ most_entries
 
-  -- how a journal was left, and what its files and its entries tell
+  -- its head, how many entries it has, and what its files and its entries tell
   pub record KeepsBounds (journal : JournalView F) : Type 0 where
-    pub left : IsLeftByHost journal
+    pub head : HasHead journal.opened journal.first journal.parts
+    pub few : length journal.merge ≤ most_entries
     pub files : AllByRecursion (λ file. IsBytes file.1) (openings journal.parts)
     pub entries : AllByRecursion IsBounded journal.merge

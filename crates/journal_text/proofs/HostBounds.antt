@@ -129,10 +129,10 @@ timed opened before (line ∷ lines) = (tt, timed opened (before ++ line ∷ [])
 
 pub host_within : {F : Type 0} (journal : JournalView F) → KeepsBounds journal → IsWithin Second (told_by journal)
 host_within journal keeps =
-    let few = keeps.left.few in let long = length-map journal.merge line_of in
+    let few = keeps.few in let long = length-map journal.merge line_of in
     record {
-      opening = (keeps.left.opened_is, keeps.left.first_is);
-      files = files 0 journal.parts keeps.left.openings_are keeps.files None tt;
+      opening = (keeps.head.opened_is, keeps.head.first_is);
+      files = files 0 journal.parts keeps.head.openings_are keeps.files None tt;
       lines = lines journal.merge keeps.entries;
       few = omega (arith, few, long);
       timed = timed journal.opened [] (map line_of journal.merge);
