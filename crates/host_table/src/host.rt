@@ -1,11 +1,10 @@
 //! The host.
-ghost use Rattle.std.specs.Prelude.{◌≡◌, ◌+◌, ◌<◌, ◌≤◌, ◌∷◌, [], ◌++◌, length, map, IfOk, IfErr, OnOk, OnErr, None, Some, true, IsSomeAnd, IsTrue, max, ◌↔◌};
+ghost use Rattle.std.specs.Prelude.{◌≡◌, ◌+◌, ◌<◌, ◌≤◌, ◌∷◌, [], ◌++◌, length, map, IfOk, IfErr, OnOk, OnErr, None, Some, IsSomeAnd, IsTrue, max, ◌↔◌};
 ghost use Rattle.std.specs.List.{AllByRecursion};
 ghost use Rattle.wopi_model.specs.Moment.{IsMoment};
 ghost use Rattle.host_core.specs.Opening.{IsFirstVersion};
 ghost use Rattle.wopi_text.specs.FileName.{shard_of};
-ghost use Rattle.host_core.specs.Caller.{Makes, Refuses, Frames, IsFullCall, entry_of};
-ghost use Rattle.host_core.specs.Memory.{takes_no_memory};
+ghost use Rattle.host_core.specs.Caller.{Makes, Refuses, Frames, entry_of};
 ghost use Rattle.host_table.specs.Histories.{last_stamp, as_opened, IsSeen};
 ghost use Rattle.host_table.specs.Passes.{locks_of, own_of, top, sight_of, kept_pass, given_pass, IsPassOf, IsSamePass, HasSeen, AreBases};
 ghost use Rattle.host_table.specs.Start.{first_seats, first_pass, AreHanded, IsBlamed, Starts};
@@ -136,8 +135,8 @@ fn begin<F: Folder>(
 
 impl<F: Folder> Host<F> {
     /// Opens a shard over each of 16 folders, and gives the host and its first pass, which has number 0. Shard i
-    /// takes the names whose number is i, and its files begin at version `first`. The fault is that of the first shard that has one; a refusal hands the
-    /// folders back in their order.
+    /// takes the names whose number is i, and its files begin at version `first`. The fault is that of the first
+    /// shard that has one; a refusal hands the folders back in their order.
     pub fn start(
         alloc: Global,
         folders: Vec<F>,
@@ -242,7 +241,6 @@ impl<F: Folder> Host<F> {
         ensures own { IfOk result (λ receipt. own_of pass.new ≡ own_of pass.old
             ++ record { shard = receipt.shard; place = receipt.place; entry = entry_of pass.old.number call moment receipt } ∷ []) }
         ensures none { OnErr result (own_of pass.new ≡ own_of pass.old) }
-        ensures light { IfErr result (λ refusal. takes_no_memory call.act ≡ true → IsFullCall refusal) }
         ensures same { IsSamePass pass.old pass.new }
         ensures seen { HasSeen pass.new }
     {

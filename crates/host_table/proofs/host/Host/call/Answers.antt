@@ -2,7 +2,6 @@ use Rattle.std.proofs.Common.{◌≡◌, ◌∙◌, arith}
 use Rattle.wopi_text.specs.FileName.{shard_of}
 use Rattle.host_table.specs.Views.{pass_of}
 use Rattle.host_table.proofs.Calling.{seat_is, based_call, pass_then, frames_then, same_then, seen_all_then, makes_then, refuses_then, own_then, own_stays_then}
-use Rattle.host_table.proofs.Turning.{err_map}
 use Rattle.host_table.proofs.host.Host.call.Goals as goal
 
 pub turn-requires-clause-free : goal.turn-requires-clause-free
@@ -71,6 +70,3 @@ returns-clause-seen g c =
     seen_all_then (pass_of c.pass.inside) c.from-shard.result c.index_mut-seat.result.now c.turn.new.seat c.pass.invariant (omega arith) c.index_mut-seat.ensures.value
     c.turn.new.last c.args.call c.args.moment home c.turn.ensures.seen c.turn.ensures.last
     c.turn.result c.turn.ensures.made c.turn.ensures.refused
-
-pub returns-clause-light : goal.returns-clause-light
-returns-clause-light g c = err_map c.turn.result _ _ (λ refusal looks. looks.light) c.turn.ensures.refused
