@@ -25,6 +25,7 @@ mod foreign_rows;
 mod generating;
 mod history;
 mod input;
+pub mod laws;
 mod lookups;
 mod member;
 mod one_line;

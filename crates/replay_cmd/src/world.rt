@@ -31,7 +31,7 @@ impl World {
     /// Runs a schedule: its sessions, its host, and the wire between them. The request of each
     /// delivery and of each ask of somebody else goes over the wire once, and so does the reply that
     /// a session takes. Over a straight wire the shard is never full. That what it leaves fits into the one
-    /// that opens at a restart is a clause of `Stage::lines`; here want of memory stands for files that
+    /// that opens at a restart is proved of a restart alone; here want of memory stands for files that
     /// don't. It stands also for a message that wouldn't be read back as it was written: by a schedule's
     /// limits none should come, and no clause excludes it.
     pub fn run<W: Wire>(alloc: Global, schedule: &Schedule, wire: &mut W) -> Result<World, Memory>
