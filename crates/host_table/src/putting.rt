@@ -11,7 +11,7 @@ use crate::rooms::{PIECE, WriteRoom};
 use itoa::Buffer;
 use outside::{Failed, Sink, write_whole};
 
-/// Writes what was gathered.
+/// Writes what was gathered. At a fault a front of it was written, and then what the room holds is open.
 pub fn send<K: Sink>(sink: &mut K, room: &mut WriteRoom) -> Result<(), Failed>
     ensures bytes { Gathers (K.held sink.old) (K.held sink.new) room.old.bytes.items room.new.bytes.items result [] }
     ensures none { OnOk result (room.new.bytes.items ≡ []) }
@@ -139,7 +139,7 @@ fn put_piece<K: Sink>(sink: &mut K, room: &mut WriteRoom, piece: Piece<'_>) -> R
 }
 
 /// Puts pieces of a line, one after another: they are gathered, or written where there is no room for them. At a fault a
-/// front of what was gathered and of them was written.
+/// front of what was gathered and of them was written, and then what the room holds is open.
 pub fn put_pieces<K: Sink>(
     sink: &mut K,
     room: &mut WriteRoom,

@@ -21,7 +21,8 @@ pub enum InputFault {
 }
 
 /// All bytes of an input, where they are no more than those of a journal. Of a longer input one byte more is read than a journal may
-/// have, and no further one. The bytes take at most two and a quarter times their number while they come.
+/// have, and no further one. How far it reads before a fault, no clause says. The bytes take at most two and a quarter times their
+/// number while they come.
 pub fn read_bytes<S: Source>(alloc: Global, source: &mut S) -> Result<Vec<u8>, InputFault>
     ensures whole { IfOk result (λ bytes. IsWhole (S.left source.old) (S.left source.new) bytes.items) }
     ensures long { result ≡ Err InputFault.TooLong → IsLong (S.left source.old) (S.left source.new) }
