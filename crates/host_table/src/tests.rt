@@ -2,9 +2,9 @@
 ghost use Rattle.std.specs.Prelude.{◌≡◌, ◌^◌, IfOk};
 ghost use Rattle.host_table.specs.Passes.{IsPassOf};
 
-use crate::{Host, Journal, Pass, Seated};
+use crate::{Host, Journal, Pass, Seated, WriteEnd, WriteRoom, write_journal, write_journal_into};
 use host_core::{Act, Call, Caller, Receipt};
-use outside::{Folder, MemFolder};
+use outside::{Folder, MemFolder, MemSink};
 use std::alloc::Global;
 use std::process::Abort;
 use std::sync::Wait;
@@ -260,5 +260,59 @@ fn a_journal_tells_the_opening_files_and_the_contents(rt: HostRuntime) -> Result
     assert!(rt; journal.opening(11, 1).is_none() && journal.opening(0, 0).is_none());
     assert!(rt; journal.contents(0) == Some(b"5,6\n".as_slice()));
     assert!(rt; journal.contents(1).is_none() && journal.entry(1).is_none());
+    Ok(())
+}
+
+/// Closes a host by its one pass.
+fn close_one(host: Host<MemFolder>, pass: Pass<MemFolder>) -> Result<Journal<MemFolder>, Fail>
+    requires { IsPassOf host pass }
+{
+    let passes = vec![in host.alloc; pass]?;
+    if !host.whole(&passes) {
+        return Err("all passes".into());
+    }
+    match host.close(passes) {
+        Ok((journal, _folders)) => Ok(journal),
+        Err(_fault) => Err("memory".into()),
+    }
+}
+
+/// A sink whose n-th write fails where n is not 0.
+fn sink(alloc: Global, failing: u64) -> Result<MemSink, Fail> {
+    match MemSink::new(alloc, 4_096, [failing].to_vec(alloc)?) {
+        Ok(sink) => Ok(sink),
+        Err(_) => Err("a sink".into()),
+    }
+}
+
+#[test]
+fn a_journal_is_written_alike_in_either_room(rt: HostRuntime) -> Result<(), Fail> {
+    let alloc = rt.alloc();
+    let (host, mut first) = open(alloc)?;
+    let lock = lock_call(&rt, b"a.csv");
+    assert!(rt; make_one(&rt, &host, &mut first, lock).is_some());
+    let journal = close_one(host, first)?;
+    let mut plain = sink(alloc, 0)?;
+    assert!(rt; write_journal(alloc, &mut plain, &journal).is_ok());
+    let mut ahead = sink(alloc, 0)?;
+    let Ok(room) = WriteRoom::new(alloc) else {
+        return Err("room".into());
+    };
+    assert!(rt; write_journal_into(&mut ahead, room, &journal).is_ok());
+    let text = plain.as_slice();
+    assert!(rt; text == ahead.as_slice());
+    assert!(rt; text.starts_with(b"wopi journal 2 opened 0 first 7\nfile 612e637376 312c320a\n"));
+    assert!(rt; text.ends_with(b" 200 - - v7 -\nend 1\n"));
+    Ok(())
+}
+
+#[test]
+fn a_write_that_fails_is_told(rt: HostRuntime) -> Result<(), Fail> {
+    let alloc = rt.alloc();
+    let (host, first) = open(alloc)?;
+    let journal = close_one(host, first)?;
+    let mut failing = sink(alloc, 1)?;
+    let end = write_journal(alloc, &mut failing, &journal);
+    assert!(rt; matches!(end, Err(WriteEnd::Failed)));
     Ok(())
 }

@@ -31,8 +31,9 @@ mod values;
 mod writing;
 
 pub use host_core::EntryAct as LineAct;
+pub use host_table::WriteEnd;
 pub use input::{InputFault, read_bytes};
 pub use journal::{JournalFault, read_journal};
 pub use rewriting::{RewriteFault, rewrite};
 pub use text::{Files, Format, JournalText, Line, Lines};
-pub use writing::write_lines;
+pub use writing::{write_lines, write_lines_into};

@@ -1,6 +1,7 @@
 //! Texts of journals, read and written.
 use crate::{
-    InputFault, JournalFault, RewriteFault, read_bytes, read_journal, rewrite, write_lines,
+    InputFault, JournalFault, RewriteFault, WriteEnd, read_bytes, read_journal, rewrite,
+    write_lines, write_lines_into,
 };
 use host_table::WriteRoom;
 use outside::{MemSink, MemSource};
@@ -33,10 +34,24 @@ fn again(alloc: Global, bytes: &[u8]) -> Result<MemSink, Fail> {
     let Ok(mut sink) = MemSink::new(alloc, 4_096, Vec::new(alloc)) else {
         return Err("a sink".into());
     };
+    match write_lines(alloc, &mut sink, &text) {
+        Ok(()) => Ok(sink),
+        Err(_) => Err("a write".into()),
+    }
+}
+
+/// The same, in room that was taken ahead.
+fn again_in_room(alloc: Global, bytes: &[u8]) -> Result<MemSink, Fail> {
+    let Ok(text) = read_journal(alloc, bytes) else {
+        return Err("a journal".into());
+    };
+    let Ok(mut sink) = MemSink::new(alloc, 4_096, Vec::new(alloc)) else {
+        return Err("a sink".into());
+    };
     let Ok(room) = WriteRoom::new(alloc) else {
         return Err("room".into());
     };
-    match write_lines(&mut sink, room, &text) {
+    match write_lines_into(&mut sink, room, &text) {
         Ok(()) => Ok(sink),
         Err(_) => Err("a write".into()),
     }
@@ -68,6 +83,7 @@ fn bad_line(alloc: Global, lines: &[u8]) -> Result<Option<u64>, Fail> {
 fn a_journal_of_the_first_form_is_written_in_the_second(rt: HostRuntime) -> Result<(), Fail> {
     for sink in [
         again(rt.alloc(), FIRST_FORM)?,
+        again_in_room(rt.alloc(), FIRST_FORM)?,
         rewritten(rt.alloc(), FIRST_FORM)?,
     ] {
         assert!(rt; sink.as_slice() == SECOND_FORM);
@@ -93,6 +109,20 @@ fn the_first_form_has_the_greatest_moment_of_a_shard_as_its_time(
     for sink in [again(rt.alloc(), FALLING)?, rewritten(rt.alloc(), FALLING)?] {
         assert!(rt; sink.as_slice() == FALLING_AGAIN);
     }
+    Ok(())
+}
+
+#[test]
+fn a_write_that_fails_is_told(rt: HostRuntime) -> Result<(), Fail> {
+    let alloc = rt.alloc();
+    let Ok(text) = read_journal(alloc, FIRST_FORM) else {
+        return Err("a journal".into());
+    };
+    let Ok(mut sink) = MemSink::new(alloc, 4_096, [1].to_vec(alloc)?) else {
+        return Err("a sink".into());
+    };
+    let end = write_lines(alloc, &mut sink, &text);
+    assert!(rt; matches!(end, Err(WriteEnd::Failed)));
     Ok(())
 }
 

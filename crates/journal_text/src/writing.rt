@@ -1,5 +1,5 @@
 //! Journals, written line by line in the second form.
-ghost use Rattle.std.specs.Prelude.{◌≡◌, ◌≤◌, ◌++◌, OnErr, length, option_map};
+ghost use Rattle.std.specs.Prelude.{◌≡◌, ◌≤◌, ◌++◌, Err, OnErr, length, option_map};
 ghost use Rattle.std.specs.List.{flat_map};
 ghost use Rattle.outside.specs.Faults.{Rose};
 ghost use Rattle.host_table.specs.Writing.{Gathers, Writes};
@@ -8,13 +8,14 @@ ghost use Rattle.journal_text.specs.Journals.{file_text, first_text, last_text, 
 ghost use Rattle.journal_text.specs.Written.{begin_text, end_text};
 
 use crate::text::{JournalText, Line};
-use host_table::WriteRoom;
 use host_table::lines::{
     act_pieces, end_pieces, file_pieces, first_pieces, head_pieces, last_pieces, optional_lock,
     ruling_pieces, token_pieces,
 };
 use host_table::putting::{put_pieces, send};
+use host_table::{WriteEnd, WriteRoom};
 use outside::{Failed, Sink};
+use std::alloc::Global;
 use wopi_text::{Bytes, FileName};
 
 /// Puts the line of an opening file.
@@ -177,9 +178,25 @@ fn put_all<K: Sink>(sink: &mut K, room: &mut WriteRoom, text: &JournalText) -> R
     put_last(sink, room, lines.len() as u64)
 }
 
-/// Writes the text of a journal in the second form, in room that was taken ahead. Where a write fails, a front of the text was
-/// written.
-pub fn write_lines<K: Sink>(
+/// Writes the text of a journal in the second form. Where a write fails, a front of the text was written. It takes the memory of a
+/// [`WriteRoom`] before it writes anything, and no other.
+pub fn write_lines<K: Sink>(alloc: Global, sink: &mut K, text: &JournalText) -> Result<(), WriteEnd>
+    ensures bytes { Writes (K.held sink.old) (K.held sink.new) result (text_of (rows_of Second text.now)) }
+    ensures never_falls { K.write_faults sink.old ≤ K.write_faults sink.new }
+    ensures failed { result ≡ Err WriteEnd.Failed → Rose (K.write_faults sink.old) (K.write_faults sink.new) }
+    ensures memory { result ≡ Err WriteEnd.Memory → sink.new ≡ sink.old }
+{
+    let Ok(room) = WriteRoom::new(alloc) else {
+        return Err(WriteEnd::Memory);
+    };
+    match write_lines_into(sink, room, text) {
+        Ok(()) => return Ok(()),
+        Err(Failed) => return Err(WriteEnd::Failed),
+    }
+}
+
+/// The same in room that was taken ahead, so that it wants no memory.
+pub fn write_lines_into<K: Sink>(
     sink: &mut K,
     mut room: WriteRoom,
     text: &JournalText,
