@@ -150,7 +150,7 @@ fn a_row_ends_at_1_024_cells(rt: HostRuntime) -> Result<(), Fail> {
         Err(GridFault::OutOfGrid)
     );
     assert_eq!(rt; grid.insert_column(MOST_CELLS), Err(GridFault::TooMany));
-    let mut wide = grid.write()?.into_vec();
+    let mut wide = grid.write()?.into_vec(alloc)?;
     let back = Grid::read(alloc, wide.as_slice())?;
     assert!(rt; back.cell(1, MOST_CELLS) == Some(b"z".as_slice()));
     wide.insert(0, b',')?;

@@ -4,46 +4,28 @@ ghost use Rattle.std.specs.List.{list_all};
 ghost use Rattle.wopi_model.specs.User.{IsUser, is_user_byte};
 
 use std::marker::Model;
+use wopi_text::Inline;
 
 /// The most bytes of a user's name.
 const MOST: usize = 64;
 
 /// A user's name: 1 to 64 ASCII letters, digits, `_` and `-`.
-#[derive(Drop)]
+#[derive(PartialEq, Eq, Drop)]
 pub struct User {
-    len: usize,
-    // The first `len` of them count.
-    bytes: [u8; MOST],
+    bytes: Inline<MOST>,
 }
 
 impl Model for User {
-    ghost use Rattle.std.specs.Prelude.{List, ℕ, take, ◌≤◌};
+    ghost use Rattle.std.specs.Prelude.{List, ℕ};
     ghost use Rattle.wopi_model.specs.User.{IsUser};
 
     ghost Value = { List ℕ };
 
-    ghost view = { λ s. take s.len s.bytes };
+    ghost view = { λ s. s.bytes };
 
-    ghost invariant = { λ s. IsUser (take s.len s.bytes) × (s.len ≤ 64) };
-}
+    ghost invariant = { λ s. IsUser s.bytes };
 
-impl PartialEq for User {
-    ghost use Rattle.std.specs.Prelude.{nat_eq};
-    ghost use Rattle.std.specs.Cmp.{partial_equiv_from_equiv};
-    ghost use Rattle.std.specs.Cmp.Lexicographic.{pointwise, nat_list_eq_equiv};
-
-    ghost eq = { pointwise nat_eq };
-    ghost laws = { partial_equiv_from_equiv nat_list_eq_equiv };
-
-    fn eq(&self, other: &User) -> bool {
-        self.as_slice() == other.as_slice()
-    }
-}
-
-impl Eq for User {
-    ghost use Rattle.std.specs.Cmp.Lexicographic.{nat_list_eq_equiv};
-
-    ghost laws = { nat_list_eq_equiv };
+    ghost inverse = { λ xs. record { bytes = xs } };
 }
 
 impl User {
@@ -55,11 +37,8 @@ impl User {
         if !is_user(bytes) {
             return None;
         }
-        let mut inline = [0u8; MOST];
-        inline[..bytes.len()].copy_from_slice(bytes);
         Some(User {
-            len: bytes.len(),
-            bytes: inline,
+            bytes: Inline::new(bytes),
         })
     }
 
@@ -68,7 +47,7 @@ impl User {
         ensures value { result.now ≡ self.now }
         ensures form { IsUser self.now }
     {
-        &self.bytes[..self.len]
+        self.bytes.as_slice()
     }
 
     /// An equal name. It takes no memory.
@@ -76,8 +55,7 @@ impl User {
         ensures { result ≡ self.now }
     {
         User {
-            len: self.len,
-            bytes: self.bytes,
+            bytes: self.bytes.copy(),
         }
     }
 }

@@ -15,7 +15,7 @@ use wopi_text::Memory;
 fn token_line(alloc: Global, keys: &Keys, token: &Token) -> Result<Vec<u8>, Memory>
     ensures { IfOk result (λ line. line.items ≡ token_line keys.now token.now) }
 {
-    let mut line = mint(alloc, keys, token)?.into_vec();
+    let mut line = mint(alloc, keys, token)?.into_vec(alloc)?;
     line.push(b'\n')?;
     Ok(line)
 }

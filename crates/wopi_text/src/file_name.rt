@@ -5,6 +5,7 @@ ghost use Rattle.std.specs.Str.{chars};
 ghost use Rattle.wopi_text.specs.FileName.{IsFileName, is_name_char, forbidden, shard_of};
 
 use crate::BadName;
+use crate::inline::Inline;
 use std::marker::Model;
 
 /// The most bytes of a file's name.
@@ -15,42 +16,22 @@ const SHARDS: u32 = 16;
 
 /// A file's name: 1 to 128 bytes of UTF-8 without control characters and without the characters
 /// that file systems keep for themselves, with no leading period and no closing period or space.
-#[derive(Drop)]
+#[derive(PartialEq, Eq, Drop)]
 pub struct FileName {
-    len: usize,
-    // The first `len` of them count.
-    bytes: [u8; NAME_LIMIT],
+    bytes: Inline<NAME_LIMIT>,
 }
 
 impl Model for FileName {
-    ghost use Rattle.std.specs.Prelude.{List, ℕ, take, ◌≤◌};
+    ghost use Rattle.std.specs.Prelude.{List, ℕ};
     ghost use Rattle.wopi_text.specs.FileName.{IsFileName};
 
     ghost Value = { List ℕ };
 
-    ghost view = { λ s. take s.len s.bytes };
+    ghost view = { λ s. s.bytes };
 
-    ghost invariant = { λ s. IsFileName (take s.len s.bytes) × (s.len ≤ 128) };
-}
+    ghost invariant = { λ s. IsFileName s.bytes };
 
-impl PartialEq for FileName {
-    ghost use Rattle.std.specs.Prelude.{nat_eq};
-    ghost use Rattle.std.specs.Cmp.{partial_equiv_from_equiv};
-    ghost use Rattle.std.specs.Cmp.Lexicographic.{pointwise, nat_list_eq_equiv};
-
-    ghost eq = { pointwise nat_eq };
-
-    ghost laws = { partial_equiv_from_equiv nat_list_eq_equiv };
-
-    fn eq(&self, other: &FileName) -> bool {
-        self.as_slice() == other.as_slice()
-    }
-}
-
-impl Eq for FileName {
-    ghost use Rattle.std.specs.Cmp.Lexicographic.{nat_list_eq_equiv};
-
-    ghost laws = { nat_list_eq_equiv };
+    ghost inverse = { λ xs. record { bytes = xs } };
 }
 
 impl FileName {
@@ -62,11 +43,8 @@ impl FileName {
         if !is_file_name(bytes) {
             return Err(BadName);
         }
-        let mut inline = [0u8; NAME_LIMIT];
-        inline[..bytes.len()].copy_from_slice(bytes);
         Ok(FileName {
-            len: bytes.len(),
-            bytes: inline,
+            bytes: Inline::new(bytes),
         })
     }
 
@@ -75,7 +53,7 @@ impl FileName {
         ensures value { result.now ≡ self.now }
         ensures form { IsFileName self.now }
     {
-        &self.bytes[..self.len]
+        self.bytes.as_slice()
     }
 
     /// The name as text.
@@ -103,8 +81,7 @@ impl FileName {
         ensures { result ≡ self.now }
     {
         FileName {
-            len: self.len,
-            bytes: self.bytes,
+            bytes: self.bytes.copy(),
         }
     }
 }

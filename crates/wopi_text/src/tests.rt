@@ -101,7 +101,21 @@ fn a_copy_of_bytes_is_equal(rt: HostRuntime) -> Result<(), Fail> {
     let bytes = Bytes::from_slice(rt.alloc(), b"1,2\n")?;
     let same = bytes.try_copy(rt.alloc())?;
     assert_eq!(rt; same.as_slice(), bytes.as_slice());
-    let vector = same.into_vec();
+    let vector = same.into_vec(rt.alloc())?;
     assert_eq!(rt; vector.as_slice(), b"1,2\n".as_slice());
+    Ok(())
+}
+
+#[test]
+fn bytes_are_the_same_inline_and_on_the_heap(rt: HostRuntime) -> Result<(), Fail> {
+    let alloc = rt.alloc();
+    let text = b"X-WOPI-OverwriteRelativeTarget: true";
+    for end in [0usize, 5, 30, 31, 32, 36] {
+        let bytes = Bytes::from_part(alloc, text, 0, end)?;
+        assert_eq!(rt; bytes.as_slice(), &text[..end]);
+        let rest = Bytes::from_part(alloc, text, end, text.len())?;
+        assert_eq!(rt; rest.as_slice(), &text[end..]);
+        assert_eq!(rt; rest.into_vec(alloc)?.as_slice(), &text[end..]);
+    }
     Ok(())
 }

@@ -87,7 +87,7 @@ fn place_of(alloc: Global, head: &[u8], end: &[u8]) -> Result<(usize, usize), Fa
     let Got::Message(message) = read_request(&mut link, &mut buffer) else {
         return Err(Fail::from("no message"));
     };
-    let read = message.body.into_vec();
+    let read = message.body.into_vec(alloc)?;
     if read.as_slice() != body.as_slice() {
         return Err(Fail::from("another body"));
     }
