@@ -1,6 +1,6 @@
 -- From a call to an answer.
 use Rattle.std.proofs.Common.{◌≡◌, ℕ, true, false, List, [], ◌∷◌, ◌++◌, Result, Ok, Err, refl, sym, ap, ◌∙◌, subst, inl, inr, append-nil}
-use Rattle.std.specs.Prelude.{IfOk, if◌then◌else◌, Option, Some}
+use Rattle.std.specs.Prelude.{IfOk, IfSome, IsSome, if◌then◌else◌, Option, None, Some}
 use Rattle.wopi_text.specs.declared.faults.Memory.{Memory}
 use Rattle.wopi_model.specs.declared.token.Token.{Token}
 use Rattle.wopi_model.specs.declared.calls.Act.{Act}
@@ -11,7 +11,7 @@ use Rattle.wopi_headers.specs.declared.answer.Answer.{Answer}
 use Rattle.wopi_headers.specs.declared.ask.Ask.{Ask}
 use Rattle.wopi_headers.specs.declared.ask.Op.TheVariants as op
 use Rattle.wopi_headers.specs.declared.ask.Target.{Target}
-use Rattle.wopi_headers.specs.Operations.{AsksFor, IsRefusal}
+use Rattle.wopi_headers.specs.Operations.{AsksFor, IsAnswerIn, IsRefusal}
 use Rattle.access_tokens.specs.TokenText.{IsSigned}
 use Rattle.wopi_acts.specs.Acts.{act_of}
 use Rattle.wopi_acts.specs.Answers.{status_only, ruling_told}
@@ -101,6 +101,17 @@ module _ (desk : Desk) (q : Request) (moment : ℕ) (always : Sight → Type 0) 
   asked_answers ask asks old new (Ok a) (deeds, does, is) = (deeds, does, answering.asked ask asks is)
   asked_answers ask asks old new (Err fault) (deeds, does, begun) = (deeds, does, begun_asked ask asks deeds begun)
 
+  -- by the ask that stands in its place
+  pub kept_answers : (place : Option Ask) (done : Unit {0}) → IsAnswerIn q (Ok done) place → (old new : Sight) (r : Result Answer Memory)
+      → IfSome place (λ ask. Tells (Ruled desk ask q.body moment) always old new r) → Answers desk q moment always old new r
+  kept_answers None done asks old new r told = absurd asks
+  kept_answers (Some ask) done asks old new r told = asked_answers ask asks old new r told
+
   pub refused_answers : (s : ℕ) (sight : Sight) (a : Answer) → IsRefusal q s → a ≡ status_only s
       → (deeds : List Deed) × Does always sight sight deeds × Answered desk q moment deeds a
   refused_answers s sight a is said = ([], Does-nil always sight, answering.refused s is refl said)
+
+-- what was asked stands in its place
+pub is_kept : (q : Request) (place : Option Ask) (done : Unit {0}) → IsAnswerIn q (Ok done) place → IsSome place
+is_kept q None done asks = absurd asks
+is_kept q (Some ask) done asks = search

@@ -15,10 +15,12 @@ use Rattle.host_server.specs.Answering.{call_of, copying_of}
 use Rattle.host_server.specs.Calls.{TellsCall, Tells}
 use Rattle.host_server.specs.Copies.{Copied}
 
+-- whether an operation is CheckFileInfo
 abbrev pub asks_info : Op → Bool
 asks_info op.Info = true
 asks_info _ = false
 
+-- whether an operation is PutRelativeFile, which makes a copy beside its file
 abbrev pub is_copy : Op → Bool
 is_copy (op.PutRelative target) = true
 is_copy _ = false

@@ -1,5 +1,5 @@
 //! Requests answered by calls on files.
-ghost use Rattle.std.specs.Prelude.{◌≡◌, Some, true, false};
+ghost use Rattle.std.specs.Prelude.{◌≡◌, IfSome, IsSome, Some, true, false};
 ghost use Rattle.wopi_model.specs.Moment.{IsMoment};
 ghost use Rattle.access_tokens.specs.Remembering.{Remembers};
 ghost use Rattle.access_tokens.specs.TokenText.{IsWritable};
@@ -12,12 +12,13 @@ ghost use Rattle.host_server.specs.Turns.{Answers};
 use crate::calling::{Called, make};
 use crate::copying::{Copying, put_beside};
 use crate::desk::Desk;
+use crate::kept::Kept;
 use crate::telling::{info_told, journal_full, ruling_told, status_only};
-use access_tokens::{LastToken, Token};
+use access_tokens::{RecentTokens, Token};
 use host_core::{Act, Call, CallFault, Caller};
 use std::alloc::Global;
 use std::mem;
-use wopi_headers::{Answer, Ask, AskFault, Op, Target, ask_of};
+use wopi_headers::{Answer, Ask, AskFault, Op, Target, ask_into};
 use wopi_http::Request;
 use wopi_text::{Bytes, LockId, Memory};
 
@@ -158,20 +159,20 @@ fn answer_ask<C: Caller>(
     alloc: Global,
     caller: &mut C,
     desk: &Desk,
-    last: &mut LastToken,
+    recent: &mut RecentTokens,
     ask: &mut Ask,
     body: Bytes,
     moment: u64,
 ) -> Result<Answer, Memory>
     requires moment { IsMoment moment }
-    requires remembers { Remembers desk.now.keys last.old }
+    requires remembers { Remembers desk.now.keys recent.old }
     ensures tells { Tells (Ruled desk.now ask.old body moment) C.always (C.sight caller.old) (C.sight caller.new) result }
     ensures basis { C.basis caller.new ≡ C.basis caller.old }
     ensures references { C.references caller.new ≡ C.references caller.old }
-    ensures remembers { Remembers desk.now.keys last.new }
+    ensures remembers { Remembers desk.now.keys recent.new }
 {
     let text = mem::replace(&mut ask.token, Bytes::from_vec(Vec::new(alloc)));
-    let Some(token) = last.read(&desk.keys, text) else {
+    let Some(token) = recent.read(&desk.keys, text) else {
         return Ok(status_only(alloc, 401));
     };
     if is_copy(&ask.op) {
@@ -183,24 +184,48 @@ fn answer_ask<C: Caller>(
     make_and_tell(alloc, caller, ask, token, body, moment)
 }
 
-/// Answers a request as [`answer`] does. A token with the text of the last one isn't read anew.
+/// Answers what was asked, which is in its place.
+fn answer_kept<C: Caller>(
+    alloc: Global,
+    caller: &mut C,
+    desk: &Desk,
+    kept: &mut Kept,
+    body: Bytes,
+    moment: u64,
+) -> Result<Answer, Memory>
+    requires moment { IsMoment moment }
+    requires asked { IsSome kept.old.ask }
+    requires remembers { Remembers desk.now.keys kept.old.recent }
+    ensures tells { IfSome kept.old.ask (λ ask. Tells (Ruled desk.now ask body moment) C.always (C.sight caller.old) (C.sight caller.new) result) }
+    ensures basis { C.basis caller.new ≡ C.basis caller.old }
+    ensures references { C.references caller.new ≡ C.references caller.old }
+    ensures remembers { Remembers desk.now.keys kept.new.recent }
+{
+    let Some(ask) = &mut kept.ask else {
+        unreachable!()
+    };
+    answer_ask(alloc, caller, desk, &mut kept.recent, ask, body, moment)
+}
+
+/// Answers a request as [`answer`] does. A token with a text that is remembered isn't read anew, and what is
+/// asked stands where the last one stood.
 pub(crate) fn answer_again<C: Caller>(
     alloc: Global,
     caller: &mut C,
     desk: &Desk,
-    last: &mut LastToken,
+    kept: &mut Kept,
     request: Request,
     moment: u64,
 ) -> Result<Answer, Memory>
     requires moment { IsMoment moment }
-    requires remembers { Remembers desk.now.keys last.old }
+    requires remembers { Remembers desk.now.keys kept.old.recent }
     ensures answers { Answers desk.now request moment C.always (C.sight caller.old) (C.sight caller.new) result }
     ensures basis { C.basis caller.new ≡ C.basis caller.old }
     ensures references { C.references caller.new ≡ C.references caller.old }
-    ensures remembers { Remembers desk.now.keys last.new }
+    ensures remembers { Remembers desk.now.keys kept.new.recent }
 {
-    match ask_of(alloc, &request) {
-        Ok(mut ask) => answer_ask(alloc, caller, desk, last, &mut ask, request.body, moment),
+    match ask_into(alloc, &request, &mut kept.ask) {
+        Ok(()) => answer_kept(alloc, caller, desk, kept, request.body, moment),
         Err(AskFault::Refused { status }) => Ok(status_only(alloc, status)),
         Err(AskFault::Memory) => Err(Memory),
     }
@@ -220,12 +245,5 @@ pub fn answer<C: Caller>(
     ensures basis { C.basis caller.new ≡ C.basis caller.old }
     ensures references { C.references caller.new ≡ C.references caller.old }
 {
-    answer_again(
-        alloc,
-        caller,
-        desk,
-        &mut LastToken::new(&desk.keys),
-        request,
-        moment,
-    )
+    answer_again(alloc, caller, desk, &mut Kept::new(alloc), request, moment)
 }

@@ -9,12 +9,12 @@ ghost use Rattle.host_server.specs.Steps.{Prepares, Replies, Steps};
 
 use crate::answering::answer_again;
 use crate::desk::Desk;
+use crate::kept::Kept;
 use crate::sending::{send, send_bare};
-use access_tokens::LastToken;
 use host_core::Caller;
 use outside::{Clock, Failed, Link};
 use std::alloc::Global;
-use wopi_headers::reply_of;
+use wopi_headers::take_reply;
 use wopi_http::{Buffer, Got, Reply, Request, closes, read_request};
 use wopi_text::Memory;
 
@@ -52,20 +52,21 @@ fn reply_to<C: Caller>(
     alloc: Global,
     caller: &mut C,
     desk: &Desk,
-    last: &mut LastToken,
+    kept: &mut Kept,
     request: Request,
     moment: u64,
     close: bool,
 ) -> Option<Reply>
     requires moment { IsMoment moment }
-    requires remembers { Remembers desk.now.keys last.old }
+    requires remembers { Remembers desk.now.keys kept.old.recent }
     ensures basis { C.basis caller.new ≡ C.basis caller.old }
     ensures lent { C.references caller.new ≡ C.references caller.old }
     ensures makes { Prepares desk.now C.always request moment close (C.sight caller.old) (C.sight caller.new) result }
-    ensures remembers { Remembers desk.now.keys last.new }
+    ensures remembers { Remembers desk.now.keys kept.new.recent }
 {
-    match answer_again(alloc, caller, desk, last, request, moment) {
-        Ok(answer) => match reply_of(alloc, answer, close) {
+    let mut told = answer_again(alloc, caller, desk, kept, request, moment);
+    match &mut told {
+        Ok(answer) => match take_reply(alloc, answer, close) {
             Ok(reply) => Some(reply),
             Err(Memory) => None,
         },
@@ -78,13 +79,13 @@ fn answer_message<C: Caller, L: Link, K: Clock>(
     alloc: Global,
     caller: &mut C,
     desk: &Desk,
-    last: &mut LastToken,
+    kept: &mut Kept,
     link: &mut L,
     clock: &mut K,
     request: Request,
     close: bool,
 ) -> Result<(), Failed>
-    requires { Remembers desk.now.keys last.old }
+    requires { Remembers desk.now.keys kept.old.recent }
     ensures basis { C.basis caller.new ≡ C.basis caller.old }
     ensures lent { C.references caller.new ≡ C.references caller.old }
     ensures replies { Replies desk.now C.always request close (K.moments clock.old) (K.moments clock.new)
@@ -94,10 +95,10 @@ fn answer_message<C: Caller, L: Link, K: Clock>(
     ensures references { L.references link.new ≡ L.references link.old }
     ensures never_falls { L.write_faults link.old ≤ L.write_faults link.new }
     ensures failed { OnErr result (Rose (L.write_faults link.old) (L.write_faults link.new)) }
-    ensures remembers { Remembers desk.now.keys last.new }
+    ensures remembers { Remembers desk.now.keys kept.new.recent }
 {
     let moment = clock.now();
-    let reply = reply_to(alloc, caller, desk, last, request, moment, close);
+    let reply = reply_to(alloc, caller, desk, kept, request, moment, close);
     send(link, reply, close)
 }
 
@@ -106,14 +107,14 @@ fn serve_one<C: Caller, L: Link, K: Clock>(
     alloc: Global,
     caller: &mut C,
     desk: &Desk,
-    last: &mut LastToken,
+    kept: &mut Kept,
     link: &mut L,
     clock: &mut K,
     buffer: &mut Buffer,
     count: usize,
 ) -> Progress
     requires count { count < message_limit }
-    requires remembers { Remembers desk.now.keys last.old }
+    requires remembers { Remembers desk.now.keys kept.old.recent }
     ensures basis { C.basis caller.new ≡ C.basis caller.old }
     ensures lent { C.references caller.new ≡ C.references caller.old }
     ensures steps { Steps desk.now C.always count (prepend_known buffer.old (L.left link.old)) (prepend_known buffer.new (L.left link.new))
@@ -123,12 +124,12 @@ fn serve_one<C: Caller, L: Link, K: Clock>(
     ensures writes_count { L.write_faults link.old ≤ L.write_faults link.new }
     ensures read_fault { result ≡ Progress.Over ConnEnd.ReadFault → Rose (L.read_faults link.old) (L.read_faults link.new) }
     ensures write_fault { result ≡ Progress.Over ConnEnd.WriteFault → Rose (L.write_faults link.old) (L.write_faults link.new) }
-    ensures remembers { Remembers desk.now.keys last.new }
+    ensures remembers { Remembers desk.now.keys kept.new.recent }
 {
     match read_request(link, buffer) {
         Got::Message(request) => {
             let close = is_last(count, &request);
-            match answer_message(alloc, caller, desk, last, link, clock, request, close) {
+            match answer_message(alloc, caller, desk, kept, link, clock, request, close) {
                 Ok(()) => {
                     if close {
                         Progress::Over(ConnEnd::Done)
@@ -179,13 +180,13 @@ pub fn serve_connection<C: Caller, L: Link, K: Clock>(
     let Ok(mut buffer) = Buffer::new(alloc) else {
         return ConnEnd::Memory;
     };
-    let mut last = LastToken::new(&desk.keys);
+    let mut kept = Kept::new(alloc);
     'messages: for count in 0..MESSAGE_LIMIT {
         match serve_one(
             alloc,
             caller,
             desk,
-            &mut last,
+            &mut kept,
             link,
             clock,
             &mut buffer,

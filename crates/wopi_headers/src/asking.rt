@@ -1,6 +1,6 @@
 //! Requests read as operations. What is asked is made once, by the function of its row, in the place
 //! that the caller has for it: lock ids stand inline, and each move of one would copy them whole.
-ghost use Rattle.std.specs.Prelude.{Ok, Some, ◌≡◌, ◌↔◌, false, IsTrue};
+ghost use Rattle.std.specs.Prelude.{Ok, Some, ◌≡◌, ◌↔◌, false, IsTrue, OnErr};
 ghost use Rattle.wopi_headers.specs.declared.ask.Op.{Op};
 ghost use Rattle.wopi_headers.specs.declared.row.Row.TheVariants.{Lock, GetFile, PutFile, RefreshLock, Unlock, PutRelativeFile};
 ghost use Rattle.wopi_headers.specs.Readings.{lock_name, old_lock_name, IsMissing};
@@ -36,7 +36,8 @@ fn ask_relock(
     place: &mut Option<Ask>,
 ) -> Result<(), AskFault>
     requires { ¬ (IsMissing old_lock_name fields.now) }
-    ensures { IsRead Lock file token fields.now result place.new }
+    ensures read { IsRead Lock file token fields.now result place.new }
+    ensures left { OnErr result (place.new ≡ place.old) }
 {
     let Some(id) = lock_named(fields, b"X-WOPI-Lock") else {
         return Err(AskFault::Refused { status: 400 });
@@ -59,7 +60,8 @@ fn ask_lock(
     fields: &[Field],
     place: &mut Option<Ask>,
 ) -> Result<(), AskFault>
-    ensures { IsRead Lock file token fields.now result place.new }
+    ensures read { IsRead Lock file token fields.now result place.new }
+    ensures left { OnErr result (place.new ≡ place.old) }
 {
     if !is_missing(fields, b"X-WOPI-OldLock") {
         return ask_relock(file, token, fields, place);
@@ -81,7 +83,8 @@ fn ask_get(
     fields: &[Field],
     place: &mut Option<Ask>,
 ) -> Result<(), AskFault>
-    ensures { IsRead GetFile file token fields.now result place.new }
+    ensures read { IsRead GetFile file token fields.now result place.new }
+    ensures left { OnErr result (place.new ≡ place.old) }
 {
     let Some(most) = most_named(fields) else {
         return Err(AskFault::Refused { status: 400 });
@@ -102,7 +105,8 @@ fn ask_locked_put(
     place: &mut Option<Ask>,
 ) -> Result<(), AskFault>
     requires { ¬ (IsMissing lock_name fields.now) }
-    ensures { IsRead PutFile file token fields.now result place.new }
+    ensures read { IsRead PutFile file token fields.now result place.new }
+    ensures left { OnErr result (place.new ≡ place.old) }
 {
     let Some(id) = lock_named(fields, b"X-WOPI-Lock") else {
         return Err(AskFault::Refused { status: 400 });
@@ -121,7 +125,8 @@ fn ask_put(
     fields: &[Field],
     place: &mut Option<Ask>,
 ) -> Result<(), AskFault>
-    ensures { IsRead PutFile file token fields.now result place.new }
+    ensures read { IsRead PutFile file token fields.now result place.new }
+    ensures left { OnErr result (place.new ≡ place.old) }
 {
     if !is_missing(fields, b"X-WOPI-Lock") {
         return ask_locked_put(file, token, fields, place);
@@ -140,7 +145,8 @@ fn ask_refresh(
     fields: &[Field],
     place: &mut Option<Ask>,
 ) -> Result<(), AskFault>
-    ensures { IsRead RefreshLock file token fields.now result place.new }
+    ensures read { IsRead RefreshLock file token fields.now result place.new }
+    ensures left { OnErr result (place.new ≡ place.old) }
 {
     let Some(id) = lock_named(fields, b"X-WOPI-Lock") else {
         return Err(AskFault::Refused { status: 400 });
@@ -159,7 +165,8 @@ fn ask_unlock(
     fields: &[Field],
     place: &mut Option<Ask>,
 ) -> Result<(), AskFault>
-    ensures { IsRead Unlock file token fields.now result place.new }
+    ensures read { IsRead Unlock file token fields.now result place.new }
+    ensures left { OnErr result (place.new ≡ place.old) }
 {
     let Some(id) = lock_named(fields, b"X-WOPI-Lock") else {
         return Err(AskFault::Refused { status: 400 });
@@ -181,7 +188,8 @@ fn ask_copy(
     place: &mut Option<Ask>,
 ) -> Result<(), AskFault>
     requires { has_two_targets fields.now ≡ false }
-    ensures { IsRead PutRelativeFile file token fields.now result place.new }
+    ensures read { IsRead PutRelativeFile file token fields.now result place.new }
+    ensures left { OnErr result (place.new ≡ place.old) }
 {
     let Some(target) = target_named(alloc, fields)? else {
         return Err(AskFault::Refused { status: 400 });
@@ -247,7 +255,8 @@ fn row_in(method: Method, contents: bool, fields: &[Field]) -> Result<Row, u16>
 /// What a request asks for, put into a place, as [`ask_of`] tells it. A place that is used again spares
 /// the moves of what is asked.
 pub fn ask_into(alloc: Global, request: &Request, place: &mut Option<Ask>) -> Result<(), AskFault>
-    ensures { IsAnswerIn request.now result place.new }
+    ensures read { IsAnswerIn request.now result place.new }
+    ensures left { OnErr result (place.new ≡ place.old) }
 {
     let target = request.target.as_slice();
     let fields = request.fields.as_slice();

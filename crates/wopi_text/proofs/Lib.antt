@@ -1,4 +1,5 @@
 pub mod Decimals
 pub mod Disjunctions
 pub mod IdLemmas
+pub mod Shorts
 pub mod Utf8Bytes

@@ -1,9 +1,7 @@
--- Bytes, wherever they stand. (Own.)
-use Rattle.std.specs.Prelude.{ℕ, List}
-use Rattle.wopi_text.specs.declared.bytes.Place.{Place}
-use Rattle.wopi_text.specs.declared.bytes.Place.TheVariants.{Inline, Heap}
+-- Bytes, inline or on the heap. (Own.)
+use Rattle.std.specs.Prelude.{ℕ, List, [], ◌∷◌}
 
--- the bytes that stand there
-abbrev pub bytes_at : Place → List ℕ
-bytes_at (Inline bytes) = bytes
-bytes_at (Heap bytes) = bytes.items
+-- the long ones where there are any, and else the short ones
+unfoldable pub bytes_of : List ℕ → List ℕ → List ℕ
+bytes_of [] short = short
+bytes_of (byte ∷ long) short = byte ∷ long

@@ -6,30 +6,31 @@ use crate::inline::Inline;
 use std::alloc::Global;
 use std::marker::Model;
 
-/// The most bytes that stand inline: as many as the longest name of a WOPI header has, and one more.
-const SHORT: usize = 31;
-
-/// Where bytes stand.
-#[derive(Drop)]
-enum Place {
-    Inline(Inline<SHORT>),
-    Heap(Vec<u8>),
-}
+/// The most bytes that stand inline: the longest name of a WOPI header has 30.
+const SHORT: usize = 32;
 
 /// A list of bytes, such as the contents of a file, the body of a message or the name of a header. Up to
-/// 31 bytes that are copied from a slice stand inline and take no memory.
+/// 32 bytes that are copied from a slice stand inline and take no memory.
 #[derive(Drop)]
 pub struct Bytes {
-    place: Place,
+    // Where there are long ones, they are the bytes.
+    long: Vec<u8>,
+    short: Inline<SHORT>,
 }
 
 impl Model for Bytes {
     ghost use Rattle.std.specs.Prelude.{List, ℕ};
-    ghost use Rattle.wopi_text.specs.Bytes.{bytes_at};
+    ghost use Rattle.wopi_text.specs.Bytes.{bytes_of};
 
     ghost Value = { List ℕ };
 
-    ghost view = { λ b. bytes_at b.place };
+    ghost view = { λ b. bytes_of b.long.items b.short };
+}
+
+fn copied(alloc: Global, bytes: &[u8]) -> Result<Vec<u8>, Memory>
+    ensures { IfOk result (λ v. v.items ≡ bytes.now) }
+{
+    Ok(bytes.to_vec(alloc)?)
 }
 
 impl Bytes {
@@ -38,7 +39,8 @@ impl Bytes {
         ensures { result ≡ v.items }
     {
         Bytes {
-            place: Place::Heap(v),
+            long: v,
+            short: Inline::new(b""),
         }
     }
 
@@ -47,10 +49,11 @@ impl Bytes {
         ensures { IfOk result (λ b. b ≡ bytes.now) }
     {
         if bytes.len() > SHORT {
-            return Bytes::on_heap(alloc, bytes);
+            return Ok(Bytes::from_vec(copied(alloc, bytes)?));
         }
         Ok(Bytes {
-            place: Place::Inline(Inline::new(bytes)),
+            long: Vec::new(alloc),
+            short: Inline::new(bytes),
         })
     }
 
@@ -65,34 +68,30 @@ impl Bytes {
             return Bytes::from_slice(alloc, &bytes[start..end]);
         }
         Ok(Bytes {
-            place: Place::Inline(Inline::cut(bytes, start, len)),
+            long: Vec::new(alloc),
+            short: Inline::cut(bytes, start, len),
         })
-    }
-
-    fn on_heap(alloc: Global, bytes: &[u8]) -> Result<Bytes, Memory>
-        ensures { IfOk result (λ b. b ≡ bytes.now) }
-    {
-        Ok(Bytes::from_vec(bytes.to_vec(alloc)?))
     }
 
     /// The bytes as a vector. Those on the heap aren't copied.
     pub fn into_vec(self, alloc: Global) -> Result<Vec<u8>, Memory>
         ensures { IfOk result (λ v. v.items ≡ self) }
     {
-        match self.place {
-            Place::Inline(inline) => Ok(inline.as_slice().to_vec(alloc)?),
-            Place::Heap(bytes) => Ok(bytes),
+        let Bytes { long, short } = self;
+        if long.is_empty() {
+            return copied(alloc, short.as_slice());
         }
+        Ok(long)
     }
 
     /// The bytes, which stay where they are.
     pub fn as_slice(&self) -> &[u8]
         ensures { result.now ≡ self.now }
     {
-        match &self.place {
-            Place::Inline(inline) => inline.as_slice(),
-            Place::Heap(bytes) => bytes,
+        if self.long.is_empty() {
+            return self.short.as_slice();
         }
+        &self.long
     }
 
     /// An equal list, in memory of its own.

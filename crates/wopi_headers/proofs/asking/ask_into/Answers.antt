@@ -64,8 +64,8 @@ module _ (q : Request) (target path : List ℕ) (fields : List Field) (id name :
       let R : Row → Type 0 = λ k. IsRead k name token fields r p in
       read row token found.0 found.1 token_is r p (subst R (sym is) h)
 
-pub returns-in-Err : goal.returns-in-Err
-returns-in-Err c =
+pub returns-in-Err-clause-read : goal.returns-in-Err-clause-read
+returns-in-Err-clause-read c =
     let form : IsFileName c.in-Ok.file = search rules in
     refused c.args.request.now _ _ _ _ _ _ c.as_slice-target.ensures c.as_slice-fields.ensures c.path_of.ensures c.in-Some.ensures
     form c.in-Ok.ensures.value c.in-Err.status c.in-Err.ensures
@@ -73,38 +73,38 @@ returns-in-Err c =
 pub ask_copy-requires : goal.ask_copy-requires
 ask_copy-requires c = one_target _ _ c.as_slice-fields.result.now c.in-Ok-row_in.row c.in-Ok-row_in.ensures.0 c.in-PutRelativeFile.is
 
-pub returns-in-GetFile : goal.returns-in-GetFile
-returns-in-GetFile c =
+pub returns-in-GetFile-clause-read : goal.returns-in-GetFile-clause-read
+returns-in-GetFile-clause-read c =
     let form : IsFileName c.in-Ok.file = search rules in
     answered c.args.request.now _ _ _ _ _ _ c.as_slice-target.ensures c.as_slice-fields.ensures c.path_of.ensures c.in-Some.ensures
-    form c.in-Ok.ensures.value _ _ _ c.in-GetFile.is c.in-Ok-row_in.ensures c.in_ok-token.ensures c.ask_get.result c.ask_get.new.place c.ask_get.ensures
+    form c.in-Ok.ensures.value _ _ _ c.in-GetFile.is c.in-Ok-row_in.ensures c.in_ok-token.ensures c.ask_get.result c.ask_get.new.place c.ask_get.ensures.read
 
-pub returns-in-PutFile : goal.returns-in-PutFile
-returns-in-PutFile c =
+pub returns-in-PutFile-clause-read : goal.returns-in-PutFile-clause-read
+returns-in-PutFile-clause-read c =
     let form : IsFileName c.in-Ok.file = search rules in
     answered c.args.request.now _ _ _ _ _ _ c.as_slice-target.ensures c.as_slice-fields.ensures c.path_of.ensures c.in-Some.ensures
-    form c.in-Ok.ensures.value _ _ _ c.in-PutFile.is c.in-Ok-row_in.ensures c.in_ok-token.ensures c.ask_put.result c.ask_put.new.place c.ask_put.ensures
+    form c.in-Ok.ensures.value _ _ _ c.in-PutFile.is c.in-Ok-row_in.ensures c.in_ok-token.ensures c.ask_put.result c.ask_put.new.place c.ask_put.ensures.read
 
-pub returns-in-Lock : goal.returns-in-Lock
-returns-in-Lock c =
+pub returns-in-Lock-clause-read : goal.returns-in-Lock-clause-read
+returns-in-Lock-clause-read c =
     let form : IsFileName c.in-Ok.file = search rules in
     answered c.args.request.now _ _ _ _ _ _ c.as_slice-target.ensures c.as_slice-fields.ensures c.path_of.ensures c.in-Some.ensures
-    form c.in-Ok.ensures.value _ _ _ c.in-Lock.is c.in-Ok-row_in.ensures c.in_ok-token.ensures c.ask_lock.result c.ask_lock.new.place c.ask_lock.ensures
+    form c.in-Ok.ensures.value _ _ _ c.in-Lock.is c.in-Ok-row_in.ensures c.in_ok-token.ensures c.ask_lock.result c.ask_lock.new.place c.ask_lock.ensures.read
 
-pub returns-in-RefreshLock : goal.returns-in-RefreshLock
-returns-in-RefreshLock c =
+pub returns-in-RefreshLock-clause-read : goal.returns-in-RefreshLock-clause-read
+returns-in-RefreshLock-clause-read c =
     let form : IsFileName c.in-Ok.file = search rules in
     answered c.args.request.now _ _ _ _ _ _ c.as_slice-target.ensures c.as_slice-fields.ensures c.path_of.ensures c.in-Some.ensures
-    form c.in-Ok.ensures.value _ _ _ c.in-RefreshLock.is c.in-Ok-row_in.ensures c.in_ok-token.ensures c.ask_refresh.result c.ask_refresh.new.place c.ask_refresh.ensures
+    form c.in-Ok.ensures.value _ _ _ c.in-RefreshLock.is c.in-Ok-row_in.ensures c.in_ok-token.ensures c.ask_refresh.result c.ask_refresh.new.place c.ask_refresh.ensures.read
 
-pub returns-in-Unlock : goal.returns-in-Unlock
-returns-in-Unlock c =
+pub returns-in-Unlock-clause-read : goal.returns-in-Unlock-clause-read
+returns-in-Unlock-clause-read c =
     let form : IsFileName c.in-Ok.file = search rules in
     answered c.args.request.now _ _ _ _ _ _ c.as_slice-target.ensures c.as_slice-fields.ensures c.path_of.ensures c.in-Some.ensures
-    form c.in-Ok.ensures.value _ _ _ c.in-Unlock.is c.in-Ok-row_in.ensures c.in_ok-token.ensures c.ask_unlock.result c.ask_unlock.new.place c.ask_unlock.ensures
+    form c.in-Ok.ensures.value _ _ _ c.in-Unlock.is c.in-Ok-row_in.ensures c.in_ok-token.ensures c.ask_unlock.result c.ask_unlock.new.place c.ask_unlock.ensures.read
 
-pub returns-in-PutRelativeFile : goal.returns-in-PutRelativeFile
-returns-in-PutRelativeFile c =
+pub returns-in-PutRelativeFile-clause-read : goal.returns-in-PutRelativeFile-clause-read
+returns-in-PutRelativeFile-clause-read c =
     let form : IsFileName c.in-Ok.file = search rules in
     answered c.args.request.now _ _ _ _ _ _ c.as_slice-target.ensures c.as_slice-fields.ensures c.path_of.ensures c.in-Some.ensures
-    form c.in-Ok.ensures.value _ _ _ c.in-PutRelativeFile.is c.in-Ok-row_in.ensures c.in_ok-token.ensures c.ask_copy.result c.ask_copy.new.place c.ask_copy.ensures
+    form c.in-Ok.ensures.value _ _ _ c.in-PutRelativeFile.is c.in-Ok-row_in.ensures c.in_ok-token.ensures c.ask_copy.result c.ask_copy.new.place c.ask_copy.ensures.read
