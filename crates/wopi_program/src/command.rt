@@ -25,7 +25,7 @@ pub enum Command {
     Replay,
     /// The text of an access token, on the output.
     Token,
-    /// The journal of the input, in today's form on the output.
+    /// The journal of the input, in the second form on the output.
     Upgrade,
 }
 

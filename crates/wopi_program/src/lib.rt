@@ -6,7 +6,7 @@
 //! output; `serve` answers those of many connections by workers, and then writes its host's journal
 //! on the output; `edit` runs the script of its input over a sheet at a host; `replay` runs a
 //! schedule of sessions in memory and writes what it shows; `token` writes the text of an access
-//! token; `upgrade` reads a journal from its input and writes it in today's form.
+//! token; `upgrade` reads a journal from its input and writes it in the second form.
 #![tactic(auto)]
 
 mod command;

@@ -25,12 +25,12 @@ struct Row {
 }
 
 /// The journal of demo/, whose second form stands in the README.
-const LAST_YEAR: &str = "wopi journal 1 opened 0\nfile 612e637376 312c320a\n\
+const IN_THE_FIRST: &str = "wopi journal 1 opened 0\nfile 612e637376 312c320a\n\
 1 11 0 5 612e637376 lock 4c31 ann.612e637376.w.2.0.9000000 200 - - v1 -\n\
 2 11 0 9 612e637376 put 4c31 2 ann.612e637376.w.2.0.9000000 200 - - v2 3432\n\
 3 11 1 7 612e637376 lock 4232 bob.612e637376.w.3.0.9000000 409 4c31 locked - -\nend\n";
 
-const LAST_YEAR_TODAY: &str = "wopi journal 2 opened 0 first 1\nfile 612e637376 312c320a\n\
+const IN_THE_SECOND: &str = "wopi journal 2 opened 0 first 1\nfile 612e637376 312c320a\n\
 1 11 0 5 5 612e637376 lock 4c31 ann.612e637376.w.2.0.9000000 200 - - v1 -\n\
 2 11 0 9 9 612e637376 put 4c31 2 ann.612e637376.w.2.0.9000000 200 - - v2 3432\n\
 3 11 1 7 9 612e637376 lock 4232 bob.612e637376.w.3.0.9000000 409 4c31 locked - -\nend 3\n";
@@ -67,9 +67,9 @@ const ROWS: [Row; 8] = [
         output: &["line 1: bad line\n"],
     },
     Row {
-        input: &[LAST_YEAR],
+        input: &[IN_THE_FIRST],
         status: 0,
-        output: &[LAST_YEAR_TODAY],
+        output: &[IN_THE_SECOND],
     },
     Row {
         input: &["wopi journal 1 opened 7\nend\n"],
