@@ -13,8 +13,9 @@
 //! whose number it has, where its text has the form, that key is in force and its code is right.
 //! [`live`] says whether a token that was read counts at a moment: what it allows is for the caller to
 //! judge. A text has one reading at most, and what is minted of a token with legal moments is read back
-//! (the functions of [`laws`]). [`RecentTokens`] spares a text its code that was read before. [`may_write`] and [`moment_read`] read single fields. Nothing but
-//! [`mint`] takes memory.
+//! (the functions of [`laws`]). [`RecentTokens`] spares a text its code that was read before.
+//! [`may_write`] and [`moment_read`] read single fields. [`mint`] takes memory, and
+//! [`RecentTokens::read`] does where there is some: without it a text is read and not remembered.
 #![tactic(auto)]
 
 mod fields;

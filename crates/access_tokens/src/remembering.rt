@@ -1,6 +1,6 @@
 //! The tokens that were read of late.
 ghost use Rattle.std.specs.List.{All};
-ghost use Rattle.std.specs.Prelude.{◌≡◌, ◌↔◌, Some, IfSome};
+ghost use Rattle.std.specs.Prelude.{◌≡◌, ◌≤◌, ◌↔◌, Some, IfSome, length};
 ghost use Rattle.wopi_model.specs.declared.token.Token.{Token};
 ghost use Rattle.access_tokens.specs.Remembering.{IsKnown, Remembers};
 ghost use Rattle.access_tokens.specs.TokenText.{IsSigned};
@@ -9,6 +9,7 @@ ghost use Rattle.access_tokens.specs.declared.keys.Keys.{Keys};
 use crate::Keys;
 use crate::reading::{are_equal, read};
 use std::alloc::Global;
+use std::marker::Model;
 use wopi_model::Token;
 use wopi_text::Bytes;
 
@@ -28,9 +29,9 @@ struct Known {
     token: Token,
 }
 
-/// The last 64 tokens that were read, and their texts. Who shows such a text again is spared its code: that
-/// costs one comparison, with the last of the texts that had its mark. They serve the keys under which
-/// they were read.
+/// Up to 64 of the tokens that were read last, and their texts. Who shows such a text again is spared its
+/// code: that costs one comparison, with the last of the texts that had its mark. Texts of one mark push
+/// each other out. They serve the keys under which they were read.
 #[derive(Drop)]
 pub struct RecentTokens {
     known: Vec<Known>,
@@ -38,6 +39,17 @@ pub struct RecentTokens {
     next: u8,
     /// The place of the last text of each mark. A wrong one costs time and nothing else.
     places: [u8; MARKS],
+}
+
+impl Model for RecentTokens {
+    ghost use Rattle.std.specs.Prelude.{List, ◌≤◌, length};
+    ghost use Rattle.access_tokens.specs.declared.remembering.Known.{Known};
+
+    ghost Value = { List Known };
+
+    ghost view = { λ r. r.known.items };
+
+    ghost invariant = { λ r. length r.known.items ≤ 64 };
 }
 
 /// A text's mark, made of its last bytes, which are those of its code.
@@ -102,7 +114,7 @@ impl RecentTokens {
 
     /// The place of the text with this mark, so that only texts of one mark push each other out; else the next one.
     fn place_for(&mut self, mark: u8) -> u8
-        ensures { self.new.known.items ≡ self.old.known.items }
+        ensures { self.new ≡ self.old }
     {
         let place = self.places[usize::from(mark)];
         match self.known.get(usize::from(place)) {
@@ -116,13 +128,18 @@ impl RecentTokens {
     }
 }
 
-/// Puts it at a place of the list, or at its end where the list is shorter, and says whether there was memory for it.
+/// Puts it at a place of the list, or at its end where the list is shorter, and says whether it is there now: there may
+/// be no memory for it.
 fn put(list: &mut Vec<Known>, place: usize, known: Known) -> bool
-    ensures { (keys : Keys) → All (IsKnown keys) list.old.items → IsKnown keys known → All (IsKnown keys) list.new.items }
+    ensures all { (keys : Keys) → All (IsKnown keys) list.old.items → IsKnown keys known → All (IsKnown keys) list.new.items }
+    ensures few { length list.old.items ≤ 64 → length list.new.items ≤ 64 }
 {
     if place < list.len() {
         list[place] = known;
         return true;
+    }
+    if list.len() >= usize::from(MOST) {
+        return false;
     }
     match list.push(known) {
         Ok(()) => true,

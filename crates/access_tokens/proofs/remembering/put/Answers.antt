@@ -5,8 +5,8 @@ use Rattle.access_tokens.specs.Remembering.{IsKnown}
 use Rattle.access_tokens.proofs.Remembered.{all_pushed}
 use Rattle.access_tokens.proofs.remembering.put.Goals as goal
 
-pub returns-then-place-len : goal.returns-then-place-len
-returns-then-place-len c = λ keys all one. All-set (IsKnown keys) _ _ _ one all
+pub returns-then-place-len-clause-all : goal.returns-then-place-len-clause-all
+returns-then-place-len-clause-all c = λ keys all one. All-set (IsKnown keys) _ _ _ one all
 
-pub returns : goal.returns
-returns c = λ keys all one. subst (All (IsKnown keys)) (sym c.push.ensures.items) (all_pushed (IsKnown keys) _ _ _ all one)
+pub returns-clause-all : goal.returns-clause-all
+returns-clause-all c = λ keys all one. subst (All (IsKnown keys)) (sym c.push.ensures.items) (all_pushed (IsKnown keys) _ _ _ all one)
