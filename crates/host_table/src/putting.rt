@@ -138,8 +138,8 @@ fn put_piece<K: Sink>(sink: &mut K, room: &mut WriteRoom, piece: Piece<'_>) -> R
     }
 }
 
-/// Puts pieces of a line, one after another: they are gathered, or written where there is no room for them. At a fault a
-/// front of what was gathered and of them was written, and then what the room holds is open.
+/// Puts pieces of a line, one after another: they are gathered, or written where there is no room for them. At a
+/// fault a front of what was gathered and of them was written, and then what the room holds is open.
 pub fn put_pieces<K: Sink>(
     sink: &mut K,
     room: &mut WriteRoom,

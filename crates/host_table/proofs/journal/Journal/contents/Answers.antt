@@ -1,31 +1,11 @@
-use Rattle.std.proofs.Common.{◌≡◌, ◌∙◌, arith, ap, sym, subst, slice_get, None, Some, option_map, []}
-use Rattle.host_core.specs.Entries.{accepted_at}
-use Rattle.host_table.specs.Journal.{JournalView, made_in, found, merge_of, IsFound}
-use Rattle.host_table.proofs.Reading.{found_at, merge_at, merge_none, part_inside, accepted_same, spot_there, spot_past, part_there}
+use Rattle.std.proofs.Common.{◌∙◌, ap, sym, option_map, [], Bor, List, ℕ}
+use Rattle.host_table.proofs.Reading.{accepted_same}
 use Rattle.host_table.proofs.journal.Journal.contents.Goals as goal
 
-pub index-requires : goal.index-requires
-index-requires g c =
-    let spot = c.in-Some.spot.now in let parts = c.self.inside.pasts.items in
-    let at = spot_there c.deref.result.now c.self.inside.spots.items c.args.place spot c.deref.ensures.value c.in-Some.ensures.lookup.0 c.in-Some.ensures.lookup.1 in
-    let is : IsFound (found parts spot) = found_at parts c.self.inside.spots.items c.args.place spot c.self.invariant.found at in
-    omega (arith, part_inside parts spot.shard spot.place is, c.from.ensures, c.self.inside.pasts.ok.0)
+pub returns-in_err-past : goal.returns-in_err-past
+returns-in_err-past g c =
+    ap (option_map (λ (contents : Bor (List ℕ)). contents.now)) c.from_residual.ensures ∙ accepted_same [] c.args.self.now.merge 0 c.args.place (sym c.in_err-past.ensures.none)
 
-pub returns-in-None : goal.returns-in-None
-returns-in-None g c =
-    let parts = c.self.inside.pasts.items in
-    let none = merge_none parts c.self.inside.spots.items c.args.place c.self.invariant.found (spot_past c.deref.result.now c.self.inside.spots.items c.args.place c.deref.ensures.value c.in-None.ensures.lookup.0) in
-    let P : JournalView g.row.F.Denot → Type 0 = λ j. None ≡ accepted_at j.merge c.args.place in
-    subst P c.self.view_is (accepted_same [] (merge_of parts c.self.inside.spots.items) 0 c.args.place (sym none))
-
-pub returns-in-Some : goal.returns-in-Some
-returns-in-Some g c =
-    let F = g.row.F.Denot in
-    let spot = c.in-Some.spot.now in let parts = c.self.inside.pasts.items in
-    let at = spot_there c.deref.result.now c.self.inside.spots.items c.args.place spot c.deref.ensures.value c.in-Some.ensures.lookup.0 c.in-Some.ensures.lookup.1 in
-    let is : IsFound (found parts spot) = found_at parts c.self.inside.spots.items c.args.place spot c.self.invariant.found at in
-    let there : slice_get parts spot.shard ≡ Some c.index.result.now = part_there parts spot c.from.result c.index.result.now is c.from.ensures c.index.ensures in
-    let same : found parts spot ≡ slice_get c.index.result.now.made c.from-in-Some.result =
-    ap (λ o. made_in o spot.place) there ∙ ap (slice_get c.index.result.now.made) (sym c.from-in-Some.ensures) in
-    let P : JournalView F → Type 0 = λ j. option_map (λ contents. contents.now) c.contents.result ≡ accepted_at j.merge c.args.place in
-    subst P c.self.view_is (c.contents.ensures ∙ accepted_same c.index.result.now.made (merge_of parts c.self.inside.spots.items) c.from-in-Some.result c.args.place (sym same ∙ sym (merge_at parts c.self.inside.spots.items c.args.place spot c.self.invariant.found at)))
+pub returns : goal.returns
+returns g c =
+    c.contents.ensures ∙ accepted_same c.in_ok-past.past.now.made c.args.self.now.merge c.in_ok-past.at c.args.place c.in_ok-past.ensures.some
