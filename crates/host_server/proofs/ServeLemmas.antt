@@ -14,7 +14,7 @@ use Rattle.host_server.specs.declared.desk.Desk.{Desk}
 use Rattle.host_server.specs.Deeds.{Does}
 use Rattle.host_server.proofs.DeedLemmas.{Does-nil, Does-join}
 use Rattle.host_server.specs.Turns.{bytes_of, moments_of, parts_of, texts_of, turn_text}
-use Rattle.host_server.specs.Connection.{message_limit, is_last, Cut, IsEnd, IsNext, IsLine, Serves, end_text, end_moments, end_part, next_moments, next_part}
+use Rattle.host_server.specs.Connection.{message_limit, is_last, Cut, IsConnEnd, IsEnd, IsNext, IsLine, Serves, end_text, end_moments, end_part, next_moments, next_part}
 use Rattle.host_server.specs.Steps.{StepsOn, StepsOver, Breaks, Steps, Running}
 use Rattle.host_server.proofs.SequenceLemmas.{are_from, GivesAll-trans, GivesAll-nil, flat_map-one, map-one, GoOn-one}
 
@@ -115,10 +115,12 @@ module _ (desk : Desk) (always : Sight → Type 0) (left clock : Option (List �
       refl,
     )
 
-    pub serves_broken : (clock'' : Option (List ℕ)) (sight'' : Sight) (held'' : Option (List ℕ)) → count < message_limit
-        → Breaks desk always count left' clock' clock'' sight' sight'' held' held''
-        → Serves desk always WriteFault left clock clock'' sight sight'' held held''
-    serves_broken clock'' sight'' held'' few step =
+    serves_breaking : (end : ConnEnd) (clock'' : Option (List ℕ)) (sight'' : Sight) (held'' : Option (List ℕ))
+        → (step : Breaks desk always count left' clock' clock'' sight' sight'' held' held'')
+        → IsConnEnd desk end (bytes_of running.turns ++ step.rest) (moments_of running.turns ++ next_moments step.next)
+        (parts_of running.turns ++ next_part step.next) (texts_of running.turns ++ step.front)
+        → Serves desk always end left clock clock'' sight sight'' held held''
+    serves_breaking end clock'' sight'' held'' step is_end =
         let turns = running.turns in
         record {
           input = bytes_of turns ++ step.rest;
@@ -129,26 +131,21 @@ module _ (desk : Desk) (always : Sight → Type 0) (left clock : Option (List �
           times = GivesAll-trans clock clock' clock'' _ _ running.times step.times;
           makes = Does-join always sight sight' sight'' (parts_of turns) (next_part step.next) running.makes step.makes;
           writes = Appends-trans held held' held'' _ _ running.writes step.writes;
-          says = (cut_from clock'' sight'' held'' few step).0;
+          says = is_end;
         }
+
+    pub serves_broken : (clock'' : Option (List ℕ)) (sight'' : Sight) (held'' : Option (List ℕ)) → count < message_limit
+        → Breaks desk always count left' clock' clock'' sight' sight'' held' held''
+        → Serves desk always WriteFault left clock clock'' sight sight'' held held''
+    serves_broken clock'' sight'' held'' few step =
+        serves_breaking WriteFault clock'' sight'' held'' step (cut_from clock'' sight'' held'' few step).0
 
     pub serves_unread : (clock'' : Option (List ℕ)) (sight'' : Sight) (held'' : Option (List ℕ)) → count < message_limit
         → (step : Breaks desk always count left' clock' clock'' sight' sight'' held' held'') → IsLine step.next → step.back ≡ []
         → Serves desk always ReadFault left clock clock'' sight sight'' held held''
     serves_unread clock'' sight'' held'' few step is_line whole =
-        let turns = running.turns in
         let (cut, next, back) = cut_from clock'' sight'' held'' few step in
-        record {
-          input = bytes_of turns ++ step.rest;
-          moments = moments_of turns ++ next_moments step.next;
-          deeds = parts_of turns ++ next_part step.next;
-          output = texts_of turns ++ step.front;
-          reads = are_from left left' (bytes_of turns) step.rest running.reads step.reads;
-          times = GivesAll-trans clock clock' clock'' _ _ running.times step.times;
-          makes = Does-join always sight sight' sight'' (parts_of turns) (next_part step.next) running.makes step.makes;
-          writes = Appends-trans held held' held'' _ _ running.writes step.writes;
-          says = (cut, subst IsLine (sym next) is_line, back ∙ whole);
-        }
+        serves_breaking ReadFault clock'' sight'' held'' step (cut, subst IsLine (sym next) is_line, back ∙ whole)
 
     pub serves_from : (end : ConnEnd) (left'' clock'' : Option (List ℕ)) (sight'' : Sight) (held'' : Option (List ℕ)) → count < message_limit
         → Steps desk always count left' left'' clock' clock'' sight' sight'' held' held'' (Over end)

@@ -154,8 +154,8 @@ fn serve_one<C: Caller, L: Link, K: Clock>(
     }
 }
 
-/// Answers the messages of a link in their order. To save computing its code, a token with the text of
-/// the last one that was read isn't read anew.
+/// Answers the messages of a link in their order. To save computing its code, a token whose text is
+/// remembered isn't read anew.
 pub fn serve_connection<C: Caller, L: Link, K: Clock>(
     alloc: Global,
     caller: &mut C,

@@ -1,4 +1,5 @@
 //! What a connection keeps from one message to the next.
+ghost use Rattle.std.specs.Prelude.{◌≡◌, None};
 ghost use Rattle.access_tokens.specs.Remembering.{Remembers};
 ghost use Rattle.access_tokens.specs.declared.keys.Keys.{Keys};
 
@@ -17,7 +18,8 @@ pub struct Kept {
 impl Kept {
     /// Nothing was read yet. It takes no memory.
     pub fn new(alloc: Global) -> Kept
-        ensures { (keys : Keys) → Remembers keys result.recent }
+        ensures recent { (keys : Keys) → Remembers keys result.recent }
+        ensures ask { result.ask ≡ None }
     {
         Kept {
             recent: RecentTokens::new(alloc),
