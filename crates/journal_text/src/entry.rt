@@ -56,7 +56,8 @@ pub(crate) struct Ends<'a> {
     pub(crate) contents: &'a [u8],
 }
 
-/// The line of an entry, if it is one. In the first form, which doesn't tell the shard's time, the moment stands for it.
+/// The line of an entry, if it is one. In the first form, which doesn't tell the shard's time, the moment
+/// stands for it.
 pub(crate) fn line_read(alloc: Global, form: Format, row: &[u8]) -> Result<Option<Line>, Memory>
     ensures some { IfOk result (λ read. IfSome read (λ line. IsLine form line × (words_of row.now ≡ line_words form line))) }
     ensures none { IfOk result (λ read. IfNone read ((line : Line) → IsLine form line → words_of row.now ≢ line_words form line)) }

@@ -20,9 +20,9 @@ pub enum InputFault {
     Memory,
 }
 
-/// All bytes of an input, where they are no more than those of a journal. Of a longer input one byte more is read than a journal may
-/// have, and no further one. How far it reads before a fault, no clause says. The bytes take at most two and a quarter times their
-/// number while they come.
+/// All bytes of an input, where they are no more than those of a journal. Of a longer input one byte more is
+/// read than a journal may have, and no further one. How far it reads before a fault, no clause says. The
+/// bytes take at most two and a quarter times their number while they come.
 pub fn read_bytes<S: Source>(alloc: Global, source: &mut S) -> Result<Vec<u8>, InputFault>
     ensures whole { IfOk result (λ bytes. IsWhole (S.left source.old) (S.left source.new) bytes.items) }
     ensures long { result ≡ Err InputFault.TooLong → IsLong (S.left source.old) (S.left source.new) }
@@ -74,7 +74,8 @@ fn take_piece<S: Source>(
     }
 }
 
-/// Adds a piece. Where there is no room for it, the vector grows by a quarter of itself, or by the piece where that is more.
+/// Adds a piece. Where there is no room for it, the vector grows by a quarter of itself, or by the piece
+/// where that is more.
 fn add(bytes: &mut Vec<u8>, piece: &[u8]) -> Result<(), Memory>
     requires short { length bytes.old.items ≤ most_bytes }
     requires piece { length piece.now ≤ 65536 }

@@ -24,7 +24,8 @@ pub(crate) const MOST_BYTES: usize = 268_435_456;
 pub enum JournalFault {
     #[error("journal too long")]
     TooLong,
-    /// The line with this number, counted from 1, is the first that can't stand where it does, or that is missing there.
+    /// The line with this number, counted from 1, is the first that can't stand where it does, or that is
+    /// missing there.
     #[error("line {line}: bad line")]
     BadLine { line: u64 },
     #[error("out of memory")]

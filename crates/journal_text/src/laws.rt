@@ -15,8 +15,8 @@ pub fn what_is_written_is_read()
     ensures { (text : JournalText) → IsWithin Second text → IsReading (text_of (rows_of Second text)) text }
 {}
 
-/// What `write_journal` writes of a host's journal reads as its opening and its entries: where it ends well, it says that they keep
-/// the bounds.
+/// What `write_journal` writes of a host's journal reads as its opening and its entries: where it ends well,
+/// it says that they keep the bounds.
 pub fn a_host_s_journal_is_read<F: Folder>()
     ensures { (journal : JournalView F) → KeepsBounds journal → IsReading (journal_text journal) (told_by journal) }
 {}

@@ -1,13 +1,15 @@
 //! The texts of journals, read and written.
 //!
-//! A journal's text has a first line, the lines of the opening files, the lines of the entries, and a last line. Each line is words
-//! with single spaces between them, and a line feed. The text has two forms: the first doesn't tell a shard's time at an entry, nor the
-//! version of the opening files, nor how many entries there are. A shard's time is then the greatest of when the host opened and the
-//! moments of the shard's entries so far, and the version is 1. The lock ids of the first form have at most 256 bytes.
+//! A journal's text has a first line, the lines of the opening files, the lines of the entries, and a last
+//! line. Each line is words with single spaces between them, and a line feed. The text has two forms: the
+//! first doesn't tell a shard's time at an entry, nor the version of the opening files, nor how many entries
+//! there are. A shard's time is then the greatest of when the host opened and the moments of the shard's
+//! entries so far, and the version is 1. The lock ids of the first form have at most 256 bytes.
 //!
-//! [`read_journal`] reads both forms, and names the first line that can't stand where it does. [`write_lines`] writes the second form.
-//! [`rewrite`] does both at once, in little memory. [`read_bytes`] gives the bytes of an input that is a journal.
-//! Bytes read as one text at most, and what is written of a text that keeps a reading's bounds is read as that text: see [`laws`].
+//! [`read_journal`] reads both forms, and names the first line that can't stand where it does.
+//! [`write_lines`] writes the second form. [`rewrite`] does both at once, in little memory. [`read_bytes`]
+//! gives the bytes of an input that is a journal. Bytes read as one text at most, and what is written of a
+//! text that keeps a reading's bounds is read as that text: see [`laws`].
 #![tactic(auto)]
 
 mod acts;

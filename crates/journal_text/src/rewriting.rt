@@ -40,8 +40,9 @@ pub enum RewriteFault {
     Write,
 }
 
-/// Writes the journal that these bytes are in the second form. All of it is read before anything is written, and no file and no
-/// entry is kept: beside the bytes this takes the memory of one file's contents and their digits, and 64 KiB.
+/// Writes the journal that these bytes are in the second form. All of it is read before anything is written,
+/// and no file and no entry is kept: beside the bytes this takes the memory of one file's contents and their
+/// digits, and 64 KiB.
 pub fn rewrite<K: Sink>(alloc: Global, sink: &mut K, bytes: &[u8]) -> Result<(), RewriteFault>
     ensures written { OnOk result ((text : JournalText) × IsReading bytes.now text × Appends (K.held sink.old) (K.held sink.new) (text_of (rows_of Second text))) }
     ensures too_long { (result ≡ Err (Journal TooLong)) ↔ (most_bytes < length bytes.now) }
@@ -142,7 +143,8 @@ fn behind_first(bytes: &[u8]) -> &[u8]
     }
 }
 
-/// Puts the line of a file or of an entry as the second form has it, and goes on with the times. The last line is left out.
+/// Puts the line of a file or of an entry as the second form has it, and goes on with the times. The last
+/// line is left out.
 fn put_row<K: Sink>(
     sink: &mut K,
     room: &mut WriteRoom,

@@ -195,7 +195,8 @@ fn an_entry_that_breaks_a_bound_is_bad(rt: HostRuntime) -> Result<(), Fail> {
     Ok(())
 }
 
-/// The first bad line of a journal with these words before and behind the lock id of its entry, which has so many bytes.
+/// The first bad line of a journal with these words before and behind the lock id of its entry, which has so
+/// many bytes.
 fn bad_under_id(alloc: Global, front: &str, count: usize, end: &str) -> Result<Option<u64>, Fail> {
     let mut text = front.as_bytes().to_vec(alloc)?;
     for _ in 0..count {

@@ -178,8 +178,8 @@ fn put_all<K: Sink>(sink: &mut K, room: &mut WriteRoom, text: &JournalText) -> R
     put_last(sink, room, lines.len() as u64)
 }
 
-/// Writes the text of a journal in the second form. Where a write fails, a front of the text was written. It takes the memory of a
-/// [`WriteRoom`] before it writes anything, and no other.
+/// Writes the text of a journal in the second form. Where a write fails, a front of the text was written. It
+/// takes the memory of a [`WriteRoom`] before it writes anything, and no other.
 pub fn write_lines<K: Sink>(alloc: Global, sink: &mut K, text: &JournalText) -> Result<(), WriteEnd>
     ensures bytes { Writes (K.held sink.old) (K.held sink.new) result (text_of (rows_of Second text.now)) }
     ensures never_falls { K.write_faults sink.old ≤ K.write_faults sink.new }

@@ -69,8 +69,9 @@ fn note_upgrade<K: Sink>(notes: &mut K, status: u8)
     }
 }
 
-/// Reads a journal of either form from the input, and writes it in the second form. Nothing is written before the whole input was
-/// read, and found to be a journal. Of its memory most is that of the input's bytes: no entry is kept.
+/// Reads a journal of either form from the input, and writes it in the second form. Nothing is written before
+/// the whole input was read, and found to be a journal. Of its memory most is that of the input's bytes: no
+/// entry is kept.
 pub fn run_upgrade<S: Source, K: Sink, F: Folder, N: Listener, D: Dialer, C: Clock>(
     alloc: Global,
     words: &[String],

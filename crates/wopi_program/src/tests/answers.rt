@@ -32,8 +32,8 @@ const SPENT: &[u8] =
 
 const SCRIPT: &[u8] = b"open\nset 1 2 9\nsave\nset 1 1 7\nsave\nclose\n";
 
-/// The host's answers to a script of two saves, and what it comes to: the status, the output and how many requests there
-/// were.
+/// The host's answers to a script of two saves, and what it comes to: the status, the output and how many
+/// requests there were.
 struct Row {
     replies: &'static [&'static [u8]],
     status: u8,

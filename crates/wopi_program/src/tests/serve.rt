@@ -273,8 +273,8 @@ const EVERY_LINE: [&str; 22] = [
     "end 19",
 ];
 
-/// The requests of the one link, the number of the accept that fails, and what is left: the status, the notes, the lines of
-/// the journal and what the link's replies begin with.
+/// The requests of the one link, the number of the accept that fails, and what is left: the status, the
+/// notes, the lines of the journal and what the link's replies begin with.
 struct Row {
     requests: &'static [[&'static str; 4]],
     failing: u64,
@@ -382,7 +382,8 @@ fn versions_begin_at_the_number_of_the_words(rt: HostRuntime) -> Result<(), Fail
     Ok(())
 }
 
-/// Folders of which that of shard 11 has an empty `a.csv`, and that of shard 12 a `b.csv`; the former waits at the flags.
+/// Folders of which that of shard 11 has an empty `a.csv`, and that of shard 12 a `b.csv`; the former waits
+/// at the flags.
 fn gated(alloc: Global, first: &Flag, second: &Flag) -> Result<Vec<GateFolder<MemFolder>>, Fail> {
     let mut folders = Vec::new(alloc);
     for shard in 0..16u32 {
