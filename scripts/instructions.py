@@ -43,6 +43,7 @@ class File:
         self.path = "/wopi/files/" + name.encode().hex()
         self.query = "?access_token=" + token(program, name)
         self.count = 0
+        self.saves = 0
 
     def lock(self):
         fields = [("X-WOPI-Override", "LOCK"), ("X-WOPI-Lock", f"L{self.count}")]
@@ -52,8 +53,11 @@ class File:
         return request("GET", self.path + "/contents" + self.query, [])
 
     def put(self):
+        """A save of other bytes than the last one, which the host has to keep."""
+        self.saves += 1
         fields = [("X-WOPI-Override", "PUT"), ("X-WOPI-Lock", f"L{self.count}")]
-        return request("POST", self.path + "/contents" + self.query, fields, b"x" * 4096)
+        body = str(self.saves).encode().rjust(4096, b"x")
+        return request("POST", self.path + "/contents" + self.query, fields, body)
 
     def relock(self):
         self.count += 1
