@@ -12,7 +12,7 @@ use crate::numbers::{moment_read, number_read};
 use crate::{Key, Keys};
 use thiserror::Error;
 use wopi_model::{Token, User};
-use wopi_text::id_read;
+use wopi_text::{are_equal, id_read};
 
 /// Why a text is no token.
 #[derive(Clone, Copy, Debug, PartialEq, Eq, Error)]
@@ -119,18 +119,4 @@ fn is_right(key: &Key, text: &[u8], mac: &[u8]) -> bool
 {
     let signed = &text[..text.len() - MAC - 1];
     are_equal(mac, &mac_of(key, signed))
-}
-
-/// Whether two texts are equal. Where their lengths are, it looks at every byte, whatever it finds.
-pub(crate) fn are_equal(first: &[u8], second: &[u8]) -> bool
-    ensures { IsTrue result ↔ (first.now ≡ second.now) }
-{
-    if first.len() != second.len() {
-        return false;
-    }
-    let mut differences = 0u8;
-    for i in 0..first.len() {
-        differences |= first[i] ^ second[i];
-    }
-    differences == 0
 }

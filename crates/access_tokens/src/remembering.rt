@@ -7,11 +7,11 @@ ghost use Rattle.access_tokens.specs.TokenText.{IsSigned};
 ghost use Rattle.access_tokens.specs.declared.keys.Keys.{Keys};
 
 use crate::Keys;
-use crate::reading::{are_equal, read};
+use crate::reading::read;
 use std::alloc::Global;
 use std::marker::Model;
 use wopi_model::Token;
-use wopi_text::Bytes;
+use wopi_text::{Bytes, are_equal};
 
 /// The most texts that are remembered.
 const MOST: u8 = 64;
@@ -31,11 +31,12 @@ struct Known {
 
 /// Up to 64 of the tokens that were read last, and their texts. Who shows such a text again is spared its
 /// code: that costs one comparison, with the last of the texts that had its mark. Texts of one mark push
-/// each other out. They serve the keys under which they were read.
+/// each other out. They serve the keys under which they were read. A contract sees the list of what is
+/// remembered.
 #[derive(Drop)]
 pub struct RecentTokens {
     known: Vec<Known>,
-    /// The place that the next one with a new mark takes, from the oldest where there are 64.
+    /// The place that the next one with a new mark takes: the end, or where there are 64, each place in turn.
     next: u8,
     /// The place of the last text of each mark. A wrong one costs time and nothing else.
     places: [u8; MARKS],
@@ -102,34 +103,32 @@ impl RecentTokens {
         }
     }
 
-    /// Remembers one more, in the place of the one with its mark, or of the oldest where there are 64.
+    /// Remembers one more, in the place of the one with its mark, or else in the next one.
     fn keep(&mut self, mark: u8, known: Known)
         ensures { (keys : Keys) → Remembers keys self.old → IsKnown keys known → Remembers keys self.new }
     {
         let place = self.place_for(mark);
         if put(&mut self.known, usize::from(place), known) {
             self.places[usize::from(mark)] = place;
+            if place == self.next {
+                self.next = place.wrapping_add(1) % MOST;
+            }
         }
     }
 
-    /// The place of the text with this mark, so that only texts of one mark push each other out; else the next one.
-    fn place_for(&mut self, mark: u8) -> u8
-        ensures { self.new ≡ self.old }
-    {
+    /// The place of the text with this mark, so that texts of one mark take one place; else the next one, whose text
+    /// goes where there is one.
+    fn place_for(&self, mark: u8) -> u8 {
         let place = self.places[usize::from(mark)];
         match self.known.get(usize::from(place)) {
             Some(known) if mark_of(known.text.as_slice()) == mark => place,
-            _ => {
-                let next = self.next;
-                self.next = next.wrapping_add(1) % MOST;
-                next
-            }
+            _ => self.next,
         }
     }
 }
 
-/// Puts it at a place of the list, or at its end where the list is shorter, and says whether it is there now: there may
-/// be no memory for it.
+/// Puts it at a place of the list, or at its end where the list is shorter, and says whether it did: there may be no
+/// memory for it.
 fn put(list: &mut Vec<Known>, place: usize, known: Known) -> bool
     ensures all { (keys : Keys) → All (IsKnown keys) list.old.items → IsKnown keys known → All (IsKnown keys) list.new.items }
     ensures few { length list.old.items ≤ 64 → length list.new.items ≤ 64 }

@@ -1,4 +1,5 @@
 pub mod Decimals
+mod Differences
 pub mod Disjunctions
 pub mod IdLemmas
 pub mod Shorts

@@ -9,6 +9,7 @@
 
 mod bytes;
 mod decimal;
+mod equal;
 mod faults;
 mod file_name;
 mod hex_digits;
@@ -22,6 +23,7 @@ mod reason;
 
 pub use bytes::Bytes;
 pub use decimal::{are_digits, decimal_read, digits_read, digits_up_to};
+pub use equal::are_equal;
 pub use faults::{BadId, BadName, Memory};
 pub use file_name::{FileName, NAME_LIMIT, is_name_char};
 pub use hex_digits::{decode_hex, hex_decoded};

@@ -1,6 +1,6 @@
 use crate::{
-    BadId, BadName, Bytes, FileName, LockId, are_digits, decimal_read, decode_hex, digits_read,
-    digits_up_to, hex_decoded, id_read, id_text, is_name_char,
+    BadId, BadName, Bytes, FileName, LockId, are_digits, are_equal, decimal_read, decode_hex,
+    digits_read, digits_up_to, hex_decoded, id_read, id_text, is_name_char,
 };
 use std::test::Fail;
 
@@ -13,6 +13,15 @@ fn the_id_of_a_name_is_its_hex_and_reads_back(rt: HostRuntime) -> Result<(), Fai
     assert_eq!(rt; back.as_str(), "é.csv");
     assert_eq!(rt; back.shard(), name.shard());
     Ok(())
+}
+
+#[test]
+fn texts_are_equal_where_each_byte_is(rt: HostRuntime) {
+    assert!(rt; are_equal(b"", b""));
+    assert!(rt; are_equal(b"4c31", b"4c31"));
+    for other in ["", "4c3", "4c310", "5c31", "4c32"] {
+        assert!(rt; !are_equal(b"4c31", other.as_bytes()), "{other}");
+    }
 }
 
 #[test]

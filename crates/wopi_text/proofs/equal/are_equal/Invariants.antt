@@ -1,5 +1,5 @@
 use Rattle.std.proofs.Common.{◌≡◌, ℕ, ◌<◌, get_or}
-use Rattle.access_tokens.proofs.reading.are_equal.Given as goal
+use Rattle.wopi_text.proofs.equal.are_equal.Given as goal
 
 -- there is no difference so far just where each byte so far is the same
 abbrev pub invariant-loop-i : goal.invariant-loop-i

@@ -1,8 +1,8 @@
 use Rattle.std.proofs.Common.{get_or, ap, arith, below_more}
 use Rattle.std.proofs.lemmas.Bool.{eqb-true, eq-eqb}
 use Rattle.std.proofs.lemmas.Grind.{same_number_lists}
-use Rattle.access_tokens.proofs.Blocks.{no_difference, same_so_far}
-use Rattle.access_tokens.proofs.reading.are_equal.Goals as goal
+use Rattle.wopi_text.proofs.Differences.{no_difference, same_so_far}
+use Rattle.wopi_text.proofs.equal.are_equal.Goals as goal
 
 pub loop-i-preserved : goal.loop-i-preserved
 loop-i-preserved c = (
