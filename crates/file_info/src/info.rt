@@ -31,8 +31,8 @@ pub struct Info {
 }
 
 /// The body of CheckFileInfo's answer. Beside what is known of the file it says that the host
-/// supports deletion, lock ids of up to 1,024 bytes, locks, their look-up and updates, and that the user may make other files
-/// beside this one exactly where he may write this one.
+/// supports deletion, lock ids of up to 1,024 bytes, locks, their look-up and updates, and that the
+/// user may make other files beside this one exactly where he may write this one.
 pub fn info_text(alloc: Global, info: &Info) -> Result<Bytes, Memory>
     requires { HasTexts info.now }
     ensures text { IfOk result (λ text. text ≡ info_text info.now) }

@@ -10,8 +10,9 @@
 //! so that an edit of a cell and its undo touch one row.
 //!
 //! What a command sends is the talk of a session over the dialer (`wopi_client`), or the one request
-//! of a copy; what it writes is one line of `specs/Lines.antt`, the sheet's text, or nothing. `specs/Turns.antt` says of each command what becomes of
-//! the sheet, what is sent and what is written; `specs/Runs.antt` says it of a whole script.
+//! of a copy; what it writes is one line of `specs/Lines.antt`, the sheet's text, or nothing.
+//! `specs/Turns.antt` says of each command what becomes of the sheet, what is sent and what is
+//! written; `specs/Runs.antt` says it of a whole script.
 #![tactic(auto)]
 
 mod command;

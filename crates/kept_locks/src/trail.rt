@@ -123,8 +123,8 @@ pub fn spend_now(
     }
 }
 
-/// Whether an id of a chain is still refused at that moment. The chain itself is looked at only where the moment is before
-/// the last step and the chain is purged.
+/// Whether an id of a chain is still refused at that moment. The chain itself is looked at only where the moment is
+/// before the last step and the chain is purged.
 fn refuses_chained(
     chains: &SpentChains,
     index: &HashMap<SpentOn, u64>,

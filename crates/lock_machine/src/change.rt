@@ -114,8 +114,8 @@ pub fn lock_left(change: Change, lock: Option<&Lock>, taken: Option<&LockId>) ->
     })
 }
 
-/// Until when an act that went through has the id of the lock refused, where it ends that. `expires` is when the token of
-/// the act expires; both are in milliseconds.
+/// Until when an act that went through has the id of the lock refused, where it ends that. `expires` is when the token
+/// of the act expires; both are in milliseconds.
 pub fn spent_until(lock: Option<&Lock>, ask: LockAsk<'_>, expires: u64) -> Option<u64>
     ensures { spent_as (option_map (λ held. held.now) lock.entry) result ≡ table.spent_by (option_map (λ held. held.now) lock.entry) (act_of ask.entry) expires }
 {
