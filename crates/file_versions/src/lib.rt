@@ -5,6 +5,9 @@
 //!
 //! The versions stand in a list, in the order in which they came. No version of a file stands there
 //! twice, so whoever remembers at which place one was added finds it there in one step.
+//!
+//! An [`Archive`] has the same versions. There contents that equal those of the version beside which
+//! they are added lie once.
 #![tactic(auto)]
 
 ghost use Rattle.std.specs.Prelude.{◌≡◌, ◌+◌, ◌<◌, ◌++◌, ◌∷◌, [], length, None, IsNone, IfNone, IfSome, OnOk, OnErr, IfErr, MatchOption, option_map, vec_capacity, ◌≤◌};
@@ -12,6 +15,9 @@ ghost use Rattle.wopi_model.specs.Host.{most_kept};
 ghost use Rattle.file_versions.specs.Versions.{kept_in, found, removed, IsKeptFull, handed_back, is_of, IsMemory, AreApart};
 ghost use Rattle.file_versions.specs.Places.{IsFirst};
 
+mod archive;
+
+pub use archive::Archive;
 use std::alloc::Global;
 use std::marker::Model;
 use wopi_text::{Bytes, Memory};
@@ -93,6 +99,7 @@ impl Versions {
         ensures list { self.new.list ≡ self.old.list }
         ensures spare { self.old.spare ≤ self.new.spare }
         ensures err { OnErr result (self.new ≡ self.old) }
+        ensures memory { OnErr result (self.old.spare < n) }
     {
         Ok(self.list.reserve(n)?)
     }
