@@ -87,7 +87,8 @@ fn exchange(locks: &mut KeptLocks, number: u32, effect: Effect, taken: Option<&L
     locks.set(number, lock, spend, now);
 }
 
-/// Gives a file's lock what a step makes of it, where that id is taken. The id of a lock that goes on stays where it lies.
+/// Gives a file's lock what a step makes of it, where that id is taken. The id of a lock that goes on stays where it
+/// lies.
 fn change_lock(locks: &mut KeptLocks, number: u32, effect: Effect, taken: Option<&LockId>, now: u64)
     requires number { number < length locks.old.files }
     requires spare { 1 ≤ locks.old.spare }
@@ -106,8 +107,8 @@ fn change_lock(locks: &mut KeptLocks, number: u32, effect: Effect, taken: Option
     }
 }
 
-/// Ends the locks that are over, and gives a file's lock what the step makes of it, where that id is taken. Of the file's
-/// spent ids those go that are no longer refused. It takes no memory.
+/// Ends the locks that are over, and gives a file's lock what the step makes of it, where that id is taken. Of the
+/// file's spent ids those go that are no longer refused. It takes no memory.
 pub fn apply(locks: &mut KeptLocks, number: u32, effect: Effect, taken: Option<&LockId>, now: u64)
     requires ready { MayStep locks.old number now }
     requires ends { Ends (standing_at locks.old.files number).lock (option_map (λ id. id.now) taken) effect now }

@@ -15,7 +15,7 @@ ghost use Rattle.host_core.specs.ShardView.{opening_listed};
 
 use crate::extent::Extent;
 use crate::file::{KeptFile, unmet};
-use file_versions::{MOST_KEPT, Versions};
+use file_versions::{Archive, MOST_KEPT};
 use name_index::{ByBytes, NameIndex};
 use outside::{Folder, FolderRead, Names, OutFault};
 use std::alloc::Global;
@@ -62,7 +62,7 @@ pub struct Stock {
     pub opening: Vec<OpeningFile>,
     pub files: Vec<KeptFile>,
     pub index: NameIndex,
-    pub versions: Versions,
+    pub versions: Archive,
 }
 
 /// The name belongs to the shard of that number, or to the only shard there is.
@@ -140,7 +140,7 @@ fn stock_one(stock: &mut Stock, file: ReadFile, first: u64) -> Result<(), Memory
     };
     stock.opening.push(listed)?;
     stock.files.push(kept)?;
-    match stock.versions.add(count as u32, first, contents) {
+    match stock.versions.add(count as u32, first, contents, None) {
         Ok(()) => return Ok(()),
         Err(_) => return Err(Memory),
     }
@@ -234,7 +234,7 @@ pub fn gather<F: Folder>(
         opening: Vec::new(alloc),
         files: Vec::new(alloc),
         index: NameIndex::new(alloc),
-        versions: Versions::new(alloc),
+        versions: Archive::new(alloc),
     };
     match read_names(folder, only, &mut names, &mut stock, first) {
         Ok(()) => return Ok(stock),

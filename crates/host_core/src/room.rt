@@ -6,7 +6,7 @@ ghost use Rattle.host_core.specs.Whole.{standing_at};
 
 use crate::entry::Entry;
 use crate::files::make_lock_place;
-use file_versions::Versions;
+use file_versions::Archive;
 use kept_locks::KeptLocks;
 use std::alloc::Global;
 use wopi_text::Memory;
@@ -38,7 +38,7 @@ fn add_files(locks: &mut KeptLocks, files: usize) -> Result<(), Memory>
 /// Takes the room of a shard of so many files and so many entries, each of which may keep contents.
 pub fn take_room(
     alloc: Global,
-    versions: &mut Versions,
+    versions: &mut Archive,
     files: usize,
     capacity: u32,
 ) -> Result<Room, Memory>

@@ -13,7 +13,7 @@ ghost use Rattle.host_core.specs.Effects.{begun};
 ghost use Rattle.host_core.specs.Entries.{history_of, back_of};
 ghost use Rattle.host_core.specs.Files.{files_of, torn_in};
 ghost use Rattle.host_core.specs.Ledger.{IsFullFault, handed_back};
-ghost use Rattle.host_core.specs.Memory.{takes_no_memory};
+ghost use Rattle.host_core.specs.LockActs.{is_lock_act};
 ghost use Rattle.host_core.specs.Turns.{AreAsOf};
 ghost use Rattle.host_core.specs.Opening.{IsFirstVersion, IsOfShard, IsOpening, Fits, IsTooLarge, IfTooLarge};
 
@@ -27,7 +27,7 @@ use crate::past::Past;
 use crate::room::{Room, take_room};
 use crate::store::StoreRefusal;
 use crate::view::{FileView, view_of};
-use file_versions::Versions;
+use file_versions::Archive;
 use outside::Folder;
 use std::alloc::Global;
 use std::marker::Model;
@@ -145,8 +145,7 @@ impl<F: Folder> Shard<F> {
     }
 
     /// One act on one file at a moment, in milliseconds: the call is judged, stored and recorded. It gives the
-    /// entry's stamp, which is one more than the greater of the last one and the floor, the ruling, and the contents
-    /// of a Put or Create that weren't accepted. An `Err` leaves all but the folder's count of faults as it was, and hands the call back.
+    /// entry's stamp, the ruling, and the contents of a Put or Create that weren't accepted.
     #[inline(always)]
     pub fn step(
         &mut self,
@@ -172,7 +171,7 @@ impl<F: Folder> Shard<F> {
             → FullAt self.old.opening self.old.opened self.old.first self.old.capacity (history_of self.old.made self.old.time) floor call moment) }
         ensures err { OnErr result (self.new ≡ record self.old { folder = self.new.folder }) }
         ensures call { IfErr result (λ fault. handed_back fault ≡ call) }
-        ensures light { IfErr result (λ fault. takes_no_memory call.act ≡ true → IsFullFault fault) }
+        ensures light { IfErr result (λ fault. is_lock_act call.act ≡ true → IsFullFault fault) }
         ensures keeps { OnErr result (Keeps (F.files self.old.folder) (F.files self.new.folder)) }
         ensures never_falls { F.faults self.old.folder ≤ F.faults self.new.folder }
         ensures fault { IfOk result (λ step. step.1.status ≡ 500 → Rose (F.faults self.old.folder) (F.faults self.new.folder)) }
@@ -214,7 +213,7 @@ impl<F: Folder> Shard<F> {
             → FullAt self.old.opening self.old.opened self.old.first self.old.capacity (history_of self.old.made self.old.time) floor call.old moment) }
         ensures err { OnErr result (self.new ≡ record self.old { folder = self.new.folder }) }
         ensures call { OnErr result (call.new ≡ call.old) }
-        ensures light { IfErr result (λ why. takes_no_memory call.old.act ≡ true → why ≡ StoreRefusal.Full) }
+        ensures light { IfErr result (λ why. is_lock_act call.old.act ≡ true → why ≡ StoreRefusal.Full) }
         ensures keeps { OnErr result (Keeps (F.files self.old.folder) (F.files self.new.folder)) }
         ensures never_falls { F.faults self.old.folder ≤ F.faults self.new.folder }
         ensures fault { OnOk result (carried.new.ruling.status ≡ 500 → Rose (F.faults self.old.folder) (F.faults self.new.folder)) }

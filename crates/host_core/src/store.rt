@@ -6,7 +6,7 @@ ghost use Rattle.wopi_model.specs.Host.{most_kept};
 ghost use Rattle.file_versions.specs.Versions.{kept_in, found};
 ghost use Rattle.host_core.specs.Store.{Holds, MatchStored};
 
-use file_versions::{AddFault, MOST_KEPT, Versions};
+use file_versions::{AddFault, Archive, MOST_KEPT};
 use outside::{Folder, OutFault};
 use std::alloc::Global;
 use std::mem;
@@ -35,38 +35,39 @@ pub fn take(alloc: Global, contents: &mut Bytes) -> Bytes
 }
 
 /// The contents have room beside those that are kept.
-fn has_room(versions: &Versions, contents: &Bytes) -> bool
+fn has_room(versions: &Archive, contents: &Bytes) -> bool
     ensures { IsTrue result ↔ (kept_in versions.now.list + length contents.now ≤ most_kept) }
 {
     let len = contents.as_slice().len() as u64;
     versions.kept().saturating_add(len) <= MOST_KEPT
 }
 
-/// Keeps contents as a version. It takes no memory.
-fn keep(versions: &mut Versions, number: u32, version: u64, contents: Bytes)
+/// Keeps contents as a version, beside the one at that place. It takes no memory.
+fn keep(versions: &mut Archive, number: u32, version: u64, contents: Bytes, beside: Option<usize>)
     requires fresh { found versions.old.list number version ≡ None }
     requires room { kept_in versions.old.list + length contents ≤ most_kept }
     requires free { 1 ≤ versions.old.spare }
     ensures list { versions.new.list ≡ versions.old.list ++ record { number = number; version = version; contents = contents } ∷ [] }
     ensures places { versions.old.spare ≤ versions.new.spare + 1 }
 {
-    match versions.add(number, version, contents) {
+    match versions.add(number, version, contents, beside) {
         Ok(()) => {}
         Err(AddFault::KeptFull(_contents)) => unreachable!(),
         Err(AddFault::Memory(_contents)) => unreachable!(),
     }
 }
 
-/// Writes contents to the folder, and keeps them as a version. What isn't done leaves the versions and the
-/// contents, and an `Err` leaves the folder.
+/// Writes contents to the folder, and keeps them as a version beside the one at that place, with which they lie where
+/// they equal its contents. What isn't done leaves the versions and the contents, and an `Err` leaves the folder.
 pub fn put_away<F: Folder>(
     alloc: Global,
     folder: &mut F,
-    versions: &mut Versions,
+    versions: &mut Archive,
     number: u32,
     version: u64,
     name: &FileName,
     contents: &mut Bytes,
+    beside: Option<usize>,
 ) -> Result<Stored, StoreRefusal>
     requires fresh { found versions.old.list number version ≡ None }
     requires free { 1 ≤ versions.old.spare }
@@ -88,7 +89,7 @@ pub fn put_away<F: Folder>(
     }
     match folder.replace(name.as_str(), contents.as_slice()) {
         Ok(()) => {
-            keep(versions, number, version, take(alloc, contents));
+            keep(versions, number, version, take(alloc, contents), beside);
             return Ok(Stored::Done);
         }
         Err(OutFault::Failed) => return Ok(Stored::Torn),

@@ -8,7 +8,7 @@ ghost use Rattle.host_core.specs.Whole.{seen, standing_at};
 use crate::carry::contents_of;
 use crate::file::KeptFile;
 use crate::held::standing_lock;
-use file_versions::Versions;
+use file_versions::Archive;
 use kept_locks::KeptLocks;
 use wopi_model::Lock;
 
@@ -24,7 +24,7 @@ pub struct FileView<'a> {
 }
 
 /// The bytes of a file, none where it doesn't exist.
-fn bytes_of<'a>(versions: &'a Versions, number: u32, file: &KeptFile) -> &'a [u8]
+fn bytes_of<'a>(versions: &'a Archive, number: u32, file: &KeptFile) -> &'a [u8]
     requires { HasContents number file.now.contents file.now.version versions.now.list }
     ensures { result.now ≡ unwrap_or file.now.contents [] }
 {
@@ -36,7 +36,7 @@ fn bytes_of<'a>(versions: &'a Versions, number: u32, file: &KeptFile) -> &'a [u8
 
 /// The kept file, as it is once it is settled.
 pub fn view_of<'a>(
-    versions: &'a Versions,
+    versions: &'a Archive,
     locks: &'a KeptLocks,
     number: u32,
     file: &'a KeptFile,

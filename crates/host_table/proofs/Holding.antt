@@ -11,7 +11,7 @@ use Rattle.host_core.specs.declared.caller.CallFault.{CallFault}
 use Rattle.host_core.specs.Opening.{IsOfShard}
 use Rattle.host_core.specs.Caller.{entry_of, called_back, IsFullCall}
 use Rattle.host_core.specs.Entries.{Made, back_of, history_of}
-use Rattle.host_core.specs.Memory.{takes_no_memory}
+use Rattle.host_core.specs.LockActs.{is_lock_act}
 use Rattle.host_core.specs.Value.{Book}
 use Rattle.host_core.specs.Times.{untimed, GoesByEntries}
 use Rattle.host_table.specs.Histories.{as_opened, AreNamed, IsSeen}
@@ -67,7 +67,7 @@ held_adds old new call pass floor moment receipt goes is shard place stamp room 
 pub held_declines : {F : Type 0} (old new : Book F) (call : Call) (floor moment : ℕ) (refusal : CallFault) → GoesByEntries old.opened old.made old.time
     → new ≡ record old { folder = new.folder }
     → (IsFullCall refusal → FullAt old.opening old.opened old.first old.capacity (history_of old.made old.time) floor call moment) → called_back refusal ≡ call
-    → (takes_no_memory call.act ≡ true → IsFullCall refusal) → Declines old new call floor moment refusal
+    → (is_lock_act call.act ≡ true → IsFullCall refusal) → Declines old new call floor moment refusal
 held_declines old new call floor moment refusal goes is full handed light = record {
   made = ap (λ (b : Book _). b.made) is;
   full = λ f. full-untimed old.opening old.opened old.first old.capacity old.made old.time floor call moment goes.timely goes.time_is (full f);

@@ -8,6 +8,8 @@ use Rattle.wopi_model.proofs.user.User.TheSendSync.{the_send as user_send}
 use Rattle.kept_locks.proofs.Sends.{locks_send}
 use Rattle.name_index.proofs.index.NameIndex.TheSendSync.{the_send as index_send}
 use Rattle.file_versions.proofs.Versions.TheSendSync.{the_send as versions_send}
+use Rattle.file_versions.specs.contracts.archive.Label as label
+use Rattle.file_versions.specs.contracts.archive.Archive as archive
 use Rattle.wopi_model.specs.contracts.token.Token as token
 use Rattle.wopi_text.specs.contracts.reason.Reason as reason
 use Rattle.wopi_text.specs.contracts.lock_field.LockField as lock_field
@@ -44,8 +46,14 @@ reason_send = search sendable depth 20
 entry_send : IsSend entry.the_row
 entry_send = search (sendable, any.crosses, name_send, token_send, act_send, field_send, reason_send) depth 20
 
+label_send : IsSend label.the_row
+label_send = search sendable depth 20
+
+archive_send : IsSend archive.the_row
+archive_send = search (sendable, any.crosses, label_send, versions_send) depth 20
+
 ledger_field : IsSend (ledger.the_field).row
-ledger_field = search (sendable, any.crosses, file_send, index_send, locks_send, entry_send, versions_send) depth 20
+ledger_field = search (sendable, any.crosses, file_send, index_send, locks_send, entry_send, archive_send) depth 20
 
 pub shard_send : (F : RattleType) (d : _) → IsSend F → IsSend (shard.the_row F d)
 shard_send F d f = search (sendable, any.crosses, ledger_field) depth 20

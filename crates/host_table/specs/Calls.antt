@@ -7,7 +7,7 @@ use Rattle.host_core.specs.declared.caller.Receipt.{Receipt}
 use Rattle.host_core.specs.declared.caller.CallFault.{CallFault}
 use Rattle.host_core.specs.Caller.{entry_of, called_back, IsFullCall, next_stamp}
 use Rattle.host_core.specs.Entries.{Made, back_of}
-use Rattle.host_core.specs.Memory.{takes_no_memory}
+use Rattle.host_core.specs.LockActs.{is_lock_act}
 use Rattle.host_core.specs.Value.{Book}
 use Rattle.host_core.specs.Times.{untimed}
 use Rattle.host_table.specs.Passes.{Place}
@@ -34,5 +34,5 @@ module _ {F : Type 0} (v : Place F) (call : Call) where
     pub later : IsPrefix v.seen w.seen
     pub full : IsFullCall refusal → FullAt base.opening base.opened base.first base.capacity (untimed w.seen) floor call moment
     pub handed : called_back refusal ≡ call
-    pub light : takes_no_memory call.act ≡ true → IsFullCall refusal
+    pub light : is_lock_act call.act ≡ true → IsFullCall refusal
     pub same : w ≡ record { lock = v.lock; seen = w.seen; own = v.own; weight = v.weight; base = v.base; taken = v.taken }

@@ -7,7 +7,7 @@ use Rattle.host_core.specs.declared.caller.Receipt.{Receipt}
 use Rattle.host_core.specs.declared.caller.CallFault.{CallFault}
 use Rattle.host_core.specs.Caller.{entry_of, called_back, IsFullCall, next_stamp}
 use Rattle.host_core.specs.Entries.{back_of}
-use Rattle.host_core.specs.Memory.{takes_no_memory}
+use Rattle.host_core.specs.LockActs.{is_lock_act}
 use Rattle.host_core.specs.Value.{Book, Left, IsLawful}
 use Rattle.host_core.specs.Times.{untimed}
 use Rattle.host_table.specs.Histories.{AreNamed}
@@ -35,7 +35,7 @@ pub record Declines {F : Type 0} (old new : Book F) (call : Call) (floor moment 
   pub made : new.made ≡ old.made
   pub full : IsFullCall refusal → FullAt old.opening old.opened old.first old.capacity (untimed old.made) floor call moment
   pub handed : called_back refusal ≡ call
-  pub light : takes_no_memory call.act ≡ true → IsFullCall refusal
+  pub light : is_lock_act call.act ≡ true → IsFullCall refusal
 
 -- what a shard leaves, and its folder as the last step left it
 pub record IsTakenApart {F : Type 0} (files : F → Option Files) (faults : F → ℕ) (book : Book F) (left : Left F) (folder : F) : Type 0 where
