@@ -1,9 +1,10 @@
 #!/usr/bin/env python3
-"""Shows what memory saves take that change nothing: scripts/equal_saves.py [PROGRAM [SAVES [BYTES]]]
+"""Shows what memory saves take that change nothing: scripts/equal_saves.py PROGRAM [SAVES [BYTES]]
 
-Runs PROGRAM (./mokdrai where it is left out) as a `serve` of one worker over a folder of its own, locks its one file, and
-saves BYTES (65,536) to it SAVES times (1,000): first the same bytes each time, then others each time. It tells the
-process's memory (VmRSS) before, between and after, and what a save of either kind took. It is no part of the gate.
+PROGRAM is the built one, as crates/mokdrai/out/mokdrai: it is run as a `serve` of one worker over a folder of its own,
+whose one file is locked. BYTES (65,536) are saved to it SAVES times (1,000): first the same bytes each time, then others
+each time. It tells the process's memory (VmRSS) before, between and after, and what a save of either kind took. It is no
+part of the gate.
 """
 import http.client
 import subprocess
@@ -39,7 +40,9 @@ def begin(program, folder, saves):
 
 
 def main():
-    program, saves, size = (sys.argv[1:] + ["./mokdrai", "1000", "65536"][len(sys.argv) - 1:])[:3]
+    if len(sys.argv) < 2:
+        sys.exit(__doc__)
+    program, saves, size = (sys.argv[1:] + ["1000", "65536"][len(sys.argv) - 2:])[:3]
     saves, size = int(saves), int(size)
     live = ["1", "253402300000000", "253402300799999"]
     token = subprocess.check_output([program, "token", KEY, "ann", FILE, "w", *live], text=True).strip()
