@@ -9,9 +9,11 @@
 //! `memory` has a fake of each, which tells all that its trait leaves optional and fails at the
 //! calls that it was told to fail at. `standard`, `directory` and `network` have the real things,
 //! which tell nothing of content. `read_link`, `read_piece`, `write_link` and `write_whole` are what
-//! the crates above read and write by.
+//! the crates above read and write by. `ask_link` sends a request, all of it before it reads, and reads
+//! its reply no further than to the end that a `ReplyEnd` tells.
 #![tactic(auto)]
 
+mod asking;
 mod clock;
 mod dialer;
 mod directory;
@@ -26,6 +28,7 @@ mod reading;
 mod standard;
 mod transfer;
 
+pub use asking::{AskFault, ReplyEnd, ask_link};
 pub use clock::Clock;
 pub use dialer::{Dialer, Exchange};
 pub use directory::DirFolder;

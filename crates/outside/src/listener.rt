@@ -31,8 +31,10 @@ pub trait Listener: Drop {
     /// How often an accept has failed.
     ghost faults: { Self → ℕ };
 
-    /// Waits for the next link. `Closed` says that none will come any more.
+    /// Waits for the next link. `Closed` says that none will come any more. It is asked for another link
+    /// only once each that it gave was handed back, so that no link waits for another client to come.
     fn accept(&mut self) -> Result<Accepted<Self::Link>, OutFault>
+        requires { finished self.old ≡ accepted self.old }
         ensures link { Accepts (links_left self.old) (links_left self.new) result }
         ensures number { AcceptsNumber (accepted self.old) (accepted self.new) result }
         ensures finished { finished self.new ≡ finished self.old }

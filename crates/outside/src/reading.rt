@@ -1,4 +1,4 @@
-//! Reading a whole file or a whole reply.
+//! Reading a whole file.
 use std::alloc::Global;
 use std::io::{self, Read};
 

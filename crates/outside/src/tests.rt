@@ -1,4 +1,5 @@
 mod adapters;
+mod asking;
 mod fakes;
 mod files;
 mod stopping;

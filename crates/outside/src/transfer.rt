@@ -29,6 +29,7 @@ pub fn read_piece<S: Source>(source: &mut S, piece: &mut Vec<u8>) -> Result<usiz
     ensures room { vec_len piece.new ≡ vec_len piece.old }
     ensures beside { S.beside_reads source.new ≡ S.beside_reads source.old }
     ensures never_falls { S.read_faults source.old ≤ S.read_faults source.new }
+    ensures fine { OnOk result (S.read_faults source.new ≡ S.read_faults source.old) }
     ensures failed { OnErr result (Rose (S.read_faults source.old) (S.read_faults source.new)) }
 {
     source.read(&mut piece[0..])
@@ -58,6 +59,7 @@ pub fn read_link<L: Link>(link: &mut L, into: &mut [u8]) -> Result<usize, Failed
     ensures write_faults { L.write_faults link.new ≡ L.write_faults link.old }
     ensures references { L.references link.new ≡ L.references link.old }
     ensures never_falls { L.read_faults link.old ≤ L.read_faults link.new }
+    ensures fine { OnOk result (L.read_faults link.new ≡ L.read_faults link.old) }
     ensures failed { OnErr result (Rose (L.read_faults link.old) (L.read_faults link.new)) }
 {
     link.read(into)

@@ -4,6 +4,7 @@ ghost use Rattle.std.specs.Io.KnownBytes.{Consumes, IsAtEnd, prepend_known};
 ghost use Rattle.outside.specs.Faults.{Rose};
 ghost use Rattle.wopi_http.specs.Limits.{body_limit};
 ghost use Rattle.wopi_http.specs.Waits.{Takes};
+ghost use Rattle.outside.specs.Stream.{IsCut};
 
 use crate::buffer::{Buffer, read_behind};
 use crate::framing::BODY_LIMIT;
@@ -83,8 +84,10 @@ fn read_to_end<S: Source>(
     ensures end { IfOk result (λ n. n < vec_len body.new → IsAtEnd (S.left source.new)) }
     ensures len { vec_len body.new ≡ vec_len body.old }
     ensures capacity { vec_capacity body.new ≡ vec_capacity body.old }
+    ensures cut { OnErr result (IsCut (S.left source.old) (S.left source.new) (λ bytes. filled + length bytes < vec_len body.old)) }
     ensures beside { S.beside_reads source.new ≡ S.beside_reads source.old }
     ensures never_falls { S.read_faults source.old ≤ S.read_faults source.new }
+    ensures fine { OnOk result (S.read_faults source.new ≡ S.read_faults source.old) }
     ensures failed { OnErr result (Rose (S.read_faults source.old) (S.read_faults source.new)) }
 {
     let mut done = filled;
@@ -110,8 +113,10 @@ fn read_more<S: Source>(source: &mut S, body: &mut Vec<u8>, count: usize) -> Res
     ensures within { IfOk result (λ n. n ≤ count) }
     ensures taken { IfOk result (λ n. Takes (S.left source.old) (S.left source.new) body.old.items body.new.items n) }
     ensures end { IfOk result (λ n. n < count → IsAtEnd (S.left source.new)) }
+    ensures cut { OnErr result (IsCut (S.left source.old) (S.left source.new) (λ bytes. length bytes < count)) }
     ensures beside { S.beside_reads source.new ≡ S.beside_reads source.old }
     ensures never_falls { S.read_faults source.old ≤ S.read_faults source.new }
+    ensures fine { OnOk result (S.read_faults source.new ≡ S.read_faults source.old) }
     ensures failed { OnErr result (Rose (S.read_faults source.old) (S.read_faults source.new)) }
 {
     let start = body.len();
@@ -147,8 +152,10 @@ pub(crate) fn take_bytes<S: Source>(
     ensures taken { IfOk result (λ n. Takes (prepend_known buffer.old (S.left source.old)) (prepend_known buffer.new (S.left source.new)) body.old.items body.new.items n) }
     ensures end { IfOk result (λ n. n < count → IsAtEnd (prepend_known buffer.new (S.left source.new))) }
     ensures straight { buffer.new ≡ drop count buffer.old }
+    ensures cut { OnErr result (IsCut (prepend_known buffer.old (S.left source.old)) (S.left source.new) (λ bytes. length bytes < count)) }
     ensures beside { S.beside_reads source.new ≡ S.beside_reads source.old }
     ensures never_falls { S.read_faults source.old ≤ S.read_faults source.new }
+    ensures fine { OnOk result (S.read_faults source.new ≡ S.read_faults source.old) }
     ensures failed { OnErr result (Rose (S.read_faults source.old) (S.read_faults source.new)) }
 {
     let held = buffer.held().min(count);

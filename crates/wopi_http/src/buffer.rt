@@ -102,8 +102,10 @@ impl Buffer {
         ensures grew { IfOk result (λ n. length self.new ≡ length self.old + n) }
         ensures end { IfOk result (λ n. n ≡ 0 → IsAtEnd (S.left source.new)) }
         ensures same { IfOk result (λ n. n ≡ 0 → self.new ≡ self.old) }
+        ensures kept { OnErr result (Keeps (S.left source.old) (S.left source.new)) }
         ensures beside { S.beside_reads source.new ≡ S.beside_reads source.old }
         ensures never_falls { S.read_faults source.old ≤ S.read_faults source.new }
+        ensures fine { OnOk result (S.read_faults source.new ≡ S.read_faults source.old) }
         ensures failed { OnErr result (Rose (S.read_faults source.old) (S.read_faults source.new)) }
     {
         make_room(&mut self.space, &mut self.at, &mut self.end);
@@ -153,6 +155,7 @@ pub(crate) fn read_behind<S: Source>(
     ensures capacity { vec_capacity space.new ≡ vec_capacity space.old }
     ensures beside { S.beside_reads source.new ≡ S.beside_reads source.old }
     ensures never_falls { S.read_faults source.old ≤ S.read_faults source.new }
+    ensures fine { OnOk result (S.read_faults source.new ≡ S.read_faults source.old) }
     ensures failed { OnErr result (Rose (S.read_faults source.old) (S.read_faults source.new)) }
 {
     source.read(&mut space[from..])

@@ -10,6 +10,7 @@ use wopi_text::Bytes;
 mod client;
 mod expecting;
 mod places;
+mod reads;
 mod writes;
 
 const CHUNKED: &[u8] =

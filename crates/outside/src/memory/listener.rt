@@ -18,13 +18,14 @@ pub struct MemListener<L> {
 }
 
 impl<L: Drop> MemListener<L> {
-    ghost use Rattle.outside.specs.MemListener.{to_come, put_back, script};
+    ghost use Rattle.outside.specs.MemListener.{to_come, put_back, has_all_back, script};
 
     /// The place of the finished links is reserved here; `failing` has the numbers of the accepts
     /// that fail, counted from 1.
     pub fn new(alloc: Global, links: Vec<L>, failing: Vec<u64>) -> Result<MemListener<L>, Memory>
         ensures links { IfOk result (λ l. to_come l ≡ links.items) }
         ensures done { IfOk result (λ l. put_back l ≡ []) }
+        ensures accepted { IfOk result (λ l. l.accepted ≡ 0) }
         ensures script { IfOk result (λ l. IsFresh (script l) failing.items) }
     {
         let done = Vec::with_capacity(alloc, links.len())?;
@@ -41,6 +42,13 @@ impl<L: Drop> MemListener<L> {
         ensures { result.now ≡ put_back self.now }
     {
         &self.done
+    }
+
+    /// Whether each link that it gave was handed back.
+    pub fn has_all_back(&self) -> bool
+        ensures { result ≡ has_all_back self.now }
+    {
+        self.done.len() == self.accepted
     }
 }
 
@@ -64,6 +72,7 @@ impl<L: Link + Send + Drop> Listener for MemListener<L> {
     ghost in_hand = { λ l. l.in_hand };
 
     fn accept(&mut self) -> Result<Accepted<L>, OutFault>
+        requires { length (put_back self.old) ≡ self.old.accepted }
         ensures link { Accepts (Some (to_come self.old)) (Some (to_come self.new)) result }
         ensures number { AcceptsNumber self.old.accepted self.new.accepted result }
         ensures finished { length (put_back self.new) ≡ length (put_back self.old) }

@@ -1,3 +1,6 @@
+ghost use Rattle.std.specs.Prelude.{◌≡◌};
+
+use super::asking::Counted;
 use crate::{
     Accepted, Clock, Dialer, DirFolder, Listener, MemFolder, MemListener, MemSink, MemSource,
     OutFault, Pair, ScriptClock, Sink, Source, StdSink, StdSource, SystemClock, TcpDialer,
@@ -59,17 +62,16 @@ fn a_system_time_out_of_range_gives_the_nearest_moment(rt: HostRuntime) {
 }
 
 #[test]
-fn a_socket_that_is_not_bound_makes_each_accept_fail(rt: HostRuntime) -> Result<(), Fail> {
-    let mut listeners = TcpListen::bind(rt.alloc(), &rt, "no address", 2, 9)?;
-    assert_eq!(rt; listeners.len(), 2);
-    for _ in 0..2 {
-        assert!(rt; matches!(listeners[1].accept(), Err(OutFault::Failed)));
-    }
-    Ok(())
+fn a_socket_that_is_not_bound_makes_each_accept_fail(rt: HostRuntime) {
+    let mut listener = TcpListen::new(None, 9);
+    assert!(rt; matches!(listener.accept(), Err(OutFault::Failed)));
+    assert!(rt; matches!(listener.accept(), Err(OutFault::Failed)));
 }
 
 // Accepts one connection, reads four bytes, and answers.
-fn serve_one(listener: &mut TcpListen) -> bool {
+fn serve_one(listener: &mut TcpListen) -> bool
+    requires { listener.old.finished ≡ listener.old.accepted }
+{
     let Ok(Accepted::Link(mut link)) = listener.accept() else {
         return false;
     };
@@ -80,19 +82,52 @@ fn serve_one(listener: &mut TcpListen) -> bool {
     is_read && is_written && into == *b"ask!" && matches!(listener.accept(), Ok(Accepted::Closed))
 }
 
+// This reply ends only where the connection does.
 #[test]
-fn one_exchange_over_loopback(rt: HostRuntime) -> Result<(), Fail> {
+fn a_link_that_is_finished_is_closed_while_its_listener_lives(rt: HostRuntime) -> Result<(), Fail> {
     let alloc = rt.alloc();
     let socket = TcpListener::bind(&rt, "127.0.0.1:0")?;
     let authority = format!(in alloc; "127.0.0.1:{}", socket.local_addr()?.port())?;
     let mut listener = TcpListen::new(Some(Arc::new(alloc, socket)?), 1);
-    let mut dialer = TcpDialer::new(alloc, &rt, authority);
+    let mut dialer = TcpDialer::new(alloc, &rt, authority, Counted { count: 9 });
     let (is_served, reply) = join(
         &rt,
         || serve_one(&mut listener),
         || dialer.exchange(b"ask!"),
     );
     assert!(rt; is_served);
+    assert_eq!(rt; reply?.as_slice(), b"reply".as_slice());
+    Ok(())
+}
+
+// Accepts one connection, reads four bytes, answers, and closes only once the other end has.
+fn keep_open(listener: &mut TcpListen) -> bool
+    requires { listener.old.finished ≡ listener.old.accepted }
+{
+    let Ok(Accepted::Link(mut link)) = listener.accept() else {
+        return false;
+    };
+    let mut into = [0u8; 4];
+    let is_read = read_link(&mut link, &mut into) == Ok(4);
+    let is_written = write_link(&mut link, b"reply").is_ok();
+    let is_closed = read_link(&mut link, &mut into) == Ok(0);
+    listener.finish(link);
+    is_read && is_written && is_closed
+}
+
+#[test]
+fn a_host_that_keeps_the_connection_open_holds_no_reply_up(rt: HostRuntime) -> Result<(), Fail> {
+    let alloc = rt.alloc();
+    let socket = TcpListener::bind(&rt, "127.0.0.1:0")?;
+    let authority = format!(in alloc; "127.0.0.1:{}", socket.local_addr()?.port())?;
+    let mut listener = TcpListen::new(Some(Arc::new(alloc, socket)?), 1);
+    let mut dialer = TcpDialer::new(alloc, &rt, authority, Counted { count: 5 });
+    let (is_closed, reply) = join(
+        &rt,
+        || keep_open(&mut listener),
+        || dialer.exchange(b"ask!"),
+    );
+    assert!(rt; is_closed);
     assert_eq!(rt; reply?.as_slice(), b"reply".as_slice());
     Ok(())
 }

@@ -126,16 +126,19 @@ fn a_listener_gives_its_links_and_keeps_the_finished_ones(rt: HostRuntime) -> Re
     }
     let mut listener = MemListener::new(alloc, links, [1u64].as_slice().to_vec(alloc)?)?;
     assert!(rt; matches!(listener.accept(), Err(OutFault::Failed)));
-    let first = listener.accept()?;
-    let second = listener.accept()?;
+    let Accepted::Link(first) = listener.accept()? else {
+        return Err("a link".into());
+    };
+    assert!(rt; first.source.as_slice() == b"1".as_slice());
+    assert!(rt; !listener.has_all_back());
+    listener.finish(first);
+    assert!(rt; listener.has_all_back());
+    let Accepted::Link(second) = listener.accept()? else {
+        return Err("a link".into());
+    };
+    listener.finish(second);
     assert!(rt; matches!(listener.accept(), Ok(Accepted::Closed)));
-    assert!(rt;
-        matches!(&first, Accepted::Link(link) if link.source.as_slice() == b"1".as_slice())
-    );
-    if let Accepted::Link(link) = second {
-        listener.finish(link);
-    }
-    assert_eq!(rt; listener.finished_links().len(), 1);
+    assert_eq!(rt; listener.finished_links().len(), 2);
     Ok(())
 }
 

@@ -1,8 +1,10 @@
 //! Requests as a client writes them, and replies as it reads them.
 use super::joined;
 use crate::{
-    Field, Fields, Method, ReplyFault, Request, read_placed_reply, read_reply, request_text,
+    Field, Fields, Method, ReplyFault, ReplyLength, Request, read_placed_reply, read_reply,
+    request_text,
 };
+use outside::{MemSink, MemSource, Pair, ReplyEnd, ask_link};
 use std::alloc::Global;
 use std::test::Fail;
 use wopi_text::Bytes;
@@ -165,5 +167,42 @@ fn a_request_as_it_is_written(rt: HostRuntime) -> Result<(), Fail> {
         request_text(alloc, &request)?.as_slice(),
         b"POST /wopi/files/61/contents HTTP/1.1\r\nHost: localhost:8880\r\nContent-Length: 4\r\n\r\n1,2\n".as_slice()
     );
+    Ok(())
+}
+
+#[test]
+fn a_reply_that_says_how_long_it_is_ends_behind_its_body(rt: HostRuntime) -> Result<(), Fail> {
+    let end = ReplyLength::new(rt.alloc());
+    for reply in [
+        b"HTTP/1.1 200 OK\r\nContent-Length: 3\r\n\r\n1,2".as_slice(),
+        b"HTTP/1.1 100 Continue\r\n\r\nHTTP/1.1 409 Conflict\r\nContent-Length: 0\r\n\r\n".as_slice(),
+        b"HTTP/1.1 200 OK\r\nTransfer-Encoding: chunked\r\n\r\n3\r\n1,2\r\n0\r\na: b\r\n\r\n".as_slice(),
+        b"HTTP/1.1 204 No Content\r\nContent-Length: 9\r\n\r\n".as_slice(),
+    ] {
+        for cut in 0..reply.len() {
+            assert_eq!(rt; end.is_whole(&reply[..cut])?, false, "at {cut}");
+        }
+        assert_eq!(rt; end.is_whole(reply)?, true);
+    }
+    assert_eq!(rt; end.is_whole(b"HTTP/1.1 200 OK\r\n\r\n1,2")?, false);
+    assert_eq!(rt;
+        end.is_whole(b"HTTP/1.1 200 OK\r\nContent-Length: x\r\n\r\n")?,
+        false
+    );
+    Ok(())
+}
+
+#[test]
+fn a_link_that_stays_open_is_not_read_behind_a_whole_reply(rt: HostRuntime) -> Result<(), Fail> {
+    let alloc = rt.alloc();
+    let reply = b"HTTP/1.1 200 OK\r\nContent-Length: 3\r\n\r\n1,2".as_slice();
+    let failing = [2u64].as_slice().to_vec(alloc)?;
+    let source = MemSource::new(Bytes::from_slice(alloc, reply)?, 1000, failing);
+    let mut link = Pair::new(source, MemSink::new(alloc, 64, Vec::new(alloc))?);
+    let end = ReplyLength::new(alloc);
+    assert!(rt;
+        matches!(ask_link(alloc, &mut link, &end, b"ask", 1000), Ok(found) if found.as_slice() == reply)
+    );
+    assert_eq!(rt; link.sink.as_slice(), b"ask".as_slice());
     Ok(())
 }

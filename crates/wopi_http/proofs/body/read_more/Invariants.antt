@@ -9,6 +9,7 @@ invariant-growing g l = record {
   room : l.end ≤ vec_capacity l.body;
   taken : Takes (g.S.Source.left l.initial.source) (g.S.Source.left l.source) l.initial.body.items l.body.items (vec_len l.body - l.start);
   beside : g.S.Source.beside_reads l.source ≡ g.S.Source.beside_reads l.initial.source;
+  fine : g.S.Source.read_faults l.source ≡ g.S.Source.read_faults l.initial.source;
   never_falls : g.S.Source.read_faults l.initial.source ≤ g.S.Source.read_faults l.source;
 }
 

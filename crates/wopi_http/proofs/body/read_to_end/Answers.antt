@@ -20,5 +20,6 @@ reading-preserved g c =
       capacity = c.in-Ok.ensures.capacity ∙ l.invariant.capacity;
       taken = subst (Takes _ _ _ _) sum (takes_then _ _ _ _ _ _ _ _ l.invariant.taken more);
       beside = c.in-Ok.ensures.beside ∙ l.invariant.beside;
+      fine = c.in-Ok.ensures.fine ∙ l.invariant.fine;
       never_falls = omega (arith, c.in-Ok.ensures.never_falls, l.invariant.never_falls);
     }

@@ -10,6 +10,7 @@ invariant-reading g l = record {
   capacity : vec_capacity l.body ≡ vec_capacity l.initial.body;
   taken : Takes (g.S.Source.left l.initial.source) (g.S.Source.left l.source) (take l.filled l.initial.body.items) (take l.done l.body.items) (l.done - l.filled);
   beside : g.S.Source.beside_reads l.source ≡ g.S.Source.beside_reads l.initial.source;
+  fine : g.S.Source.read_faults l.source ≡ g.S.Source.read_faults l.initial.source;
   never_falls : g.S.Source.read_faults l.initial.source ≤ g.S.Source.read_faults l.source;
 }
 

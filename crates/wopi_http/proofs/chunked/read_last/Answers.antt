@@ -1,8 +1,9 @@
-use Rattle.std.proofs.Common.{List, ℕ, drop, length, sym, refl, subst, inl, inr}
+use Rattle.std.proofs.Common.{List, ℕ, drop, length, sym, refl, subst}
 use Rattle.std.specs.Io.KnownBytes.{Consumes, prepend_known}
+use Rattle.wopi_http.specs.ChunkReads.{HasNoTrailers}
 use Rattle.wopi_http.specs.ChunkSteps.{IsBadTrailers}
 use Rattle.wopi_http.proofs.LookLemmas.{consumes_front, looks_kept, looks_here}
-use Rattle.wopi_http.proofs.StepLemmas.{trailers_alone}
+use Rattle.wopi_http.proofs.StepLemmas.{trailers_alone, ended_all}
 use Rattle.wopi_http.proofs.chunked.read_last.Goals as goal
 
 pub returns-in-Ok-Whole-clause-says : goal.returns-in-Ok-Whole-clause-says
@@ -30,7 +31,7 @@ returns-in-Ok-More-clause-says g c =
       record {
         m = length held;
         looks = looks_kept a (prepend_known held b) (length held) IsBadTrailers c.in-Ok-More.ensures.unread
-            (looks_here b held IsBadTrailers (λ ended at_end. inr (at_end end, says.0)));
+            (looks_here b held IsBadTrailers (λ ended at_end. ended_all HasNoTrailers held ended (at_end end) says.none));
         count = refl;
         few = c.refused.ensures.few;
       },
@@ -47,7 +48,7 @@ returns-in-Ok-Never-clause-says g c =
       record {
         m = length held;
         looks = looks_kept a (prepend_known held b) (length held) IsBadTrailers c.in-Ok-Never.ensures.unread
-            (looks_here b held IsBadTrailers (λ ended at_end. inl says));
+            (looks_here b held IsBadTrailers (λ ended at_end more _. says more));
         count = refl;
         few = c.refused-in-Ok-Never.ensures.few;
       },
