@@ -36,5 +36,8 @@ abbrev pub token_part : List ℕ → Option (List ℕ)
 token_part query = find is_token (slice_split (λ b. b == 38) query)
 
 -- its value, percent-decoded, or nothing where there is no such part
+unfoldable pub token_in : List ℕ → List ℕ
+token_in query = option_map_or (λ part. percent_decode (after_first (λ b. b == 61) part)) (token_part query) []
+
 unfoldable pub token_of : List ℕ → List ℕ
-token_of target = option_map_or (λ part. percent_decode (after_first (λ b. b == 61) part)) (token_part (query_of target)) []
+token_of target = token_in (query_of target)

@@ -1,4 +1,9 @@
 //! What a request is answered.
+ghost use Rattle.std.specs.Prelude.{◌≡◌, [], None};
+ghost use Rattle.wopi_text.specs.declared.lock_field.LockField.TheVariants.{Absent};
+ghost use Rattle.wopi_headers.specs.declared.answer.BodyKind.{BodyKind};
+
+use std::alloc::Global;
 use wopi_text::{Bytes, LockField, Reason};
 
 /// What the body of an answer is.
@@ -23,4 +28,20 @@ pub struct Answer {
     pub version: Option<u64>,
     pub kind: BodyKind,
     pub body: Bytes,
+}
+
+impl Answer {
+    /// An answer that tells nothing but its status. It takes no memory.
+    pub fn bare(alloc: Global, status: u16) -> Answer
+        ensures { result ≡ record { status = status; lock = Absent; reason = None; version = None; kind = BodyKind.None; body = [] } }
+    {
+        Answer {
+            status,
+            lock: LockField::Absent,
+            reason: None,
+            version: None,
+            kind: BodyKind::None,
+            body: Bytes::from_vec(Vec::new(alloc)),
+        }
+    }
 }

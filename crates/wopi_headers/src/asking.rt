@@ -1,19 +1,20 @@
 //! Requests read as operations. What is asked is made once, by the function of its row, in the place
 //! that the caller has for it: lock ids stand inline, and each move of one would copy them whole.
-ghost use Rattle.std.specs.Prelude.{Ok, Some, ◌≡◌, ◌↔◌, false, IsTrue, OnErr};
-ghost use Rattle.wopi_headers.specs.declared.ask.Op.{Op};
-ghost use Rattle.wopi_headers.specs.declared.row.Row.TheVariants.{Lock, GetFile, PutFile, RefreshLock, Unlock, PutRelativeFile};
+ghost use Rattle.std.specs.Prelude.{List, ◌≡◌, ◌↔◌, false, IsTrue, OnErr};
+ghost use Rattle.wopi_http.specs.declared.message.Field.{Field};
+ghost use Rattle.wopi_headers.specs.declared.row.Row.TheVariants.{CheckFileInfo, GetFile, PutFile, Lock, GetLock, RefreshLock, Unlock, PutRelativeFile, DeleteFile};
 ghost use Rattle.wopi_headers.specs.Readings.{lock_name, old_lock_name, IsMissing};
 ghost use Rattle.wopi_headers.specs.Rows.{has_two_targets};
 ghost use Rattle.wopi_headers.specs.Operations.{HasOneOverride, IsAnswerIn, IsAnswerTo};
 ghost use Rattle.wopi_headers.specs.RowReads.{IsRead, IsRowIn};
+ghost use Rattle.wopi_headers.specs.Targets.{path_of, query_of};
 
 use crate::ask::{Ask, AskFault, Op};
 use crate::naming::target_named;
 use crate::path::id_in;
 use crate::reading::{is_missing, lock_named, most_named};
 use crate::row::{Row, row_asked};
-use crate::target::{path_of, token_of};
+use crate::target::{Split, split_of, token_in};
 use std::alloc::Global;
 use wopi_http::{Field, Method, Request, count_named};
 use wopi_text::{Bytes, FileName, id_read};
@@ -203,8 +204,8 @@ fn ask_copy(
 }
 
 fn ask_info(file: FileName, token: Bytes, place: &mut Option<Ask>) -> Result<(), AskFault>
-    ensures done { result ≡ Ok (record {}) }
-    ensures value { place.new ≡ Some (record { file = file; token = token; op = Op.Info }) }
+    ensures read { (fields : List Field) → IsRead CheckFileInfo file token fields result place.new }
+    ensures left { OnErr result (place.new ≡ place.old) }
 {
     *place = Some(Ask {
         file,
@@ -215,8 +216,8 @@ fn ask_info(file: FileName, token: Bytes, place: &mut Option<Ask>) -> Result<(),
 }
 
 fn ask_held(file: FileName, token: Bytes, place: &mut Option<Ask>) -> Result<(), AskFault>
-    ensures done { result ≡ Ok (record {}) }
-    ensures value { place.new ≡ Some (record { file = file; token = token; op = Op.GetLock }) }
+    ensures read { (fields : List Field) → IsRead GetLock file token fields result place.new }
+    ensures left { OnErr result (place.new ≡ place.old) }
 {
     *place = Some(Ask {
         file,
@@ -227,8 +228,8 @@ fn ask_held(file: FileName, token: Bytes, place: &mut Option<Ask>) -> Result<(),
 }
 
 fn ask_delete(file: FileName, token: Bytes, place: &mut Option<Ask>) -> Result<(), AskFault>
-    ensures done { result ≡ Ok (record {}) }
-    ensures value { place.new ≡ Some (record { file = file; token = token; op = Op.Delete }) }
+    ensures read { (fields : List Field) → IsRead DeleteFile file token fields result place.new }
+    ensures left { OnErr result (place.new ≡ place.old) }
 {
     *place = Some(Ask {
         file,
@@ -252,15 +253,20 @@ fn row_in(method: Method, contents: bool, fields: &[Field]) -> Result<Row, u16>
     }
 }
 
-/// What a request asks for, put into a place, as [`ask_of`] tells it. A place that is used again spares
-/// the moves of what is asked.
-pub fn ask_into(alloc: Global, request: &Request, place: &mut Option<Ask>) -> Result<(), AskFault>
+/// What a request asks for of a file, put into a place, where its target is cut so.
+pub fn ask_at(
+    alloc: Global,
+    request: &Request,
+    split: Split<'_>,
+    place: &mut Option<Ask>,
+) -> Result<(), AskFault>
+    requires path { split.path.now ≡ path_of request.now.target }
+    requires query { split.query.now ≡ query_of request.now.target }
     ensures read { IsAnswerIn request.now result place.new }
     ensures left { OnErr result (place.new ≡ place.old) }
 {
-    let target = request.target.as_slice();
     let fields = request.fields.as_slice();
-    let Some((id, contents)) = id_in(path_of(target)) else {
+    let Some((id, contents)) = id_in(split.path) else {
         return Err(AskFault::Refused { status: 404 });
     };
     let Ok(file) = id_read(id) else {
@@ -270,7 +276,7 @@ pub fn ask_into(alloc: Global, request: &Request, place: &mut Option<Ask>) -> Re
         Ok(row) => row,
         Err(status) => return Err(AskFault::Refused { status }),
     };
-    let token = token_of(alloc, target)?;
+    let token = token_in(alloc, split.query)?;
     match row {
         Row::CheckFileInfo => ask_info(file, token, place),
         Row::GetFile => ask_get(file, token, fields, place),
@@ -282,6 +288,15 @@ pub fn ask_into(alloc: Global, request: &Request, place: &mut Option<Ask>) -> Re
         Row::PutRelativeFile => ask_copy(alloc, file, token, fields, place),
         Row::DeleteFile => ask_delete(file, token, place),
     }
+}
+
+/// What a request asks for, put into a place, as [`ask_of`] tells it. A place that is used again spares
+/// the moves of what is asked.
+pub fn ask_into(alloc: Global, request: &Request, place: &mut Option<Ask>) -> Result<(), AskFault>
+    ensures read { IsAnswerIn request.now result place.new }
+    ensures left { OnErr result (place.new ≡ place.old) }
+{
+    ask_at(alloc, request, split_of(request.target.as_slice()), place)
 }
 
 /// What a request asks for. A request that asks for nothing is refused: with 404 where its path names

@@ -3,7 +3,7 @@ ghost use Rattle.std.specs.Prelude.{◌≡◌, false, ◌==◌, ◌≤◌, ◌++
 ghost use Rattle.std.specs.List.{list_any, before_first, after_first, position_or_len, slice_split};
 ghost use Rattle.std.specs.Option.{option_copied, option_map};
 ghost use Rattle.percent_encoding.specs.Percent.{percent_decode};
-ghost use Rattle.wopi_headers.specs.Targets.{begins_with, from_slash, path_of, query_of, is_token, token_part, token_of};
+ghost use Rattle.wopi_headers.specs.Targets.{begins_with, from_slash, path_in, path_of, query_of, is_token, token_part, token_in};
 
 use percent_encoding::percent_decode;
 use std::alloc::Global;
@@ -18,29 +18,23 @@ fn position_of(bytes: &[u8], mark: u8) -> Option<usize>
 
 /// Where the first such byte stands, or the length where there is none.
 #[tactic(auto, using(crate::proofs::Places::place_is, crate::proofs::Places::place_inside))]
-fn place_of(bytes: &[u8], mark: u8) -> usize
+fn first_place(bytes: &[u8], mark: u8) -> usize
     ensures value { result ≡ position_or_len (λ b. b == mark) bytes.now }
     ensures inside { result ≤ length bytes.now }
 {
     position_of(bytes, mark).unwrap_or(bytes.len())
 }
 
-/// What stands before the first such byte, or all where there is none.
-fn before(bytes: &[u8], mark: u8) -> &[u8]
-    ensures { result.now ≡ before_first (λ b. b == mark) bytes.now }
+/// What stands before the first such byte, and what stands after it: all and nothing where there is none.
+fn cut_at(bytes: &[u8], mark: u8) -> (&[u8], &[u8])
+    ensures before { result.0.now ≡ before_first (λ b. b == mark) bytes.now }
+    ensures after { result.1.now ≡ after_first (λ b. b == mark) bytes.now }
 {
-    &bytes[..place_of(bytes, mark)]
-}
-
-/// What stands after the first such byte, or nothing where there is none.
-fn after(bytes: &[u8], mark: u8) -> &[u8]
-    ensures { result.now ≡ after_first (λ b. b == mark) bytes.now }
-{
-    let place = place_of(bytes, mark);
+    let place = first_place(bytes, mark);
     if place == bytes.len() {
-        return &[];
+        return (bytes, &[]);
     }
-    &bytes[place + 1..]
+    (&bytes[..place], &bytes[place + 1..])
 }
 
 /// Whether the bytes begin with the prefix, in any case.
@@ -57,19 +51,17 @@ fn begins_with(bytes: &[u8], prefix: &[u8]) -> bool
 fn from_slash(bytes: &[u8]) -> &[u8]
     ensures { result.now ≡ from_slash bytes.now }
 {
-    let place = place_of(bytes, b'/');
+    let place = first_place(bytes, b'/');
     if place == bytes.len() {
         return b"/";
     }
     &bytes[place..]
 }
 
-/// The path of a target, in origin form or in absolute form.
-#[tactic(auto, unfolding(crate::specs::Targets::path_of))]
-pub fn path_of(target: &[u8]) -> &[u8]
-    ensures { result.now ≡ path_of target.now }
+/// The path of what stands before the query, in origin form or in absolute form.
+fn path_in(front: &[u8]) -> &[u8]
+    ensures { result.now ≡ path_in front.now }
 {
-    let front = before(target, b'?');
     if begins_with(front, b"http://") {
         from_slash(&front[7..])
     } else if begins_with(front, b"https://") {
@@ -79,11 +71,31 @@ pub fn path_of(target: &[u8]) -> &[u8]
     }
 }
 
+/// The path of a target and its query.
+#[derive(Clone, Copy)]
+pub struct Split<'a> {
+    pub path: &'a [u8],
+    pub query: &'a [u8],
+}
+
+/// Cuts a target into its path and its query.
+#[tactic(auto, unfolding(crate::specs::Targets::path_of))]
+pub fn split_of(target: &[u8]) -> Split<'_>
+    ensures path { result.path.now ≡ path_of target.now }
+    ensures query { result.query.now ≡ query_of target.now }
+{
+    let (front, query) = cut_at(target, b'?');
+    Split {
+        path: path_in(front),
+        query,
+    }
+}
+
 /// Whether a part of a query is the token.
 fn is_token(part: &[u8]) -> bool
     ensures { result ≡ is_token part.now }
 {
-    before(part, b'=') == b"access_token".as_slice()
+    cut_at(part, b'=').0 == b"access_token".as_slice()
 }
 
 /// A query of one part, where that is the token.
@@ -117,7 +129,7 @@ fn token_part(query: &[u8]) -> Option<&[u8]>
 fn decoded(alloc: Global, part: &[u8]) -> Result<Bytes, Memory>
     ensures { IfOk result (λ value. value ≡ percent_decode (after_first (λ b. b == 61) part.now)) }
 {
-    let value = after(part, b'=');
+    let value = cut_at(part, b'=').1;
     if !value.contains(&b'%') {
         return Bytes::from_slice(alloc, value);
     }
@@ -126,12 +138,12 @@ fn decoded(alloc: Global, part: &[u8]) -> Result<Bytes, Memory>
     Ok(Bytes::from_vec(bytes))
 }
 
-/// The token of a target, percent-decoded; it is empty where the query has none.
-#[tactic(auto, unfolding(crate::specs::Targets::token_of))]
-pub fn token_of(alloc: Global, target: &[u8]) -> Result<Bytes, Memory>
-    ensures { IfOk result (λ token. token ≡ token_of target.now) }
+/// The token in a query, percent-decoded; it is empty where the query has none.
+#[tactic(auto, unfolding(crate::specs::Targets::token_in))]
+pub fn token_in(alloc: Global, query: &[u8]) -> Result<Bytes, Memory>
+    ensures { IfOk result (λ token. token ≡ token_in query.now) }
 {
-    match token_part(after(target, b'?')) {
+    match token_part(query) {
         Some(part) => decoded(alloc, part),
         None => Ok(Bytes::from_vec(Vec::new(alloc))),
     }

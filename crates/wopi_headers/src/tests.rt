@@ -5,6 +5,7 @@ use wopi_http::{Field, Fields, Method, Request};
 use wopi_text::{Bytes, LockField, LockId, Memory, Reason};
 
 mod client;
+mod containers;
 
 const FILE: &str = "/wopi/files/612e637376";
 
