@@ -9,6 +9,7 @@ ghost use Rattle.file_versions.specs.Versions.{kept_in};
 ghost use Rattle.host_core.specs.Whole.{standing_at};
 ghost use Rattle.kept_locks.specs.Locks.{unlocked};
 ghost use Rattle.host_core.specs.Stock.{IsStock};
+ghost use Rattle.host_core.specs.Children.{AreChildren};
 ghost use Rattle.host_core.specs.Effects.{begun};
 ghost use Rattle.host_core.specs.Entries.{history_of, back_of};
 ghost use Rattle.host_core.specs.Files.{files_of, torn_in};
@@ -18,6 +19,7 @@ ghost use Rattle.host_core.specs.Turns.{AreAsOf};
 ghost use Rattle.host_core.specs.Opening.{IsFirstVersion, IsOfShard, IsOpening, Fits, IsTooLarge, IfTooLarge};
 
 use crate::accept::{Carried, begin};
+use crate::children::{Children, children_of};
 use crate::entry::Entry;
 use crate::file::KeptFile;
 use crate::ledger::{Ledger, StepFault, take_step};
@@ -294,6 +296,17 @@ impl<F: Folder> Shard<F> {
     {
         match names_of(self.ledger.alloc, &self.ledger.files, self.ledger.first) {
             Ok(names) => return Ok(names),
+            Err(memory) => return Err(memory),
+        }
+    }
+
+    /// The files that exist, in the order of their names' bytes. It walks the index of names, and looks at no entry and
+    /// no contents.
+    pub fn children(&self) -> Result<Children, Memory>
+        ensures { IfOk result (AreChildren (state_of self.now.opening self.now.opened self.now.first self.now.made self.now.time).files) }
+    {
+        match children_of(self.ledger.alloc, &self.ledger.index, &self.ledger.files) {
+            Ok(children) => return Ok(children),
             Err(memory) => return Err(memory),
         }
     }

@@ -1,26 +1,32 @@
 -- A pass after a call of one of its seats.
 use Rattle.std.proofs.Common.{◌≡◌, ℕ, zero, suc, ◌+◌, ◌<◌, max, Option, Some, Result, IfOk, IfErr, OnErr, List, [], ◌∷◌, ◌++◌, map, length, set, get_or, slice_get, refl, ap, sym, ◌∙◌, subst, arith, length-set, append_assoc}
 use mathlib.Core.List.{IsPrefix, map-append}
+use Rattle.std.specs.List.{AllByRecursion}
 use Rattle.std.specs.Prelude as Prelude
 use Rattle.wopi_text.specs.FileName.{shard_of}
+use Rattle.wopi_text.specs.declared.faults.Memory.{Memory}
 use Rattle.wopi_model.specs.declared.calls.Call.{Call}
 use Rattle.wopi_model.specs.Shard.{Opening, Item, Step, Entry, Legal, RisesFrom, entries, stamps, last_from}
 use Rattle.wopi_model.specs.Host.{FullAt}
 use Rattle.host_core.specs.declared.caller.Receipt.{Receipt}
 use Rattle.host_core.specs.declared.caller.CallFault.{CallFault}
 use Rattle.host_core.specs.Entries.{Made}
-use Rattle.host_core.specs.Caller.{entry_of, Extends, Makes, Refuses, Frames, IsFullCall}
+use Rattle.host_core.specs.declared.listing.Listing.{Listing}
+use Rattle.host_core.specs.Opening.{MayKeep}
+use Rattle.host_core.specs.Caller.{entry_of, Extends, Makes, Refuses, Frames, FramesAt, IsFullCall}
+use Rattle.host_core.specs.Listing.{IsListing, Lists, LooksAt}
 use Rattle.host_core.specs.Value.{Book}
 use Rattle.host_core.specs.Times.{steps_of, untimed}
 use Rattle.host_table.specs.Histories.{last_stamp, IsSeen}
 use Rattle.host_table.specs.Passes.{Place, PassView, Own, stamp_of, own_of, lock_of, base_of, top, seen_at, opening_seen, opening_at, sight_of, IsBase, Owns, HasOwn, IsSeat, IsPass, HasSeen, IsSamePass}
-use Rattle.host_table.specs.Calls.{Calls, Looks}
+use Rattle.host_table.specs.Calls.{Calls, Glances, Looks}
 use Rattle.host_table.specs.Sights.{seen_alone}
 use Rattle.host_core.proofs.Timing.{entries-untimed}
 use Rattle.host_table.proofs.Stamps.{steps-append, steps-long, last_stamp-prefix, get_last}
 use Rattle.host_table.proofs.Owned.{AreOwn, owns-later, owns-push, own_after, own_stays, rises_after}
 use Rattle.host_core.proofs.Results.{ifok_map}
 use Rattle.host_table.proofs.Turning.{err_map, on_err, either_case}
+use Rattle.host_table.proofs.Homes.{children_home}
 use Rattle.host_table.proofs.Seats.{get_there, get_set, get_other, map_set, rises_of, seat_there, seats_set, own_seats, top_set, has_seen}
 
 -- the pass, with a seat changed
@@ -90,8 +96,9 @@ module _ {F : Type 0} (p : PassView F) (k : ℕ) (v w : Place F) (inside : IsPas
     go (suc j) (s ∷ ss) zero x e h b = refl
     go (suc j) (s ∷ ss) (suc n) x e h b = go j ss n x e (omega arith) b
 
-  frames : (last : ℕ) (call : Call) → k ≡ shard_of call.name → (base : Book F) → v.base ≡ Some base → w.base ≡ v.base → IsSeen base w.seen → Frames (sight_of p) (sight_of (with_seat p k w last)) call.name
-  frames last call home base based same seen =
+  -- a seat's own shard is the only one of which more may have been seen
+  frames_at : (last : ℕ) (base : Book F) → v.base ≡ Some base → w.base ≡ v.base → IsSeen base w.seen → FramesAt (sight_of p) (sight_of (with_seat p k w last)) k
+  frames_at last base based same seen =
       let old = seat_is in
       let one : base ≡ old.base = some_same base old.base v.base based old.based in
       let opened : base.opened ≡ p.opened = ap (λ (b : Book F). b.opened) one ∙ old.is_base.opened_is in
@@ -100,10 +107,8 @@ module _ {F : Type 0} (p : PassView F) (k : ℕ) (v w : Place F) (inside : IsPas
       let opening : opening_at (slice_get p.seats k) ≡ base.opening = ap opening_at was ∙ ap opening_seen based in
       let P : Opening × (ℕ × (ℕ × List Item)) → Type 0 = λ z. Legal z.0 z.1.0 z.1.1.0 z.1.1.1 in
       let same_all : (base.opening, (base.opened, (base.first, untimed w.seen))) ≡ (opening_at (slice_get p.seats k), (p.opened, (p.first, seen_at (slice_get (set p.seats k w) k)))) = λ i. (sym opening i, (opened i, (oldest i, sym now i))) in
-      let legal : Legal (opening_at (slice_get p.seats k)) p.opened p.first (seen_at (slice_get (set p.seats k w) k)) = subst P same_all seen.legal in
-      let Q : ℕ → Type 0 = λ n. Legal (opening_at (slice_get p.seats n)) p.opened p.first (seen_at (slice_get (set p.seats k w) n)) in
       record {
-        others = λ shard differ. ap seen_at (get_other p.seats k shard w (λ e. differ (e ∙ home)));
+        others = λ shard differ. ap seen_at (get_other p.seats k shard w differ);
         openings = opening_same same;
         home = λ other. refl;
         pass = refl;
@@ -111,12 +116,86 @@ module _ {F : Type 0} (p : PassView F) (k : ℕ) (v w : Place F) (inside : IsPas
         opened = refl;
         first = refl;
         ticked = refl;
-        alone = λ _. seen_alone (slice_get (set p.seats k w) (shard_of call.name));
-        legal = subst Q home legal;
+        alone = λ _. seen_alone (slice_get (set p.seats k w) k);
+        legal = subst P same_all seen.legal;
       }
+
+  frames : (last : ℕ) (call : Call) → k ≡ shard_of call.name → (base : Book F) → v.base ≡ Some base → w.base ≡ v.base → IsSeen base w.seen → Frames (sight_of p) (sight_of (with_seat p k w last)) call.name
+  frames last call home base based same seen =
+      let P : ℕ → Type 0 = λ n. FramesAt (sight_of p) (sight_of (with_seat p k w last)) n in
+      subst P home (frames_at last base based same seen)
 
   seen_by : (base : Book F) → v.base ≡ Some base → Prelude.IsSomeAnd v.base (λ b. IsSeen b w.seen) → IsSeen base w.seen
   seen_by base based seen = let P : Option (Book F) → Type 0 = λ o. Prelude.IsSomeAnd o (λ b. IsSeen b w.seen) in subst P based seen
+
+  -- the history so far was seen, and no entry was made
+  module _ (last : ℕ) (seen_all : Prelude.IsSomeAnd v.base (λ b. IsSeen b w.seen)) (last_is : last ≡ max p.last (last_stamp w.seen)) (glances : Glances v w) where
+    abbrev after_glance : PassView F
+    after_glance = with_seat p k w last
+
+    base_stays : w.base ≡ v.base
+    base_stays = ap (λ (z : Place F). z.base) glances.same
+
+    pub own_glanced : own_of after_glance ≡ own_of p
+    own_glanced = own_stays p.number p.seats k v w at glances.later (ap (λ (z : Place F). z.own) glances.same) (seat_is).owns
+
+    owns_stays : Owns p.number w.seen w.own
+    owns_stays = let P : List ℕ → Type 0 = λ places. Owns p.number w.seen places in
+        subst P (sym (ap (λ (z : Place F). z.own) glances.same)) (owns-later p.number v.seen w.seen v.own glances.later (seat_is).owns)
+
+    pub pass_glanced : IsPass after_glance
+    pass_glanced = pass_after last (seat_after glances.base glances.based (seen_by glances.base glances.based seen_all) base_stays (ap (λ (z : Place F). z.taken) glances.same) (ap (λ (z : Place F). z.weight) glances.same) owns_stays) glances.later last_is
+        (subst (λ (owns : List Own). RisesFrom 0 (map stamp_of owns)) (sym own_glanced) inside.rises)
+
+    pub frames_glanced : FramesAt (sight_of p) (sight_of after_glance) k
+    frames_glanced = frames_at last glances.base glances.based base_stays (seen_by glances.base glances.based seen_all)
+
+    pub same_glanced : IsSamePass p after_glance
+    same_glanced = same_pass last (ap (λ (z : Place F). z.lock) glances.same) base_stays
+
+    pub seen_glanced : HasSeen after_glance
+    seen_glanced = has_seen after_glance pass_glanced
+
+    pub begins_glanced : Extends (entries (seen_at (slice_get p.seats k))) (entries (seen_at (slice_get (set p.seats k w) k)))
+    begins_glanced =
+        let now : seen_at (slice_get (set p.seats k w) k) ≡ untimed w.seen = ap seen_at (get_set p.seats k w here) in
+        let old : entries (seen_at (slice_get p.seats k)) ≡ steps_of v.seen = ap (λ (o : Option (Place F)). entries (seen_at o)) was ∙ entries-untimed v.seen in (
+          steps_of glances.later.0,
+          ap (λ (items : List Item). entries items) now ∙ (entries-untimed w.seen ∙ (ap steps_of (sym glances.later.1) ∙ (steps-append v.seen glances.later.0 ∙ ap (λ (es : List Entry). es ++ steps_of glances.later.0) (sym old)))),
+        )
+
+    pub looks_glanced : LooksAt (sight_of p) (sight_of after_glance) k
+    looks_glanced = record { own = ap (map (λ (one : Own). one.entry)) own_glanced; begins = begins_glanced; rest = frames_glanced }
+
+    -- what a listing shows after the history that the seat has seen, it shows after what the pass has seen
+    pub lists_glanced : (listing : Listing) → Prelude.IsSomeAnd v.base (λ base. IsListing k base.opening base.opened base.first (untimed w.seen) listing) → Lists (sight_of after_glance) k listing
+    lists_glanced listing shows =
+        let base = glances.base in
+        let seat = seat_is in
+        let one : base ≡ seat.base = some_same base seat.base v.base glances.based seat.based in
+        let here_shows : IsListing k base.opening base.opened base.first (untimed w.seen) listing =
+        subst (λ (o : Option (Book F)). Prelude.IsSomeAnd o (λ b. IsListing k b.opening b.opened b.first (untimed w.seen) listing)) glances.based shows in
+        let opening : base.opening ≡ opening_at (slice_get (set p.seats k w) k) = sym (ap opening_at (get_set p.seats k w here) ∙ ap opening_seen (base_stays ∙ glances.based)) in
+        let opened : base.opened ≡ p.opened = ap (λ (b : Book F). b.opened) one ∙ seat.is_base.opened_is in
+        let oldest : base.first ≡ p.first = ap (λ (b : Book F). b.first) one ∙ seat.is_base.first_is in
+        let now : untimed w.seen ≡ seen_at (slice_get (set p.seats k w) k) = sym (ap seen_at (get_set p.seats k w here)) in
+        let P : Opening × (ℕ × (ℕ × List Item)) → Type 0 = λ z. IsListing k z.0 z.1.0 z.1.1.0 z.1.1.1 listing in
+        let all : (base.opening, (base.opened, (base.first, untimed w.seen))) ≡ (opening_at (slice_get (set p.seats k w) k), (p.opened, (p.first, seen_at (slice_get (set p.seats k w) k)))) = λ i. (opening i, (opened i, (oldest i, now i))) in
+        record {
+          shows = subst P all here_shows;
+          homes = children_home k base w.seen listing (ap (λ (b : Book F). b.only) one ∙ seat.is_base.only) (subst (λ (b : Book F). AllByRecursion (λ file. MayKeep b.only file.0) b.opening) (sym one) seat.is_base.names)
+              (seen_by glances.base glances.based seen_all).named here_shows.children_are;
+        }
+
+    -- by the number that was asked for
+    pub looks_then : (shard : ℕ) → k ≡ shard → LooksAt (sight_of p) (sight_of after_glance) shard
+    looks_then shard is = let P : ℕ → Type 0 = λ n. LooksAt (sight_of p) (sight_of after_glance) n in subst P is looks_glanced
+
+    pub lists_then : (shard : ℕ) → k ≡ shard → (answer : Result Listing Memory) → IfOk answer (λ listing. Prelude.IsSomeAnd v.base (λ base. IsListing shard base.opening base.opened base.first (untimed w.seen) listing))
+        → IfOk answer (Lists (sight_of after_glance) shard)
+    lists_then shard is answer =
+        let P : ℕ → Type 0 = λ n. IfOk answer (λ listing. Prelude.IsSomeAnd v.base (λ base. IsListing n base.opening base.opened base.first (untimed w.seen) listing)) → IfOk answer (Lists (sight_of after_glance) n) in
+        subst P is (λ shows. ifok_map answer _ _ lists_glanced shows)
 
   module _ (last : ℕ) (call : Call) (moment : ℕ) (home : k ≡ shard_of call.name) (seen_all : Prelude.IsSomeAnd v.base (λ b. IsSeen b w.seen)) (last_is : last ≡ max p.last (last_stamp w.seen)) where
     abbrev q : PassView F
@@ -215,46 +294,38 @@ module _ {F : Type 0} (p : PassView F) (k : ℕ) (v w : Place F) (inside : IsPas
           }
 
     module _ (refusal : CallFault) (looks : Looks v call p.last moment refusal w) where
-      base_stays : w.base ≡ v.base
-      base_stays = ap (λ (z : Place F). z.base) looks.same
+      abbrev glance : Glances v w
+      glance = looks.glances
 
       pub own_looked : own_of q ≡ own_of p
-      own_looked = own_stays p.number p.seats k v w at looks.later (ap (λ (z : Place F). z.own) looks.same) (seat_is).owns
-
-      owns_stays : Owns p.number w.seen w.own
-      owns_stays = let P : List ℕ → Type 0 = λ places. Owns p.number w.seen places in
-          subst P (sym (ap (λ (z : Place F). z.own) looks.same)) (owns-later p.number v.seen w.seen v.own looks.later (seat_is).owns)
+      own_looked = own_glanced last seen_all last_is glance
 
       pub pass_looked : IsPass q
-      pass_looked = pass_after last (seat_after looks.base looks.based (seen_by looks.base looks.based seen_all) base_stays (ap (λ (z : Place F). z.taken) looks.same) (ap (λ (z : Place F). z.weight) looks.same) owns_stays) looks.later last_is
-          (subst (λ (owns : List Own). RisesFrom 0 (map stamp_of owns)) (sym own_looked) inside.rises)
+      pass_looked = pass_glanced last seen_all last_is glance
 
       pub frames_looked : Frames (sight_of p) (sight_of q) call.name
-      frames_looked = frames last call home looks.base looks.based base_stays (seen_by looks.base looks.based seen_all)
+      frames_looked = let P : ℕ → Type 0 = λ n. FramesAt (sight_of p) (sight_of q) n in subst P home (frames_glanced last seen_all last_is glance)
 
       pub same_looked : IsSamePass p q
-      same_looked = same_pass last (ap (λ (z : Place F). z.lock) looks.same) base_stays
+      same_looked = same_glanced last seen_all last_is glance
 
       pub refuses : Refuses (sight_of p) (sight_of q) call moment refusal
       refuses =
           let now : seen_at (slice_get (set p.seats k w) k) ≡ untimed w.seen = ap seen_at (get_set p.seats k w here) in
-          let old : entries (seen_at (slice_get p.seats k)) ≡ steps_of v.seen = ap (λ (o : Option (Place F)). entries (seen_at o)) was ∙ entries-untimed v.seen in
           let seat = seat_is in
-          let base : looks.base ≡ seat.base = some_same looks.base seat.base v.base looks.based seat.based in
-          let opening : opening_at (slice_get p.seats k) ≡ looks.base.opening = ap opening_at was ∙ ap opening_seen looks.based in
-          let opened : p.opened ≡ looks.base.opened = sym (ap (λ (b : Book F). b.opened) base ∙ seat.is_base.opened_is) in
-          let oldest : p.first ≡ looks.base.first = sym (ap (λ (b : Book F). b.first) base ∙ seat.is_base.first_is) in
-          let capacity : p.capacity ≡ looks.base.capacity = sym (ap (λ (b : Book F). b.capacity) base ∙ seat.is_base.capacity_is) in
+          let base : glance.base ≡ seat.base = some_same glance.base seat.base v.base glance.based seat.based in
+          let opening : opening_at (slice_get p.seats k) ≡ glance.base.opening = ap opening_at was ∙ ap opening_seen glance.based in
+          let opened : p.opened ≡ glance.base.opened = sym (ap (λ (b : Book F). b.opened) base ∙ seat.is_base.opened_is) in
+          let oldest : p.first ≡ glance.base.first = sym (ap (λ (b : Book F). b.first) base ∙ seat.is_base.first_is) in
+          let capacity : p.capacity ≡ glance.base.capacity = sym (ap (λ (b : Book F). b.capacity) base ∙ seat.is_base.capacity_is) in
           let P : Opening × (ℕ × (ℕ × (ℕ × List Item))) → Type 0 = λ z. IsFullCall refusal → FullAt z.0 z.1.0 z.1.1.0 z.1.1.1.0 z.1.1.1.1 p.last call moment in
-          let terms : (looks.base.opening, (looks.base.opened, (looks.base.first, (looks.base.capacity, untimed w.seen)))) ≡ (opening_at (slice_get p.seats k), (p.opened, (p.first, (p.capacity, seen_at (slice_get (set p.seats k w) k))))) =
+          let terms : (glance.base.opening, (glance.base.opened, (glance.base.first, (glance.base.capacity, untimed w.seen)))) ≡ (opening_at (slice_get p.seats k), (p.opened, (p.first, (p.capacity, seen_at (slice_get (set p.seats k w) k))))) =
           λ i. (sym opening i, (sym opened i, (sym oldest i, (sym capacity i, sym now i)))) in
           let Full : ℕ → Type 0 = λ n. IsFullCall refusal → FullAt (opening_at (slice_get p.seats n)) p.opened p.first p.capacity (seen_at (slice_get (set p.seats k w) n)) p.last call moment in
           let Begins : ℕ → Type 0 = λ n. Extends (entries (seen_at (slice_get p.seats n))) (entries (seen_at (slice_get (set p.seats k w) n))) in
-          let begins : entries (seen_at (slice_get (set p.seats k w) k)) ≡ entries (seen_at (slice_get p.seats k)) ++ steps_of looks.later.0 =
-          ap (λ (items : List Item). entries items) now ∙ (entries-untimed w.seen ∙ (ap steps_of (sym looks.later.1) ∙ (steps-append v.seen looks.later.0 ∙ ap (λ (es : List Entry). es ++ steps_of looks.later.0) (sym old)))) in
           record {
             own = ap (map (λ (one : Own). one.entry)) own_looked;
-            begins = subst Begins home (steps_of looks.later.0, begins);
+            begins = subst Begins home (begins_glanced last seen_all last_is glance);
             full = subst Full home (subst P terms looks.full);
             handed = looks.handed;
             light = looks.light;

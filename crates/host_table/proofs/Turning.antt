@@ -9,13 +9,15 @@ use Rattle.wopi_model.specs.Host.{FullAt}
 use Rattle.host_core.specs.declared.caller.Receipt.{Receipt}
 use Rattle.host_core.specs.declared.caller.CallFault.{CallFault}
 use Rattle.host_core.specs.Caller.{entry_of, IsFullCall, next_stamp}
+use Rattle.host_core.specs.declared.listing.Listing.{Listing}
+use Rattle.host_core.specs.Listing.{IsListing}
 use Rattle.host_core.specs.Entries.{Made}
 use Rattle.host_core.specs.Value.{Book}
 use Rattle.host_core.specs.Times.{untimed}
 use Rattle.host_table.specs.Histories.{as_opened, IsSeen}
 use Rattle.host_table.specs.Held.{Adds, Declines}
 use Rattle.host_table.specs.Passes.{Place}
-use Rattle.host_table.specs.Calls.{Calls, Looks}
+use Rattle.host_table.specs.Calls.{Calls, Glances, Looks}
 
 places_one : (made : List Made) (one : Made) → places_behind made (made ++ one ∷ []) ≡ length made ∷ []
 places_one made one = let n : length (made ++ one ∷ []) - length made ≡ 1 = omega (arith, length-append made (one ∷ [])) in ap (places_from (length made)) n
@@ -67,24 +69,45 @@ made_call v w old new call pass floor moment receipt free based begins is adds =
       same = is ∙ (λ i. record { lock = v.lock; seen = sym seen i; own = own i; weight = v.weight; base = v.base; taken = sym free i });
     }
 
-pub refused_call : {F : Type 0} (v w : Place F) (old new : Book F) (call : Call) (floor moment : ℕ) (refusal : CallFault) → v.taken ≡ None → v.base ≡ Some (as_opened old) → IsPrefix v.seen old.made
+-- a turn that adds no entry
+pub glanced : {F : Type 0} (v w : Place F) (old new : Book F) → v.taken ≡ None → v.base ≡ Some (as_opened old) → IsPrefix v.seen old.made
     → w ≡ record { lock = v.lock; seen = new.made; own = v.own ++ added_places (Some old.made) new.made; weight = v.weight; base = v.base; taken = None }
-    → Declines old new call floor moment refusal → Looks v call floor moment refusal w
-refused_call v w old new call floor moment refusal free based begins is declines =
+    → new.made ≡ old.made → Glances v w
+glanced v w old new free based begins is made =
     let seen : w.seen ≡ new.made = ap (λ (p : Place _). p.seen) is in
-    let same : w.seen ≡ old.made = seen ∙ declines.made in
     let own : v.own ++ added_places (Some old.made) new.made ≡ v.own =
-    ap (λ (places : List ℕ). v.own ++ places) (ap (places_behind old.made) declines.made ∙ places_none old.made) ∙ append-nil v.own in
-    let P : List Made → Type 0 = λ made. IsFullCall refusal → FullAt old.opening old.opened old.first old.capacity (untimed made) floor call moment in
+    ap (λ (places : List ℕ). v.own ++ places) (ap (places_behind old.made) made ∙ places_none old.made) ∙ append-nil v.own in
     record {
       base = as_opened old;
       based = based;
-      later = (begins.0, begins.1 ∙ sym same);
+      later = (begins.0, begins.1 ∙ sym (seen ∙ made));
+      same = is ∙ (λ i. record { lock = v.lock; seen = sym seen i; own = own i; weight = v.weight; base = v.base; taken = sym free i });
+    }
+
+pub refused_call : {F : Type 0} (v w : Place F) (old new : Book F) (call : Call) (floor moment : ℕ) (refusal : CallFault) → v.taken ≡ None → v.base ≡ Some (as_opened old) → IsPrefix v.seen old.made
+    → w ≡ record { lock = v.lock; seen = new.made; own = v.own ++ added_places (Some old.made) new.made; weight = v.weight; base = v.base; taken = None }
+    → Declines old new call floor moment refusal → Looks v call floor moment refusal w
+unfolding glanced
+refused_call v w old new call floor moment refusal free based begins is declines =
+    let same : w.seen ≡ old.made = ap (λ (p : Place _). p.seen) is ∙ declines.made in
+    let P : List Made → Type 0 = λ made. IsFullCall refusal → FullAt old.opening old.opened old.first old.capacity (untimed made) floor call moment in
+    record {
+      glances = glanced v w old new free based begins is declines.made;
       full = subst P (sym same) declines.full;
       handed = declines.handed;
       light = declines.light;
-      same = is ∙ (λ i. record { lock = v.lock; seen = sym seen i; own = own i; weight = v.weight; base = v.base; taken = sym free i });
     }
+
+-- what a listing shows after the shard's history, it shows after what the seat has seen
+pub shows_seen : {F : Type 0} (v w : Place F) (book : Book F) (number : ℕ) (listing : Listing) → v.base ≡ Some (as_opened book)
+    → w ≡ record { lock = v.lock; seen = book.made; own = v.own ++ added_places (Some book.made) book.made; weight = v.weight; base = v.base; taken = None }
+    → IsListing number book.opening book.opened book.first (untimed book.made) listing
+    → IsSomeAnd v.base (λ base. IsListing number base.opening base.opened base.first (untimed w.seen) listing)
+shows_seen v w book number listing based is shows =
+    let P : Option (Book _) → Type 0 = λ o. IsSomeAnd o (λ base. IsListing number base.opening base.opened base.first (untimed w.seen) listing) in
+    let Q : List Made → Type 0 = λ made. IsListing number book.opening book.opened book.first (untimed made) listing in
+    let here : IsListing number book.opening book.opened book.first (untimed w.seen) listing = subst Q (sym (ap (λ (p : Place _). p.seen) is)) shows in
+    subst P (sym based) here
 
 pub err_map : {A E : Type 0} (r : Result A E) (P Q : E → Type 0) → ((e : E) → P e → Q e) → IfErr r P → IfErr r Q
 err_map (Ok x) P Q f h = tt

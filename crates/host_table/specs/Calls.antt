@@ -12,6 +12,13 @@ use Rattle.host_core.specs.Value.{Book}
 use Rattle.host_core.specs.Times.{untimed}
 use Rattle.host_table.specs.Passes.{Place}
 
+-- The history so far was seen, which begins with what had been seen, and no entry was made.
+pub record Glances {F : Type 0} (v w : Place F) : Type 0 where
+  pub base : Book F
+  pub based : v.base ≡ Some base
+  pub later : IsPrefix v.seen w.seen
+  pub same : w ≡ record { lock = v.lock; seen = w.seen; own = v.own; weight = v.weight; base = v.base; taken = v.taken }
+
 module _ {F : Type 0} (v : Place F) (call : Call) where
   -- the call's entry was added to the history so far, which begins with what had been seen
   pub record Calls (pass floor moment : ℕ) (receipt : Receipt) (w : Place F) : Type 0 where
@@ -27,12 +34,9 @@ module _ {F : Type 0} (v : Place F) (call : Call) where
     pub back : receipt.back ≡ back_of call.act receipt.ruling
     pub same : w ≡ record { lock = v.lock; seen = w.seen; own = v.own ++ receipt.place ∷ []; weight = v.weight; base = v.base; taken = v.taken }
 
-  -- the history so far was seen
+  -- the call found the shard full, or there was no memory: the history so far was seen
   pub record Looks (floor moment : ℕ) (refusal : CallFault) (w : Place F) : Type 0 where
-    pub base : Book F
-    pub based : v.base ≡ Some base
-    pub later : IsPrefix v.seen w.seen
-    pub full : IsFullCall refusal → FullAt base.opening base.opened base.first base.capacity (untimed w.seen) floor call moment
+    pub glances : Glances v w
+    pub full : IsFullCall refusal → FullAt glances.base.opening glances.base.opened glances.base.first glances.base.capacity (untimed w.seen) floor call moment
     pub handed : called_back refusal ≡ call
     pub light : is_lock_act call.act ≡ true → IsFullCall refusal
-    pub same : w ≡ record { lock = v.lock; seen = w.seen; own = v.own; weight = v.weight; base = v.base; taken = v.taken }

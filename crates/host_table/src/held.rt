@@ -3,17 +3,20 @@ ghost use Rattle.std.specs.Prelude.{◌≡◌, ◌≤◌, ◌<◌, Some, [], fal
 ghost use Rattle.outside.specs.Faults.{Rose};
 ghost use Rattle.outside.specs.Folder.{Keeps};
 ghost use Rattle.wopi_model.specs.Moment.{IsMoment};
+ghost use Rattle.host_core.specs.Listing.{IsListing};
 ghost use Rattle.host_core.specs.Opening.{IsFirstVersion, IsOpening, Fits, IsTooLarge, IfTooLarge};
+ghost use Rattle.host_core.specs.Times.{untimed};
 ghost use Rattle.wopi_text.specs.FileName.{shard_of};
 ghost use Rattle.host_table.specs.Histories.{last_stamp, as_opened, IsSeen};
 ghost use Rattle.host_table.specs.Held.{Adds, Declines, IsTakenApart};
 
-use host_core::{CallFault, Past, Receipt, Shard, StartFault, StepFault};
+use host_core::{CallFault, Listing, Past, Receipt, Shard, StartFault, StepFault};
 use outside::Folder;
 use std::alloc::Global;
 use std::marker::Model;
 use turn_lock::Grown;
 use wopi_model::Call;
+use wopi_text::Memory;
 
 /// A shard that keeps the files of one number, and whose time goes on with its entries alone.
 #[derive(Drop)]
@@ -118,6 +121,24 @@ impl<F: Folder> Held<F> {
             }
             Err(StepFault::Full(call)) => return Err(CallFault::Full(call)),
             Err(StepFault::Memory(call)) => return Err(CallFault::Memory(call)),
+        }
+    }
+
+    /// A listing of the shard, which is the one of that number.
+    pub fn list(&self, number: u8) -> Result<Listing, Memory>
+        ensures seen { IsSeen (as_opened self.now) self.now.made }
+        ensures shows { IfOk result (IsListing number self.now.opening self.now.opened self.now.first (untimed self.now.made)) }
+    {
+        let place = self.shard.len();
+        match self.shard.children() {
+            Ok(children) => {
+                return Ok(Listing {
+                    shard: number,
+                    place,
+                    children,
+                });
+            }
+            Err(memory) => return Err(memory),
         }
     }
 

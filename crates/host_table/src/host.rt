@@ -5,11 +5,13 @@ ghost use Rattle.wopi_model.specs.Moment.{IsMoment};
 ghost use Rattle.host_core.specs.Opening.{IsFirstVersion};
 ghost use Rattle.wopi_text.specs.FileName.{shard_of};
 ghost use Rattle.host_core.specs.Caller.{Makes, Refuses, Frames, entry_of};
+ghost use Rattle.host_core.specs.Listing.{IsListing, Lists, LooksAt};
+ghost use Rattle.host_core.specs.Times.{untimed};
 ghost use Rattle.host_table.specs.Histories.{last_stamp, as_opened, IsSeen};
 ghost use Rattle.host_table.specs.Passes.{locks_of, own_of, top, sight_of, kept_pass, given_pass, IsPassOf, IsSamePass, HasSeen, AreBases};
 ghost use Rattle.host_table.specs.Start.{first_seats, first_pass, AreHanded, IsBlamed, Starts};
 ghost use Rattle.host_table.specs.Close.{IsWhole, Ends};
-ghost use Rattle.host_table.specs.Calls.{Calls, Looks};
+ghost use Rattle.host_table.specs.Calls.{Calls, Glances, Looks};
 
 use crate::closing::end_host;
 use crate::held::Held;
@@ -19,7 +21,7 @@ use crate::pass::Pass;
 use crate::rooms::{CloseRoom, SplitRoom};
 use crate::rows::split_all;
 use crate::whole::{are_numbered, weigh_whole};
-use host_core::{CallFault, Receipt, StartFault};
+use host_core::{CallFault, Listing, Receipt, StartFault};
 use outside::Folder;
 use std::alloc::Global;
 use std::marker::Model;
@@ -88,6 +90,28 @@ fn turn<F: Folder, R: Wait>(
     let mut held = lock.take(rt, seat);
     let answer = held.call(call, number, *last, moment);
     *last = (*last).max(held.last());
+    lock.give_back(seat, held);
+    answer
+}
+
+/// A listing in the shard's turn. `last` is the greatest stamp that was seen in any shard.
+fn list_in_turn<F: Folder, R: Wait>(
+    rt: &R,
+    lock: &TurnLock<Held<F>>,
+    seat: &mut Seat<Held<F>>,
+    number: u8,
+    last: &mut u64,
+) -> Result<Listing, Memory>
+    requires lock { seat.old.lock ≡ lock.now }
+    requires free { seat.old.taken ≡ None }
+    ensures last { last.new ≡ max last.old (last_stamp seat.new.seen) }
+    ensures seen { IsSomeAnd seat.old.base (λ base. IsSeen base seat.new.seen) }
+    ensures glances { Glances seat.old seat.new }
+    ensures shows { IfOk result (λ listing. IsSomeAnd seat.old.base (λ base. IsListing number base.opening base.opened base.first (untimed seat.new.seen) listing)) }
+{
+    let held = lock.take(rt, seat);
+    let answer = held.list(number);
+    *last = held.last().max(*last);
     lock.give_back(seat, held);
     answer
 }
@@ -249,6 +273,23 @@ impl<F: Folder> Host<F> {
         let lock = &self.locks[shard];
         let seat = &mut pass.seats[shard];
         turn(rt, lock, seat, call, number, &mut pass.last, moment)
+    }
+
+    /// The files of a shard that exist, in a turn that the pass waits for. No entry is made. The pass has then seen what
+    /// the shard's history was, also where there is no memory for the files.
+    pub fn look<R: Wait>(&self, rt: &R, pass: &mut Pass<F>, shard: u8) -> Result<Listing, Memory>
+        requires host { locks_of pass.old ≡ self.now.locks }
+        requires shard { shard < 16 }
+        ensures listed { IfOk result (Lists (sight_of pass.new) shard) }
+        ensures looks { LooksAt (sight_of pass.old) (sight_of pass.new) shard }
+        ensures own { own_of pass.new ≡ own_of pass.old }
+        ensures same { IsSamePass pass.old pass.new }
+        ensures seen { HasSeen pass.new }
+    {
+        let place = usize::from(shard);
+        let lock = &self.locks[place];
+        let seat = &mut pass.seats[place];
+        list_in_turn(rt, lock, seat, shard, &mut pass.last)
     }
 
     /// These are all passes of the host: their numbers are those below how many were made, each once, and their

@@ -3,14 +3,15 @@ ghost use Rattle.std.specs.Prelude.{◌≡◌, [], ◌∷◌, false};
 ghost use Rattle.host_table.specs.Passes.{locks_of, top, AreBelow, IsPassOf, AreInShards};
 ghost use Rattle.host_table.specs.Seated.{AreInShards-prop};
 
-use crate::host::Host;
+use crate::host::{Host, SHARDS};
 use crate::pass::Pass;
-use host_core::{CallFault, Caller, Receipt};
+use host_core::{CallFault, Caller, Lister, Listing, Receipt};
 use outside::Folder;
 use std::marker::Model;
 use std::snapshot::Snapshot;
 use std::sync::Wait;
 use wopi_model::Call;
+use wopi_text::Memory;
 
 /// A host and a pass of it, by which a thread makes its calls. Each call waits for its shard's turn.
 #[derive(Drop)]
@@ -74,5 +75,24 @@ impl<R: Wait, F: Folder> Caller for Seated<'_, R, F> {
 
     fn call(&mut self, call: Call, moment: u64) -> Result<Receipt, CallFault> {
         self.host.call(self.rt, self.pass, call, moment)
+    }
+}
+
+impl<R: Wait, F: Folder> Lister for Seated<'_, R, F> {
+    ghost use Rattle.std.specs.Prelude.{[], ◌∷◌};
+    ghost use Rattle.host_table.specs.Sights.{home_below, home_reached};
+
+    ghost shard_count = { 16 };
+
+    ghost homes = { λ seated name. home_below name };
+
+    ghost reaches = { λ seated shard inside. (shard ∷ [], home_reached shard inside) };
+
+    fn shards(&self) -> u8 {
+        SHARDS as u8
+    }
+
+    fn list(&mut self, shard: u8) -> Result<Listing, Memory> {
+        self.host.look(self.rt, self.pass, shard)
     }
 }

@@ -13,6 +13,8 @@ use std::thread::join;
 use wopi_model::{Token, User};
 use wopi_text::{Bytes, FileName, LockId};
 
+mod listing;
+
 /// An entry's stamp and shard.
 type Spot = (u64, u8);
 
