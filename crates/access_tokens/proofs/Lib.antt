@@ -1,9 +1,10 @@
+pub mod Ascii
 mod Blocks
-mod Bytes
+pub mod Bytes
 mod Heads
-mod MarkLemmas
-mod Parts
-mod Readings
+pub mod MarkLemmas
+pub mod Parts
+pub mod Readings
 mod Remembered
-mod Verdicts
+pub mod Verdicts
 mod WordLemmas

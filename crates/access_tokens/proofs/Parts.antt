@@ -32,13 +32,12 @@ parts_of-join field (next ∷ fields) h =
 pub some_parts : (text : List ℕ) → 1 ≤ length (parts_of text)
 some_parts text = let count = length-slice_split (is 46) text in omega (arith, count)
 
--- seven parts, taken off one by one
-pub taken_off : (p q r s t u v : List (List ℕ)) (a b c d e f mac : List ℕ) → p ≡ a ∷ q → q ≡ b ∷ r → r ≡ c ∷ s → s ≡ d ∷ t
-    → t ≡ e ∷ u → u ≡ f ∷ v → v ≡ mac ∷ [] → p ≡ a ∷ b ∷ c ∷ d ∷ e ∷ f ∷ mac ∷ []
-taken_off p q r s t u v a b c d e f mac h i j k l m n = cc
+-- five parts, taken off one by one
+pub taken_off : (p q r s t : List (List ℕ)) (a b c d mac : List ℕ) → p ≡ a ∷ q → q ≡ b ∷ r → r ≡ c ∷ s → s ≡ d ∷ t → t ≡ mac ∷ []
+    → p ≡ a ∷ b ∷ c ∷ d ∷ mac ∷ []
+taken_off p q r s t a b c d mac h i j k l = cc
 
--- more than seven
-pub more_than_seven : (p q r s t u v w : List (List ℕ)) (a b c d e f g : List ℕ) → p ≡ a ∷ q → q ≡ b ∷ r → r ≡ c ∷ s → s ≡ d ∷ t
-    → t ≡ e ∷ u → u ≡ f ∷ v → v ≡ g ∷ w → 1 ≤ length w → length p ≢ 7
-more_than_seven p q r s t u v w a b c d e f g h i j k l m n more seven =
-    omega (arith, ap length h, ap length i, ap length j, ap length k, ap length l, ap length m, ap length n)
+-- more than five
+pub more_than_five : (p q r s t u : List (List ℕ)) (a b c d e : List ℕ) → p ≡ a ∷ q → q ≡ b ∷ r → r ≡ c ∷ s → s ≡ d ∷ t → t ≡ e ∷ u
+    → 1 ≤ length u → length p ≢ 5
+more_than_five p q r s t u a b c d e h i j k l more five = omega (arith, ap length h, ap length i, ap length j, ap length k, ap length l)

@@ -6,7 +6,7 @@ use Rattle.std.proofs.lemmas.List.Elements.{All-push}
 use Rattle.wopi_model.specs.declared.token.Token.{Token}
 use Rattle.access_tokens.specs.TokenText.{IsSigned}
 use Rattle.access_tokens.specs.declared.keys.Keys.{Keys}
-use Rattle.access_tokens.specs.declared.reading.TokenFault.{TokenFault}
+use Rattle.access_tokens.specs.declared.checking.TokenFault.{TokenFault}
 use Rattle.access_tokens.proofs.Readings.{one_reading}
 
 same_token : (first second : Token) → Some first ≡ Some second → first ≡ second

@@ -1,28 +1,14 @@
--- What reading a text under keys answers.
-use Rattle.std.proofs.Common.{◌≡◌, ◌≢◌, ℕ, List, Option, Some, None, Result, Ok, Err, refl, sym, ap, subst, ◌∙◌}
+-- What reading a text under keys answers, whatever its form is.
+use Rattle.std.proofs.Common.{◌≡◌, ◌≢◌, ℕ, ◌-◌, ◌≤◌, List, ◌∷◌, ◌++◌, length, take, Option, Some, None, Result, Ok, Err, refl, sym, ap, subst, ◌∙◌, arith, length-append}
 use Rattle.std.specs.Prelude.{◌↔◌}
 use Rattle.std.proofs.lemmas.Bool.{eq-eqb}
-use Rattle.wopi_model.specs.declared.token.Token.{Token}
+use Rattle.std.proofs.Math.Seq.{take-append_seam}
 use Rattle.access_tokens.specs.Keys.{key_of}
+use Rattle.access_tokens.specs.Signed.{front_of, IsChecked}
+use Rattle.access_tokens.specs.TokenText.{IsMac, mac_of, period}
+use Rattle.access_tokens.specs.declared.checking.TokenFault.{TokenFault}
+use Rattle.access_tokens.specs.declared.checking.TokenFault.TheVariants.{BadForm, BadMac, NoKey}
 use Rattle.access_tokens.specs.declared.keys.Keys.{Keys}
-use Rattle.access_tokens.specs.declared.reading.TokenFault.{TokenFault}
-use Rattle.access_tokens.specs.declared.reading.TokenFault.TheVariants.{BadForm, BadMac, NoKey}
-use Rattle.access_tokens.specs.TokenText.{HasReading, IsForged, IsSigned, IsUnkeyed, ReadsAs, mac_of, number_of, signed_text}
-use Rattle.access_tokens.proofs.Readings.{one_reading}
-
-pub record IsAnswer (keys : Keys) (text : List ℕ) (result : Result Token TokenFault) : Type 0 where
-  pub exact : (token : Token) → (result ≡ Ok token) ↔ IsSigned keys text token
-  pub bad_form : (result ≡ Err BadForm) ↔ (¬ HasReading text)
-  pub no_key : (result ≡ Err NoKey) ↔ IsUnkeyed keys text
-  pub bad_mac : (result ≡ Err BadMac) ↔ IsForged keys text
-
-pub IsAnswer-unread : (keys : Keys) (text : List ℕ) → ¬ HasReading text → IsAnswer keys text (Err BadForm)
-IsAnswer-unread keys text unread = record {
-  exact = λ token. (λ e. cc e, λ signed. absurd (unread (signed.0, token, mac_of signed.1 (signed_text signed.0 token), signed.3)));
-  bad_form = (λ _. unread, λ _. refl);
-  no_key = (λ e. cc e, λ h. absurd (unread (h.0, h.1, h.2, h.3)));
-  bad_mac = (λ e. cc e, λ h. absurd (unread (h.0, h.1, h.2, h.4)));
-}
 
 some_none : (key : List ℕ) (o : Option (List ℕ)) → o ≡ Some key → o ≢ None
 some_none key o some none = cc (sym some ∙ none)
@@ -30,92 +16,133 @@ some_none key o some none = cc (sym some ∙ none)
 some_key : (first second : List ℕ) → Some first ≡ Some second → first ≡ second
 some_key first second e = cc e
 
--- the key of a number that two readings share
-number_key : (keys : Keys) (written also_written : Option ℕ) → written ≡ also_written
-    → key_of keys (number_of written) ≡ key_of keys (number_of also_written)
-number_key keys written also_written same = ap (λ w. key_of keys (number_of w)) same
-
-pub IsAnswer-unkeyed : (keys : Keys) (text : List ℕ) (written : Option ℕ) (token : Token) (mac : List ℕ)
-    → ReadsAs text written token mac → key_of keys (number_of written) ≡ None → IsAnswer keys text (Err NoKey)
-IsAnswer-unkeyed keys text written token mac reading none = record {
-  exact = λ other. (
-    λ e. cc e,
-    λ h.
-        let same = one_reading text h.0 written other token _ mac h.3 reading in
-        absurd (some_none h.1 _ h.2 (number_key keys h.0 written same.0 ∙ none)),
-  );
-  bad_form = (λ e. cc e, λ unread. absurd (unread (written, token, mac, reading)));
-  no_key = (λ _. (written, token, mac, reading, none), λ _. refl);
-  bad_mac = (
-    λ e. cc e,
-    λ h.
-        let same = one_reading text h.0 written h.1 token h.2 mac h.4 reading in
-        absurd (some_none h.3 _ h.5 (number_key keys h.0 written same.0 ∙ none)),
-  );
-}
-
-code : List ℕ → Option ℕ → Token → List ℕ
-code key written token = mac_of key (signed_text written token)
-
-same_code : (key other : List ℕ) (written also_written : Option ℕ) (token another : Token) → key ≡ other → written ≡ also_written
-    → token ≡ another → code key written token ≡ code other also_written another
-same_code key other written also_written token another h i j = cc
-
--- two readings under a key have the same key and code
-same_right : (keys : Keys) (text : List ℕ) (written also_written : Option ℕ) (token other : Token) (mac also_mac key also_key : List ℕ)
-    → ReadsAs text written token mac → ReadsAs text also_written other also_mac
-    → key_of keys (number_of written) ≡ Some key → key_of keys (number_of also_written) ≡ Some also_key
-    → code key written token ≡ code also_key also_written other
-same_right keys text written also_written token other mac also_mac key also_key reading also_reading is_key is_also =
-    let same = one_reading text written also_written token other mac also_mac reading also_reading in
-    same_code key also_key written also_written token other
-    (some_key key also_key (sym is_key ∙ number_key keys written also_written same.0 ∙ is_also)) same.0 same.1
-
-pub IsAnswer-signed : (keys : Keys) (text : List ℕ) (written : Option ℕ) (token : Token) (key : List ℕ)
-    → key_of keys (number_of written) ≡ Some key → ReadsAs text written token (mac_of key (signed_text written token))
-    → IsAnswer keys text (Ok token)
-unfolding code
-IsAnswer-signed keys text written token key is_key reading = record {
-  exact = λ other. (
-    λ e. let same : token ≡ other = cc e in subst (λ t. IsSigned keys text t) same (written, key, is_key, reading),
-    λ h. ap Ok (one_reading text written h.0 token other _ _ reading h.3).1,
-  );
-  bad_form = (λ e. cc e, λ unread. absurd (unread (written, token, mac_of key (signed_text written token), reading)));
-  no_key = (
-    λ e. cc e,
-    λ h.
-        let same = one_reading text written h.0 token h.1 _ h.2 reading h.3 in
-        absurd (some_none key _ is_key (number_key keys written h.0 same.0 ∙ h.4)),
-  );
-  bad_mac = (
-    λ e. cc e,
-    λ h.
-        let same = one_reading text written h.0 token h.1 _ h.2 reading h.4 in
-        absurd (h.6 (sym same.2 ∙ same_right keys text written h.0 token h.1 _ h.2 key h.3 reading h.4 is_key h.5)),
-  );
-}
-
-pub IsAnswer-forged : (keys : Keys) (text : List ℕ) (written : Option ℕ) (token : Token) (mac key : List ℕ)
-    → key_of keys (number_of written) ≡ Some key → ReadsAs text written token mac → mac ≢ mac_of key (signed_text written token)
-    → IsAnswer keys text (Err BadMac)
-unfolding code
-IsAnswer-forged keys text written token mac key is_key reading differs = record {
-  exact = λ other. (
-    λ e. cc e,
-    λ h.
-        let same = one_reading text written h.0 token other mac _ reading h.3 in
-        absurd (differs (same.2 ∙ sym (same_right keys text written h.0 token other mac _ key h.1 reading h.3 is_key h.2))),
-  );
-  bad_form = (λ e. cc e, λ unread. absurd (unread (written, token, mac, reading)));
-  no_key = (
-    λ e. cc e,
-    λ h.
-        let same = one_reading text written h.0 token h.1 mac h.2 reading h.3 in
-        absurd (some_none key _ is_key (number_key keys written h.0 same.0 ∙ h.4)),
-  );
-  bad_mac = (λ _. (written, token, mac, key, reading, is_key, differs), λ _. refl);
-}
+-- what stands before a code and its period
+pub front_is : (text front mac : List ℕ) → IsMac mac → text ≡ front ++ period ∷ mac → (65 ≤ length text) × (front_of text ≡ front)
+front_is text front mac digits is =
+    let len = ap length is ∙ length-append front (period ∷ mac) in
+    let sized = digits.sized in
+    let before : length text - 65 ≡ length front = omega (arith, len, sized) in (
+      omega (arith, len, sized),
+      ap (λ n. take n text) before ∙ ap (take (length front)) is ∙ take-append_seam front (period ∷ mac),
+    )
 
 -- the current key is in force
 pub own_key : (keys : Keys) → key_of keys keys.current.number ≡ Some keys.current.key
 own_key keys = rw (eq-eqb keys.current.number keys.current.number refl) refl
+
+-- A text of a form: it reads as what tells the number of a key, as a token and as the digits of a code, in one way at most, and
+-- what is signed is made of the first two.
+module _ (N T : Type 0) (keys : Keys) (text : List ℕ) (number : N → ℕ) (signed : N → T → List ℕ) (Reads : N → T → List ℕ → Type 0)
+    (one : (n m : N) (t u : T) (a b : List ℕ) → Reads n t a → Reads m u b → (n ≡ m) × (t ≡ u) × (a ≡ b)) where
+  pub record IsAnswer (result : Result T TokenFault) : Type 0 where
+    pub exact : (t : T) → (result ≡ Ok t) ↔ ((n : N) × (key : List ℕ) × (key_of keys (number n) ≡ Some key) × Reads n t (mac_of key (signed n t)))
+    pub bad_form : (result ≡ Err BadForm) ↔ (¬ ((n : N) × (t : T) × (mac : List ℕ) × Reads n t mac))
+    pub no_key : (result ≡ Err NoKey) ↔ ((n : N) × (t : T) × (mac : List ℕ) × Reads n t mac × (key_of keys (number n) ≡ None))
+    pub bad_mac : (result ≡ Err BadMac)
+        ↔ ((n : N) × (t : T) × (mac : List ℕ) × (key : List ℕ) × Reads n t mac × (key_of keys (number n) ≡ Some key) × (mac ≢ mac_of key (signed n t)))
+
+  pub IsAnswer-unread : ¬ ((n : N) × (t : T) × (mac : List ℕ) × Reads n t mac) → IsAnswer (Err BadForm)
+  IsAnswer-unread unread = record {
+    exact = λ t. (λ e. cc e, λ h. absurd (unread (h.0, t, mac_of h.1 (signed h.0 t), h.3)));
+    bad_form = (λ _. unread, λ _. refl);
+    no_key = (λ e. cc e, λ h. absurd (unread (h.0, h.1, h.2, h.3)));
+    bad_mac = (λ e. cc e, λ h. absurd (unread (h.0, h.1, h.2, h.4)));
+  }
+
+  -- the key of two readings
+  one_key : (n m : N) → n ≡ m → key_of keys (number n) ≡ key_of keys (number m)
+  one_key n m same = ap (λ k. key_of keys (number k)) same
+
+  unkeyed : (n : N) (t : T) (mac : List ℕ) → Reads n t mac → key_of keys (number n) ≡ None → IsAnswer (Err NoKey)
+  unkeyed n t mac reading none = record {
+    exact = λ u. (
+      λ e. cc e,
+      λ h. let same = one h.0 n u t _ mac h.3 reading in absurd (some_none h.1 _ h.2 (one_key h.0 n same.0 ∙ none)),
+    );
+    bad_form = (λ e. cc e, λ unread. absurd (unread (n, t, mac, reading)));
+    no_key = (λ _. (n, t, mac, reading, none), λ _. refl);
+    bad_mac = (
+      λ e. cc e,
+      λ h. let same = one h.0 n h.1 t h.2 mac h.4 reading in absurd (some_none h.3 _ h.5 (one_key h.0 n same.0 ∙ none)),
+    );
+  }
+
+  code : List ℕ → N → T → List ℕ
+  code key n t = mac_of key (signed n t)
+
+  same_code : (key other : List ℕ) (n m : N) (t u : T) → key ≡ other → n ≡ m → t ≡ u → code key n t ≡ code other m u
+  same_code key other n m t u h i j = cc
+
+  -- two readings have one key and one right code
+  same_right : (n m : N) (t u : T) (mac other key also_key : List ℕ) → Reads n t mac → Reads m u other
+      → key_of keys (number n) ≡ Some key → key_of keys (number m) ≡ Some also_key → code key n t ≡ code also_key m u
+  same_right n m t u mac other key also_key reading again is_key is_also =
+      let same = one n m t u mac other reading again in
+      same_code key also_key n m t u (some_key key also_key (sym is_key ∙ one_key n m same.0 ∙ is_also)) same.0 same.1
+
+  right : (n : N) (t : T) (key : List ℕ) → key_of keys (number n) ≡ Some key → Reads n t (mac_of key (signed n t)) → IsAnswer (Ok t)
+  unfolding code
+  right n t key is_key reading = record {
+    exact = λ u. (
+      λ e.
+          let same : t ≡ u = cc e in
+          let Signs : T → Type 0 =
+          λ v. (m : N) × (other : List ℕ) × (key_of keys (number m) ≡ Some other) × Reads m v (mac_of other (signed m v)) in
+          subst Signs same (n, key, is_key, reading),
+      λ h. ap Ok (one n h.0 t u _ _ reading h.3).1,
+    );
+    bad_form = (λ e. cc e, λ unread. absurd (unread (n, t, mac_of key (signed n t), reading)));
+    no_key = (
+      λ e. cc e,
+      λ h. let same = one n h.0 t h.1 _ h.2 reading h.3 in absurd (some_none key _ is_key (one_key n h.0 same.0 ∙ h.4)),
+    );
+    bad_mac = (
+      λ e. cc e,
+      λ h.
+          let same = one n h.0 t h.1 _ h.2 reading h.4 in
+          absurd (h.6 (sym same.2 ∙ same_right n h.0 t h.1 _ h.2 key h.3 reading h.4 is_key h.5)),
+    );
+  }
+
+  forged : (n : N) (t : T) (mac key : List ℕ) → key_of keys (number n) ≡ Some key → Reads n t mac → mac ≢ mac_of key (signed n t)
+      → IsAnswer (Err BadMac)
+  unfolding code
+  forged n t mac key is_key reading differs = record {
+    exact = λ u. (
+      λ e. cc e,
+      λ h.
+          let same = one n h.0 t u mac _ reading h.3 in
+          absurd (differs (same.2 ∙ sym (same_right n h.0 t u mac _ key h.1 reading h.3 is_key h.2))),
+    );
+    bad_form = (λ e. cc e, λ unread. absurd (unread (n, t, mac, reading)));
+    no_key = (
+      λ e. cc e,
+      λ h. let same = one n h.0 t h.1 mac h.2 reading h.3 in absurd (some_none key _ is_key (one_key n h.0 same.0 ∙ h.4)),
+    );
+    bad_mac = (λ _. (n, t, mac, key, reading, is_key, differs), λ _. refl);
+  }
+
+  told : T → Result (Unit {0}) TokenFault → Result T TokenFault
+  told t (Ok done) = Ok t
+  told t (Err fault) = Err fault
+
+  -- a reading whose code was checked
+  checked : (n : N) (t : T) (mac : List ℕ) (r : Result (Unit {0}) TokenFault) → Reads n t mac → front_of text ≡ signed n t
+      → IsChecked keys (number n) text mac r → IsAnswer (told t r)
+  unfolding told
+  checked n t mac (Ok done) reading front (key, is_key, same) =
+      right n t key is_key (subst (Reads n t) (same ∙ ap (mac_of key) front) reading)
+  checked n t mac (Err NoKey) reading front none = unkeyed n t mac reading none
+  checked n t mac (Err BadMac) reading front (key, is_key, wrong) =
+      forged n t mac key is_key reading (λ e. wrong (e ∙ ap (mac_of key) (sym front)))
+  checked n t mac (Err BadForm) reading front never = absurd never
+
+  pub IsAnswer-right : (n : N) (t : T) (mac : List ℕ) → Reads n t mac → front_of text ≡ signed n t
+      → IsChecked keys (number n) text mac (Ok (record {})) → IsAnswer (Ok t)
+  unfolding told
+  IsAnswer-right n t mac reading front found = checked n t mac (Ok (record {})) reading front found
+
+  pub IsAnswer-wrong : (n : N) (t : T) (mac : List ℕ) (fault : TokenFault) → Reads n t mac → front_of text ≡ signed n t
+      → IsChecked keys (number n) text mac (Err fault) → IsAnswer (Err fault)
+  unfolding told
+  IsAnswer-wrong n t mac fault reading front found = checked n t mac (Err fault) reading front found

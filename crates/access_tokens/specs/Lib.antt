@@ -1,7 +1,10 @@
+pub mod Addresses
+pub mod Claims
 pub mod Fields
 pub mod Hmac
 pub mod Key
 pub mod Keys
 pub mod Marks
 pub mod Remembering
+pub mod Signed
 pub mod TokenText

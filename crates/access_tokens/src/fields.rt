@@ -1,6 +1,6 @@
 //! The fields of a text, which periods part.
 ghost use Rattle.std.specs.Prelude.{◌≡◌, ◌≢◌, ◌↔◌, ◌++◌, ℕ, List, [], ◌∷◌, Option, Some, IfSome, IfNone, codes, length};
-ghost use Rattle.access_tokens.specs.Fields.{head_fields, list_of, parts_of};
+ghost use Rattle.access_tokens.specs.Fields.{head_fields, list_of, parts_of, tail_list};
 ghost use Rattle.access_tokens.specs.Keys.{IsKeyNumber};
 
 use crate::marks::split_at;
@@ -14,16 +14,22 @@ pub(crate) struct Head<'a> {
     pub(crate) rest: &'a [u8],
 }
 
+/// The fields that end the text of every token, whatever stands in them.
+#[derive(Clone, Copy)]
+pub struct Tail<'a> {
+    pub rights: &'a [u8],
+    pub serial: &'a [u8],
+    pub issued: &'a [u8],
+    pub expires: &'a [u8],
+    pub mac: &'a [u8],
+}
+
 /// The seven fields that tell a token and its code, whatever stands in them.
 #[derive(Clone, Copy)]
 pub(crate) struct Fields<'a> {
     pub(crate) user: &'a [u8],
     pub(crate) id: &'a [u8],
-    pub(crate) rights: &'a [u8],
-    pub(crate) serial: &'a [u8],
-    pub(crate) issued: &'a [u8],
-    pub(crate) expires: &'a [u8],
-    pub(crate) mac: &'a [u8],
+    pub(crate) tail: Tail<'a>,
 }
 
 /// Takes the version off a text, and the number of its key where the version writes one.
@@ -74,15 +80,22 @@ pub(crate) fn split(text: &[u8]) -> Option<Fields<'_>>
 {
     let (user, rest) = split_field(text)?;
     let (id, rest) = split_field(rest)?;
-    let (rights, rest) = split_field(rest)?;
+    let tail = tail_of(rest)?;
+    Some(Fields { user, id, tail })
+}
+
+/// Parts a text at its periods, where it has four of them.
+pub fn tail_of(text: &[u8]) -> Option<Tail<'_>>
+    ensures some { IfSome result (λ tail. parts_of text.now ≡ tail_list tail) }
+    ensures none { IfNone result (length (parts_of text.now) ≢ 5) }
+{
+    let (rights, rest) = split_field(text)?;
     let (serial, rest) = split_field(rest)?;
     let (issued, rest) = split_field(rest)?;
     let (expires, mac) = split_field(rest)?;
     match split_field(mac) {
         Some(_) => None,
-        None => Some(Fields {
-            user,
-            id,
+        None => Some(Tail {
             rights,
             serial,
             issued,
@@ -93,7 +106,7 @@ pub(crate) fn split(text: &[u8]) -> Option<Fields<'_>>
 }
 
 /// What stands before the first period, and what behind it.
-fn split_field(text: &[u8]) -> Option<(&[u8], &[u8])>
+pub fn split_field(text: &[u8]) -> Option<(&[u8], &[u8])>
     ensures some { IfSome result (λ parts. parts_of text.now ≡ parts.0.now ∷ parts_of parts.1.now) }
     ensures none { IfNone result (parts_of text.now ≡ text.now ∷ []) }
 {

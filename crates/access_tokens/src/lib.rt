@@ -16,8 +16,16 @@
 //! (the functions of [`laws`]). [`RecentTokens`] spares a text its code that was read before.
 //! [`may_write`] and [`moment_read`] read single fields. [`mint`] takes memory, and
 //! [`RecentTokens::read`] does where there is some: without it a text is read and not remembered.
+//!
+//! [`push_address`] appends the address of a file, which carries a token for it, and [`mint_into`] a token alone.
+//! Other signed texts with the same fields at their end are made and read of the pieces that stand here:
+//! [`split_field`], [`tail_of`], [`claims_of`] and [`check_code`] read them, [`push_field`], [`push_number`],
+//! [`push_claims`] and [`push_code`] write them.
 #![tactic(auto)]
 
+mod address;
+mod checking;
+mod claims;
 mod fields;
 mod form;
 mod key;
@@ -29,17 +37,23 @@ mod mac;
 mod marks;
 mod minting;
 mod numbers;
+mod pushing;
 mod reading;
 mod remembering;
 
+pub use address::push_address;
+pub use checking::{TokenFault, check_code};
+pub use claims::{Claims, claims_of, push_claims};
+pub use fields::{Tail, split_field, tail_of};
 pub use form::may_write;
 pub use key::Key;
 pub use keys::{KeyEntry, Keys};
 pub use life::live;
 pub use mac::hmac;
-pub use minting::mint;
-pub use numbers::moment_read;
-pub use reading::{TokenFault, read};
+pub use minting::{mint, mint_into};
+pub use numbers::{key_number_read, moment_read};
+pub use pushing::{push_code, push_field, push_number};
+pub use reading::read;
 pub use remembering::RecentTokens;
 pub use wopi_model::{Token, User};
 

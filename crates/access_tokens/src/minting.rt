@@ -1,14 +1,13 @@
 //! How tokens are written.
-ghost use Rattle.std.specs.Prelude.{◌≡◌, ◌∷◌, ◌++◌, Some, IfOk, OnOk, decimal};
-ghost use Rattle.access_tokens.specs.TokenText.{period, rights_of, signed_text, token_text};
+ghost use Rattle.std.specs.Prelude.{◌≡◌, ◌++◌, Some, IfOk, OnOk};
+ghost use Rattle.access_tokens.specs.TokenText.{signed_text, token_text};
 
 use crate::Keys;
-use crate::form::rights_of;
-use crate::mac::mac_of;
-use itoa::Buffer;
+use crate::claims::{Claims, push_claims};
+use crate::pushing::{push_code, push_field, push_id, push_number};
 use std::alloc::Global;
 use wopi_model::Token;
-use wopi_text::{Bytes, Memory, id_text};
+use wopi_text::{Bytes, Memory};
 
 /// The most bytes of the text of a token whose moments are moments.
 const MOST: usize = 448;
@@ -17,43 +16,39 @@ const MOST: usize = 448;
 pub fn mint(alloc: Global, keys: &Keys, token: &Token) -> Result<Bytes, Memory>
     ensures { IfOk result (λ text. text ≡ token_text keys.now token.now) }
 {
-    let mut text = signed_text(alloc, keys.current.number, token)?;
-    let mac = mac_of(&keys.current.key, &text);
-    push_field(&mut text, &mac)?;
+    let mut text = Vec::with_capacity(alloc, MOST)?;
+    mint_into(&mut text, keys, token)?;
     Ok(Bytes::from_vec(text))
 }
 
-/// What is signed of the token with the key of that number, with room for the code.
+/// Appends the text of the token under the current key, in version 2, as [`mint`] writes it. Where there is no memory
+/// for it, a part of it may stand there.
+pub fn mint_into(text: &mut Vec<u8>, keys: &Keys, token: &Token) -> Result<(), Memory>
+    ensures { OnOk result (text.new.items ≡ text.old.items ++ token_text keys.now token.now) }
+{
+    let start = text.len();
+    push_signed(text, keys.current.number, token)?;
+    push_code(text, start, &keys.current.key)
+}
+
+/// Appends what is signed of the token with the key of that number.
 #[tactic(auto, unfolding(crate::specs::TokenText::signed_text))]
-fn signed_text(alloc: Global, key_number: u8, token: &Token) -> Result<Vec<u8>, Memory>
-    ensures { IfOk result (λ text. text.items ≡ signed_text (Some key_number) token.now) }
+fn push_signed(text: &mut Vec<u8>, key_number: u8, token: &Token) -> Result<(), Memory>
+    ensures { OnOk result (text.new.items ≡ text.old.items ++ signed_text (Some key_number) token.now) }
 {
-    let id = id_text(alloc, &token.file)?;
-    let mut text = Vec::with_capacity(alloc, MOST)?;
     text.extend_from_slice(b"v2")?;
-    push_number(&mut text, key_number as u64)?;
-    push_field(&mut text, token.user.as_slice())?;
-    push_field(&mut text, id.as_slice())?;
-    push_field(&mut text, rights_of(token.write))?;
-    push_number(&mut text, token.serial)?;
-    push_number(&mut text, token.issued)?;
-    push_number(&mut text, token.expires)?;
-    Ok(text)
-}
-
-/// Appends a period and a field.
-fn push_field(text: &mut Vec<u8>, field: &[u8]) -> Result<(), Memory>
-    ensures { OnOk result (text.new.items ≡ text.old.items ++ period ∷ field.now) }
-{
+    push_number(text, key_number as u64)?;
+    push_field(text, token.user.as_slice())?;
     text.push(b'.')?;
-    text.extend_from_slice(field)?;
+    push_id(text, &token.file)?;
+    push_claims(
+        text,
+        Claims {
+            write: token.write,
+            serial: token.serial,
+            issued: token.issued,
+            expires: token.expires,
+        },
+    )?;
     Ok(())
-}
-
-/// Appends a period and a number in decimal.
-fn push_number(text: &mut Vec<u8>, number: u64) -> Result<(), Memory>
-    ensures { OnOk result (text.new.items ≡ text.old.items ++ period ∷ decimal number) }
-{
-    let mut buffer = Buffer::new();
-    push_field(text, buffer.format(number).as_bytes())
 }

@@ -15,8 +15,8 @@ pub(crate) fn number_read(digits: &[u8]) -> Option<u64>
     decimal_read(digits)
 }
 
-/// The number of a key with these digits, if they are a canonical decimal of 0 to 255.
-pub(crate) fn key_number_read(digits: &[u8]) -> Option<u8>
+/// The number of a key with these digits, if they are a canonical decimal of 0 to 255. It takes no memory.
+pub fn key_number_read(digits: &[u8]) -> Option<u8>
     ensures { (number : ℕ) → (result ≡ Some number) ↔ (IsKeyNumber number × (digits.now ≡ decimal number)) }
 {
     let number = number_read(digits)?;

@@ -5,28 +5,12 @@ ghost use Rattle.access_tokens.specs.Fields.{list_of, token_fields};
 ghost use Rattle.access_tokens.specs.Keys.{key_of};
 ghost use Rattle.access_tokens.specs.TokenText.{HasReading, IsForged, IsMac, IsSigned, IsUnkeyed, IsWritable, ReadsAs, mac_of};
 
+use crate::checking::{TokenFault, check_code};
+use crate::claims::claims_of;
 use crate::fields::{Fields, split, take_head};
-use crate::form::{MAC, is_mac, may_write};
-use crate::mac::mac_of;
-use crate::numbers::{moment_read, number_read};
-use crate::{Key, Keys};
-use thiserror::Error;
+use crate::keys::Keys;
 use wopi_model::{Token, User};
-use wopi_text::{are_equal, id_read};
-
-/// Why a text is no token.
-#[derive(Clone, Copy, Debug, PartialEq, Eq, Error)]
-pub enum TokenFault {
-    /// It isn't written as a token is.
-    #[error("the text is no token")]
-    BadForm,
-    /// It is, but the key whose number it has isn't in force.
-    #[error("the key of the token is not in force")]
-    NoKey,
-    /// The key is in force, but the code is that of another text or under another key.
-    #[error("the code of the token is wrong")]
-    BadMac,
-}
+use wopi_text::id_read;
 
 /// What a text reads as, whether its code is right or not.
 #[derive(Drop)]
@@ -47,27 +31,9 @@ pub fn read(keys: &Keys, text: &[u8]) -> Result<Token, TokenFault>
     let Some(reading) = reading_of(text) else {
         return Err(TokenFault::BadForm);
     };
-    let Some(key) = key_of(keys, reading.written.unwrap_or(0)) else {
-        return Err(TokenFault::NoKey);
-    };
-    if is_right(key, text, reading.mac) {
-        Ok(reading.token)
-    } else {
-        Err(TokenFault::BadMac)
-    }
-}
-
-/// The key of that number, where one is in force.
-fn key_of(keys: &Keys, number: u8) -> Option<&Key>
-    ensures some { IfSome result (λ key. key_of keys.now number ≡ Some key.now) }
-    ensures none { IfNone result (key_of keys.now number ≡ None) }
-{
-    if keys.current.number == number {
-        return Some(&keys.current.key);
-    }
-    match &keys.former {
-        Some(former) if former.number == number => Some(&former.key),
-        _ => None,
+    match check_code(keys, reading.written.unwrap_or(0), text, reading.mac) {
+        Ok(()) => Ok(reading.token),
+        Err(fault) => Err(fault),
     }
 }
 
@@ -82,41 +48,26 @@ fn reading_of(text: &[u8]) -> Option<Reading<'_>>
     Some(Reading {
         written: head.written,
         token,
-        mac: fields.mac,
+        mac: fields.tail.mac,
     })
 }
 
 /// The token that the fields tell, if each has its form.
 fn token_of(fields: &Fields) -> Option<Token>
-    ensures some { IfSome result (λ token. IsWritable token × IsMac fields.now.mac.now × (list_of fields.now ≡ token_fields token fields.now.mac.now)) }
-    ensures none { IfNone result ((token : Token) → IsWritable token → IsMac fields.now.mac.now → list_of fields.now ≢ token_fields token fields.now.mac.now) }
+    ensures some { IfSome result (λ token. IsWritable token × IsMac fields.now.tail.mac.now × (list_of fields.now ≡ token_fields token fields.now.tail.mac.now)) }
+    ensures none { IfNone result ((token : Token) → IsWritable token → IsMac fields.now.tail.mac.now → list_of fields.now ≢ token_fields token fields.now.tail.mac.now) }
 {
-    if !is_mac(fields.mac) {
-        return None;
-    }
     let user = User::read(fields.user)?;
     let Ok(file) = id_read(fields.id) else {
         return None;
     };
-    let write = may_write(fields.rights)?;
-    let serial = number_read(fields.serial)?;
-    let issued = moment_read(fields.issued)?;
-    let expires = moment_read(fields.expires)?;
+    let claims = claims_of(&fields.tail)?;
     Some(Token {
         user,
         file,
-        write,
-        serial,
-        issued,
-        expires,
+        write: claims.write,
+        serial: claims.serial,
+        issued: claims.issued,
+        expires: claims.expires,
     })
-}
-
-/// Whether the code is that of what stands before it and its period.
-fn is_right(key: &Key, text: &[u8], mac: &[u8]) -> bool
-    requires { 65 ≤ length text.now }
-    ensures { IsTrue result ↔ (mac.now ≡ mac_of key.now (take (length text.now - 65) text.now)) }
-{
-    let signed = &text[..text.len() - MAC - 1];
-    are_equal(mac, &mac_of(key, signed))
 }

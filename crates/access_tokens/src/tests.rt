@@ -1,6 +1,8 @@
 ghost use Rattle.access_tokens.specs.Remembering.{Remembers};
 
-use crate::{Key, Keys, RecentTokens, Token, TokenFault, User, hmac, live, mint, read};
+use crate::{
+    Key, Keys, RecentTokens, Token, TokenFault, User, hmac, live, mint, push_address, read,
+};
 use std::alloc::Global;
 use std::test::Fail;
 use wopi_text::{Bytes, FileName};
@@ -81,6 +83,20 @@ fn a_token_is_written_to_the_letter(rt: HostRuntime) -> Result<(), Fail> {
     let keys = keys(b"255:6b,0:4a656665")?;
     let text = mint(rt.alloc(), &keys, &token(true)?)?;
     assert_eq!(rt; text.as_slice(), LAST_TEXT.as_bytes());
+    Ok(())
+}
+
+#[test]
+fn an_address_stands_behind_what_was_there_and_has_a_token_for_its_file(
+    rt: HostRuntime,
+) -> Result<(), Fail> {
+    let mut text = Vec::new(rt.alloc());
+    text.extend_from_slice(b"v2.7.")?;
+    push_address(&mut text, b"http://h", &keys(WORD)?, &token(true)?)?;
+    let front = b"v2.7.http://h/wopi/files/612e637376?access_token=".as_slice();
+    assert!(rt; text.starts_with(front));
+    assert_eq!(rt; text.len(), front.len() + TEXT.len());
+    assert!(rt; text.ends_with(TEXT.as_bytes()));
     Ok(())
 }
 
