@@ -28,7 +28,7 @@ use Rattle.journal_text.proofs.Fronts.{Row, missing_in}
 use Rattle.journal_text.proofs.Outcomes.{all_begin}
 use Rattle.journal_text.proofs.Plain.{Lacks-join, feed, file-lacks, first-lacks, last-lacks, line-lacks, space}
 use Rattle.journal_text.proofs.Rows.{row_said}
-use Rattle.journal_text.proofs.Splits.{EachLacks, Lacks, join-parts}
+use Rattle.line_text.proofs.Splits.{EachLacks, Lacks, join-parts}
 
 abbrev File : Type 0
 File = List ℕ × List ℕ

@@ -16,7 +16,7 @@ use Rattle.journal_text.specs.SoFar.{Begins, Goes, one_more}
 use Rattle.journal_text.proofs.RowKinds.{file_no_line, last_no_file, last_no_line}
 use Rattle.journal_text.proofs.Plain.{feed, file-lacks, first-lacks, last-lacks, line-lacks, space}
 use Rattle.journal_text.proofs.Rows.{no_line, row_said}
-use Rattle.journal_text.proofs.Splits.{EachLacks}
+use Rattle.line_text.proofs.Splits.{EachLacks}
 
 -- what is left, cut behind its first line
 pub record Row (rest row behind : List ℕ) : Type 0 where

@@ -1,49 +1,36 @@
 -- What words in hex say.
-use Rattle.std.proofs.Common.{◌≡◌, ◌≢◌, ◌==◌, ℕ, Bool, true, ◌<◌, List, [], ◌∷◌, length, Ok, Option, None, Some, refl, sym, ap, ◌∙◌, arith}
+use Rattle.std.proofs.Common.{◌≡◌, ◌≢◌, ℕ, List, [], ◌∷◌, length, Option, None, Some, refl, sym, ◌∙◌}
 use Rattle.std.specs.Prelude.{codes}
-use Rattle.std.proofs.lemmas.Bool.{eqb-true}
-use Rattle.hex.specs.Hex.{IsBytes, decode_of, encode_lower, lower_digits}
-use Rattle.hex.proofs.HexLemmas.{decode_of-encode_lower, decode_of-ok, length-encode_with}
+use Rattle.hex.specs.Hex.{IsBytes}
 use Rattle.host_table.specs.Text.{hex_text, optional_hex}
-use Rattle.journal_text.specs.Lines.{AreSized}
+use Rattle.line_text.specs.Words as told
+use Rattle.line_text.proofs.HexWords.{same_many}
+use Rattle.journal_text.specs.Lines.{AreSized, IsFile}
+use Rattle.journal_text.specs.Words.{file_words, words_of}
 
--- what an encoded word says
-pub hex_back : (word contents : List ℕ) → 0 < length word → decode_of word ≡ Ok contents → encode_lower contents ≡ word
-    → IsBytes contents × (word ≡ hex_text contents)
-hex_back word [] some back same = absurd (omega (arith, ap length same, length-encode_with lower_digits []))
-hex_back word (byte ∷ bytes) some back same =
-    let read = decode_of-ok word (byte ∷ bytes) back in
-    (read.3, sym same)
+-- a journal's words in hex are those of a line
+pub as_hex : (bytes : List ℕ) → hex_text bytes ≡ told.hex_text bytes
+as_hex [] = refl
+as_hex (byte ∷ bytes) = refl
 
-pub record IsHex (word contents : List ℕ) : Type 0 where
-  pub some : 0 < length word
-  pub reads : decode_of word ≡ Ok contents
-  pub writes : encode_lower contents ≡ word
+-- a word that is no hex tells no contents
+pub no_contents : (word : List ℕ) (size : Option ℕ) (n : ℕ) (contents : Option (List ℕ)) → ((bytes : List ℕ) → IsBytes bytes → word ≢ told.hex_text bytes)
+    → size ≡ Some n → AreSized size contents → word ≡ optional_hex contents → ⊥
+no_contents word None n contents none is sized says = cc is
+no_contents word (Some size) n None none is sized says = sized
+no_contents word (Some size) n (Some bytes) none is sized says = none bytes sized.0 (says ∙ as_hex bytes)
 
--- a word but for the dash is read as just what it says
-pub hex_said : (word contents : List ℕ) → word ≢ codes "-" → IsBytes contents → word ≡ hex_text contents → IsHex word contents
-hex_said word [] dash form says = absurd (dash says)
-hex_said word (byte ∷ bytes) dash form says =
-    let len = ap length says ∙ length-encode_with lower_digits (byte ∷ bytes) in
-    record {
-      some = omega (arith, len);
-      reads = ap decode_of says ∙ decode_of-encode_lower (byte ∷ bytes) form;
-      writes = sym says;
-    }
-
-pub empty_not : (b : Bool) (word : List ℕ) → b ≡ (length word == 0) → b ≡ true → 0 < length word → ⊥
-empty_not b word h k some = let none = eqb-true (length word) 0 (sym h ∙ k) in omega (arith, none)
-
--- bytes with the same text are as many
-pub same_many : (bytes other : List ℕ) → hex_text bytes ≡ hex_text other → length bytes ≡ length other
-same_many [] [] e = refl
-same_many [] (b ∷ other) e = absurd (omega (arith, ap length e, length-encode_with lower_digits (b ∷ other)))
-same_many (a ∷ bytes) [] e = absurd (omega (arith, ap length e, length-encode_with lower_digits (a ∷ bytes)))
-same_many (a ∷ bytes) (b ∷ other) e =
-    omega (arith, ap length e, length-encode_with lower_digits (a ∷ bytes), length-encode_with lower_digits (b ∷ other))
+-- and is in no line of a file
+pub no_file : (row id digits : List ℕ) (file : List ℕ × List ℕ) → words_of row ≡ codes "file" ∷ id ∷ digits ∷ []
+    → ((bytes : List ℕ) → IsBytes bytes → digits ≢ told.hex_text bytes) → IsFile file → words_of row ≡ file_words file → ⊥
+no_file row id digits file are none form says =
+    let both = sym are ∙ says in
+    let same : digits ≡ hex_text file.1 = cc both in
+    none file.1 form.contents (same ∙ as_hex file.1)
 
 -- contents of another size aren't told
 pub other_size : (word found : List ℕ) (size : ℕ) (contents : Option (List ℕ)) → word ≡ hex_text found → (length found ≡ size → ⊥) → AreSized (Some size) contents
     → word ≡ optional_hex contents → ⊥
 other_size word found size None is apart sized e = sized
-other_size word found size (Some bytes) is apart sized e = apart (same_many found bytes (sym is ∙ e) ∙ sized.1)
+other_size word found size (Some bytes) is apart sized e =
+    apart (same_many found bytes (sym (as_hex found) ∙ sym is ∙ e ∙ as_hex bytes) ∙ sized.1)

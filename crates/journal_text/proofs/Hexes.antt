@@ -5,7 +5,7 @@ use Rattle.std.proofs.lemmas.List.Sums.{AllPass-from_list_all}
 use Rattle.hex.specs.Hex.{IsBytes, encode_lower, encode_with, lower_digits}
 use Rattle.wopi_model.specs.User.{is_user_byte}
 use Rattle.host_table.specs.Text.{hex_text}
-use Rattle.journal_text.proofs.Splits.{Lacks, Lacks-list_all}
+use Rattle.line_text.proofs.Splits.{Lacks, Lacks-list_all}
 
 -- each of the sixteen digits is a letter or a digit
 digit : (place : ℕ) → place < 16 → is_user_byte (get_or lower_digits place 0) ≡ true

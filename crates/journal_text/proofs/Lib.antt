@@ -1,5 +1,3 @@
-mod Splits
-mod Endings
 mod Locks
 mod Hexes
 mod TokenTexts

@@ -18,7 +18,7 @@ use Rattle.journal_text.proofs.Fronts.{same_form}
 use Rattle.journal_text.proofs.RowKinds.{file_no_line, last_no_file, last_no_line}
 use Rattle.journal_text.proofs.Plain.{Lacks-join, feed, file-lacks, first-lacks, last-lacks, line-lacks, space}
 use Rattle.journal_text.proofs.Rows.{row_said}
-use Rattle.journal_text.proofs.Splits.{EachLacks, Lacks, parts-join}
+use Rattle.line_text.proofs.Splits.{EachLacks, Lacks, parts-join}
 use Rattle.journal_text.proofs.Uniqueness.{same_act, same_contents, same_file, same_optional_lock, same_reason, same_token, same_version}
 
 -- ---- one entry

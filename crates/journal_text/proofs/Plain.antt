@@ -20,7 +20,7 @@ use Rattle.journal_text.specs.Words.{act_words, end_words, file_words, first_wor
 use Rattle.journal_text.proofs.EntryWords.{small}
 use Rattle.journal_text.proofs.Hexes.{Lacks-hex_text}
 use Rattle.journal_text.proofs.Locks.{IsBytes-lock}
-use Rattle.journal_text.proofs.Splits.{EachLacks, Lacks, Lacks-list_all}
+use Rattle.line_text.proofs.Splits.{EachLacks, Lacks, Lacks-list_all}
 use Rattle.journal_text.proofs.TokenTexts.{Lacks-decimal, Lacks-id, fields-lack, joined}
 
 -- a mark that no word has: no letter, digit, underscore, dash or period

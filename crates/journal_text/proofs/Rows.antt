@@ -7,19 +7,20 @@ use Rattle.std.proofs.Math.Seq.{drop-append_seam, get_or-append_right}
 use Rattle.journal_text.specs.Words.{IsRow, words_of}
 use Rattle.journal_text.specs.Journals.{row_text}
 use Rattle.journal_text.proofs.Plain.{Lacks-join}
-use Rattle.journal_text.proofs.Splits.{EachLacks, Lacks, join-parts, parts, parts-join}
+use Rattle.line_text.specs.Words.{parts_at}
+use Rattle.line_text.proofs.Splits.{EachLacks, Lacks, join-parts, parts-join}
 
 -- one first line
 pub record One (row rest line more : List ℕ) : Type 0 where
   pub same : row ≡ line
   pub rests : rest ≡ more
 
-first_line : (row rest : List ℕ) → IsRow row → parts 10 (row ++ 10 ∷ rest) ≡ row ∷ parts 10 rest
+first_line : (row rest : List ℕ) → IsRow row → parts_at 10 (row ++ 10 ∷ rest) ≡ row ∷ parts_at 10 rest
 first_line row rest h = slice_split_at (λ byte. byte == 10) row 10 rest h refl
 
 pub one_first : (row rest line more : List ℕ) → IsRow row → IsRow line → row ++ 10 ∷ rest ≡ line ++ 10 ∷ more → One row rest line more
 one_first row rest line more h k e =
-    let both = sym (first_line row rest h) ∙ ap (parts 10) e ∙ first_line line more k in
+    let both = sym (first_line row rest h) ∙ ap (parts_at 10) e ∙ first_line line more k in
     let same : row ≡ line = ap (λ l. get_or l 0 []) both in
     let tails : 10 ∷ rest ≡ 10 ∷ more =
     sym (drop-append_seam row (10 ∷ rest)) ∙ ap (λ (t : List ℕ). drop (length row) t) e ∙ ap (λ (r : List ℕ). drop (length r) (line ++ 10 ∷ more)) same

@@ -14,7 +14,7 @@ use Rattle.journal_text.specs.Words.{parts_of, token_parts}
 use Rattle.journal_text.specs.Lines.{IsToken}
 use Rattle.host_table.specs.Text.{token_fields, rights_text}
 use Rattle.journal_text.proofs.Hexes.{Lacks-hex}
-use Rattle.journal_text.proofs.Splits.{EachLacks, Lacks, Lacks-list_all, join-parts, parts-join}
+use Rattle.line_text.proofs.Splits.{EachLacks, Lacks, Lacks-list_all, join-parts, parts-join}
 
 -- a token's text is its fields, joined by periods
 pub joined : (token : Token) → token_fields token ≡ join_with_byte 46 (token_parts token)

@@ -19,7 +19,7 @@ use Rattle.host_core.specs.declared.entry.EntryAct.TheVariants as act
 use Rattle.host_table.specs.Text.{hex_text, optional_hex, optional_number, overwrite_text, reason_text, rights_text, token_fields, version_text}
 use Rattle.journal_text.specs.Lines.{AreSized, Fits, IsAct, IsFile, IsToken, MayBeLock, MayFit}
 use Rattle.journal_text.specs.Words.{act_words, file_words, parts_of, token_parts}
-use Rattle.journal_text.proofs.HexWords.{same_many}
+use Rattle.line_text.proofs.HexWords.{same_many}
 use Rattle.journal_text.proofs.Locks.{IsBytes-lock}
 use Rattle.journal_text.proofs.TokenTexts.{parts_of-token}
 

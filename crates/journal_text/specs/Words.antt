@@ -1,6 +1,7 @@
 -- The words of a journal's lines, which single spaces separate. (Own.)
-use Rattle.std.specs.Prelude.{◌≡◌, ◌==◌, All, false, ℕ, List, [], ◌∷◌, ◌++◌, codes, decimal}
-use Rattle.std.specs.List.{slice_split}
+use Rattle.std.specs.Prelude.{◌==◌, ℕ, List, [], ◌∷◌, ◌++◌, codes, decimal}
+pub use Rattle.line_text.specs.Words.{IsRow, words_of}
+use Rattle.line_text.specs.Words.{parts_at}
 use Rattle.wopi_text.specs.Ids.{id_of}
 use Rattle.host_core.specs.declared.entry.EntryAct.{EntryAct}
 use Rattle.host_core.specs.declared.entry.EntryAct.TheVariants as act
@@ -10,17 +11,9 @@ use Rattle.journal_text.specs.declared.text.Format.{Format}
 use Rattle.journal_text.specs.declared.text.Format.TheVariants.{First, Second}
 use Rattle.journal_text.specs.declared.text.Line.{Line}
 
--- a line without its line feed
-abbrev pub IsRow : List ℕ → Type 0
-IsRow bytes = All (λ byte. (byte == 10) ≡ false) bytes
-
--- the words of a line
-abbrev pub words_of : List ℕ → List (List ℕ)
-words_of row = slice_split (λ byte. byte == 32) row
-
 -- the parts of a token between its periods
 abbrev pub parts_of : List ℕ → List (List ℕ)
-parts_of text = slice_split (λ byte. byte == 46) text
+parts_of text = parts_at 46 text
 
 abbrev pub token_parts : Token → List (List ℕ)
 token_parts token =

@@ -5,11 +5,9 @@ ghost use Rattle.journal_text.specs.Lines.{IsAct};
 ghost use Rattle.journal_text.specs.Acts.{IsLocking, IsNamed};
 ghost use Rattle.journal_text.specs.Words.{act_words, words_of};
 
-use crate::splitting::split_word;
-use crate::values::{
-    is_word, lock_read, number_read, optional_lock_read, optional_number_read, overwrite_read,
-};
+use crate::values::{lock_read, optional_lock_read, optional_number_read, overwrite_read};
 use host_core::EntryAct;
+use line_text::{is_word, number_read, split_word};
 use wopi_text::LockId;
 
 /// The act at the front of a row, and what stands behind it. It takes no memory.

@@ -4,31 +4,9 @@ ghost use Rattle.hex.specs.Hex.{IsBytes, decode_of};
 ghost use Rattle.host_table.specs.Text.{hex_text, optional_hex};
 ghost use Rattle.journal_text.specs.Lines.{AreSized};
 
-use crate::values::is_word;
+use line_text::{hex_read, is_word};
 use std::alloc::Global;
-use wopi_text::{Bytes, Memory, hex_decoded};
-
-/// The bytes that a word writes in lower-case hex, `-` for none.
-pub(crate) fn hex_read(alloc: Global, word: &[u8]) -> Result<Option<Bytes>, Memory>
-    ensures some { IfOk result (λ read. IfSome read (λ contents. IsBytes contents × (word.now ≡ hex_text contents))) }
-    ensures none { IfOk result (λ read. IfNone read ((contents : List ℕ) → IsBytes contents → word.now ≢ hex_text contents)) }
-{
-    if is_word(word, b"-".as_slice()) {
-        return Ok(Some(Bytes::from_vec(Vec::new(alloc))));
-    }
-    if word.is_empty() {
-        return Ok(None);
-    }
-    let Some(contents) = hex_decoded(alloc, word)? else {
-        return Ok(None);
-    };
-    let text = hex::encode(alloc, contents.as_slice())?;
-    if is_word(text.as_bytes(), word) {
-        Ok(Some(Bytes::from_vec(contents)))
-    } else {
-        Ok(None)
-    }
-}
+use wopi_text::{Bytes, Memory};
 
 /// The contents that a word tells, where they are to be of that size: `-` alone where there are to be none.
 pub(crate) fn contents_read(

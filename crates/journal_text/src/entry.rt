@@ -16,14 +16,13 @@ ghost use Rattle.journal_text.specs.Words.{line_words, words_of};
 use crate::acts::act_read;
 use crate::contents::contents_read;
 use crate::ids::are_of_form;
-use crate::splitting::{has_more, split_word};
 use crate::text::{Format, Line};
 use crate::tokens::token_read;
 use crate::values::{
-    moment_read, number_read, optional_lock_read, pass_read, reason_read, shard_read, status_read,
-    version_read,
+    optional_lock_read, pass_read, reason_read, shard_read, status_read, version_read,
 };
 use host_core::EntryAct;
+use line_text::{has_more, moment_read, number_read, split_word};
 use std::alloc::Global;
 use wopi_model::Token;
 use wopi_text::{FileName, LockId, Memory, Reason, id_read};

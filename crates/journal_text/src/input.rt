@@ -1,76 +1,90 @@
 //! The bytes of an input that is a journal.
-ghost use Rattle.std.specs.Prelude.{◌≡◌, ◌⊎◌, ◌≤◌, ◌<◌, ◌+◌, ◌++◌, ℕ, List, Option, Err, IfOk, OnOk, length, vec_len};
-ghost use Rattle.std.specs.Io.KnownBytes.{Consumes, IsAtEnd};
+ghost use Rattle.std.specs.Prelude.{◌≡◌, ◌≢◌, ◌≤◌, ◌++◌, List, ℕ, Err, IfOk, OnOk, length};
 ghost use Rattle.outside.specs.Faults.{Rose};
-ghost use Rattle.journal_text.specs.Inputs.{IsLong, IsWhole};
+ghost use Rattle.line_text.specs.Inputs.{HasRead};
+ghost use Rattle.line_text.specs.declared.input.InputFault.TheVariants.{Read, Text};
+ghost use Rattle.journal_text.specs.Inputs.{IsLong, AreFew, IsWhole};
 ghost use Rattle.journal_text.specs.Journals.{most_bytes};
+ghost use Rattle.journal_text.specs.declared.input.SizeFault.TheVariants.{TooLong};
 
 use crate::journal::MOST_BYTES;
-use outside::{Failed, Source, piece_room, read_piece};
+use line_text::{InputFault, TakesText, read_text};
+use outside::{Source, piece_room};
 use std::alloc::Global;
 use wopi_text::Memory;
 
-/// Why an input can't be a journal.
+/// The most bytes that are read at once.
+const PIECE: usize = 65_536;
+
+/// Why the bytes of an input are not taken.
 #[derive(Clone, Copy, Debug, PartialEq, Eq)]
-pub enum InputFault {
+pub enum SizeFault {
     /// There are more bytes than a journal may have.
     TooLong,
-    /// The input could not be read.
-    Read,
     Memory,
 }
 
-/// All bytes of an input, where they are no more than those of a journal. Of a longer input one byte more is
-/// read than a journal may have, and no further one. How far it reads before a fault, no clause says. The
-/// bytes take at most two and a quarter times their number while they come.
-pub fn read_bytes<S: Source>(alloc: Global, source: &mut S) -> Result<Vec<u8>, InputFault>
-    ensures whole { IfOk result (λ bytes. IsWhole (S.left source.old) (S.left source.new) bytes.items) }
-    ensures long { result ≡ Err InputFault.TooLong → IsLong (S.left source.old) (S.left source.new) }
-    ensures beside { S.beside_reads source.new ≡ S.beside_reads source.old }
-    ensures never_falls { S.read_faults source.old ≤ S.read_faults source.new }
-    ensures failed { result ≡ Err InputFault.Read → Rose (S.read_faults source.old) (S.read_faults source.new) }
-{
-    let Ok(mut piece) = piece_room(alloc) else {
-        return Err(InputFault::Memory);
-    };
-    let mut bytes = Vec::new(alloc);
-    'pieces: while bytes.len() <= MOST_BYTES {
-        match take_piece(source, &mut piece, &mut bytes) {
-            Ok(0) => return Ok(bytes),
-            Ok(_) => {}
-            Err(fault) => return Err(fault),
-        }
-    }
-    Err(InputFault::TooLong)
+/// The bytes that have come so far.
+#[derive(Drop)]
+struct Gathered {
+    bytes: Vec<u8>,
 }
 
-/// Reads once, at most up to one byte more than a journal may have, and says how many came; 0 only at the end.
-fn take_piece<S: Source>(
+impl TakesText for Gathered {
+    ghost use Rattle.std.specs.Prelude.{◌≡◌, ◌≤◌, ◌+◌, ◌-◌, ℕ, List, length, min};
+    ghost use Rattle.journal_text.specs.Inputs.{AreFew, AreTooMany};
+    ghost use Rattle.journal_text.specs.Journals.{most_bytes};
+
+    type Fault = SizeFault;
+
+    ghost has_come = { λ gathered bytes. (gathered.bytes.items ≡ bytes) × AreFew bytes };
+
+    ghost refuses = { AreTooMany };
+
+    ghost portion = { λ gathered. min (most_bytes + 1 - length gathered.bytes.items) 65536 };
+
+    ghost room = { λ gathered. most_bytes - length gathered.bytes.items };
+
+    fn portion(&self) -> usize {
+        (MOST_BYTES + 1 - self.bytes.len()).min(PIECE)
+    }
+
+    fn take(&mut self, piece: &[u8]) -> Result<(), SizeFault> {
+        match add(&mut self.bytes, piece) {
+            Ok(()) => {}
+            Err(Memory) => return Err(SizeFault::Memory),
+        }
+        if self.bytes.len() > MOST_BYTES {
+            return Err(SizeFault::TooLong);
+        }
+        Ok(())
+    }
+}
+
+/// All bytes of an input, where they are no more than those of a journal. Of a longer input one byte more is
+/// read than a journal may have, and no further one. The bytes take at most two and a quarter times their
+/// number while they come.
+pub fn read_bytes<S: Source>(
+    alloc: Global,
     source: &mut S,
-    piece: &mut Vec<u8>,
-    bytes: &mut Vec<u8>,
-) -> Result<usize, InputFault>
-    requires short { length bytes.old.items ≤ most_bytes }
-    requires room { 0 < vec_len piece.old }
-    requires most { vec_len piece.old ≤ 65536 }
-    ensures on { IfOk result (λ count. (left : Option (List ℕ)) → Consumes left (S.left source.old) bytes.old.items → Consumes left (S.left source.new) bytes.new.items) }
-    ensures count { IfOk result (λ count. length bytes.new.items ≡ length bytes.old.items + count) }
-    ensures most { OnOk result (length bytes.new.items ≤ most_bytes + 1) }
-    ensures end { IfOk result (λ count. count ≡ 0 → IsAtEnd (S.left source.new)) }
-    ensures fault { (fault : InputFault) → result ≡ Err fault → (fault ≡ InputFault.Read) ⊎ (fault ≡ InputFault.Memory) }
-    ensures room { 0 < vec_len piece.new }
-    ensures still { vec_len piece.new ≤ 65536 }
+) -> Result<Vec<u8>, InputFault<SizeFault>>
+    ensures whole { IfOk result (λ bytes. IsWhole (S.left source.old) (S.left source.new) bytes.items) }
+    ensures long { result ≡ Err (Text TooLong) → IsLong (S.left source.old) (S.left source.new) }
+    ensures prompt { result ≡ Err Read → HasRead (S.left source.old) (S.left source.new) AreFew }
     ensures beside { S.beside_reads source.new ≡ S.beside_reads source.old }
     ensures never_falls { S.read_faults source.old ≤ S.read_faults source.new }
-    ensures failed { result ≡ Err InputFault.Read → Rose (S.read_faults source.old) (S.read_faults source.new) }
+    ensures fine { result ≢ Err Read → S.read_faults source.new ≡ S.read_faults source.old }
+    ensures failed { result ≡ Err Read → Rose (S.read_faults source.old) (S.read_faults source.new) }
 {
-    piece.truncate(MOST_BYTES + 1 - bytes.len());
-    match read_piece(source, piece) {
-        Ok(count) => match add(bytes, &piece[..count]) {
-            Ok(()) => return Ok(count),
-            Err(Memory) => return Err(InputFault::Memory),
-        },
-        Err(Failed) => return Err(InputFault::Read),
+    let Ok(mut piece) = piece_room(alloc) else {
+        return Err(InputFault::Text(SizeFault::Memory));
+    };
+    let mut gathered = Gathered {
+        bytes: Vec::new(alloc),
+    };
+    match read_text(source, &mut piece[0..], &mut gathered) {
+        Ok(()) => return Ok(gathered.bytes),
+        Err(fault) => return Err(fault),
     }
 }
 

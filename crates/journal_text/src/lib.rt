@@ -23,7 +23,6 @@ pub mod laws;
 mod opening;
 mod reading;
 mod rewriting;
-mod splitting;
 #[cfg(test)]
 mod tests;
 mod text;
@@ -34,7 +33,7 @@ mod writing;
 
 pub use host_core::EntryAct as LineAct;
 pub use host_table::WriteEnd;
-pub use input::{InputFault, read_bytes};
+pub use input::{SizeFault, read_bytes};
 pub use journal::{JournalFault, read_journal};
 pub use rewriting::{RewriteFault, rewrite};
 pub use text::{Files, Format, JournalText, Line, Lines};

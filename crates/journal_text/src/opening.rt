@@ -6,11 +6,9 @@ ghost use Rattle.journal_text.specs.declared.text.Format.{Format};
 ghost use Rattle.journal_text.specs.Lines.{IsFile, IsOpening};
 ghost use Rattle.journal_text.specs.Words.{file_words, first_words, last_words, words_of};
 
-use crate::contents::hex_read;
-use crate::splitting::{has_more, split_word};
 use crate::text::Format;
-use crate::values::{is_word, moment_read, number_read};
 use host_core::MOST_FIRST;
+use line_text::{has_more, hex_read, is_word, moment_read, number_read, split_word};
 use std::alloc::Global;
 use wopi_text::{Bytes, FileName, Memory, id_read};
 

@@ -20,14 +20,13 @@ use crate::entry::place_read;
 use crate::journal::{JournalFault, read_with};
 use crate::keeping::Nothing;
 use crate::reading::Reader;
-use crate::splitting::{split_row, split_word};
 use crate::text::Format;
 use crate::times::{start_times, time_at};
-use crate::values::is_word;
 use crate::writing::{put_first, put_last};
 use host_table::WriteRoom;
 use host_table::lines::Piece;
 use host_table::putting::{put_pieces, send};
+use line_text::{is_word, split_row, split_word};
 use outside::{Failed, Sink, write_whole};
 use std::alloc::Global;
 

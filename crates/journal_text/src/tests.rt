@@ -1,9 +1,10 @@
 //! Texts of journals, read and written.
 use crate::{
-    InputFault, JournalFault, RewriteFault, WriteEnd, read_bytes, read_journal, rewrite,
-    write_lines, write_lines_into,
+    JournalFault, RewriteFault, WriteEnd, read_bytes, read_journal, rewrite, write_lines,
+    write_lines_into,
 };
 use host_table::WriteRoom;
+use line_text::InputFault;
 use outside::{MemSink, MemSource};
 use std::alloc::Global;
 use std::test::Fail;

@@ -1,12 +1,13 @@
 //! Tokens without their codes.
-ghost use Rattle.std.specs.Prelude.{◌≡◌, ◌≢◌, ◌==◌, [], ◌∷◌, IfSome, IfNone, length, position, false, true, ◌≤◌};
+ghost use Rattle.std.specs.Prelude.{◌≡◌, ◌≢◌, IfSome, IfNone, length};
 ghost use Rattle.wopi_model.specs.declared.token.Token.{Token};
 ghost use Rattle.journal_text.specs.Lines.{IsToken};
 ghost use Rattle.host_table.specs.Text.{token_fields};
 ghost use Rattle.journal_text.specs.Words.{parts_of, token_parts};
 ghost use Rattle.journal_text.specs.Tokens.{list_of};
 
-use crate::values::{number_read, rights_read};
+use crate::values::rights_read;
+use line_text::{has_mark, number_read, split_at_mark};
 use wopi_model::{Token, User};
 use wopi_text::id_read;
 
@@ -40,12 +41,12 @@ fn split(text: &[u8]) -> Option<Fields<'_>>
     ensures some { IfSome result (λ fields. parts_of text.now ≡ list_of fields) }
     ensures none { IfNone result (length (parts_of text.now) ≢ 6) }
 {
-    let (user, rest) = split_field(text)?;
-    let (id, rest) = split_field(rest)?;
-    let (rights, rest) = split_field(rest)?;
-    let (serial, rest) = split_field(rest)?;
-    let (issued, expires) = split_field(rest)?;
-    if first_period(expires).is_some() {
+    let (user, rest) = split_at_mark(text, b'.')?;
+    let (id, rest) = split_at_mark(rest, b'.')?;
+    let (rights, rest) = split_at_mark(rest, b'.')?;
+    let (serial, rest) = split_at_mark(rest, b'.')?;
+    let (issued, expires) = split_at_mark(rest, b'.')?;
+    if has_mark(expires, b'.') {
         return None;
     }
     Some(Fields {
@@ -56,24 +57,6 @@ fn split(text: &[u8]) -> Option<Fields<'_>>
         issued,
         expires,
     })
-}
-
-/// What stands before the first period, and what behind it.
-fn split_field(text: &[u8]) -> Option<(&[u8], &[u8])>
-    ensures some { IfSome result (λ parts. parts_of text.now ≡ parts.0.now ∷ parts_of parts.1.now) }
-    ensures none { IfNone result (parts_of text.now ≡ text.now ∷ []) }
-{
-    let Some(at) = first_period(text) else {
-        return None;
-    };
-    Some((&text[..at], &text[at + 1..]))
-}
-
-/// The place of the first period.
-fn first_period(text: &[u8]) -> Option<usize>
-    ensures { result ≡ position (λ byte. byte == 46) text.now }
-{
-    text.iter().position(|byte| *byte == b'.')
 }
 
 /// The token that the fields tell, if each has its form.

@@ -3,40 +3,14 @@ ghost use Rattle.std.specs.Prelude.{◌≡◌, ◌≢◌, ◌↔◌, ◌<◌, �
 ghost use Rattle.hex.specs.Hex.{decode_of, encode_lower};
 ghost use Rattle.wopi_text.specs.LockId.{IsLockId};
 ghost use Rattle.wopi_text.specs.declared.reason.Reason.{Reason};
-ghost use Rattle.wopi_model.specs.Moment.{IsMoment};
 ghost use Rattle.host_table.specs.Text.{hex_text, optional_hex, optional_number, overwrite_text, rights_text, reason_text, version_text};
 ghost use Rattle.journal_text.specs.Lines.{Fits, MayFit, MayBeLock, is_status};
 
-use wopi_text::{LockId, MOMENTS_END, Reason, decimal_read, decode_hex};
+use line_text::{is_word, number_read, yes_or_no_read};
+use wopi_text::{LockId, Reason, decode_hex};
 
 /// The most bytes of a lock id.
 const MOST: usize = 1_024;
-
-/// Whether the words are the same.
-pub(crate) fn is_word(word: &[u8], other: &[u8]) -> bool
-    ensures { IsTrue result ↔ (word.now ≡ other.now) }
-{
-    word == other
-}
-
-/// The number that a word is.
-pub(crate) fn number_read(word: &[u8]) -> Option<u64>
-    ensures { (n : ℕ) → (result ≡ Some n) ↔ (Fits n × (word.now ≡ decimal n)) }
-{
-    decimal_read(word)
-}
-
-/// The moment that a word is.
-pub(crate) fn moment_read(word: &[u8]) -> Option<u64>
-    ensures { (n : ℕ) → (result ≡ Some n) ↔ (IsMoment n × (word.now ≡ decimal n)) }
-{
-    let moment = number_read(word)?;
-    if moment < MOMENTS_END {
-        Some(moment)
-    } else {
-        None
-    }
-}
 
 /// The number of a shard that a word is.
 pub(crate) fn shard_read(word: &[u8]) -> Option<u8>
@@ -161,13 +135,7 @@ pub(crate) fn overwrite_read(word: &[u8]) -> Option<bool>
     ensures some { IfSome result (λ overwrite. word.now ≡ overwrite_text overwrite) }
     ensures none { IfNone result ((overwrite : Bool) → word.now ≢ overwrite_text overwrite) }
 {
-    if is_word(word, b"yes".as_slice()) {
-        return Some(true);
-    }
-    if is_word(word, b"no".as_slice()) {
-        return Some(false);
-    }
-    None
+    yes_or_no_read(word)
 }
 
 /// Whether a token allows to write.

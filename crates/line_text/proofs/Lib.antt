@@ -1,0 +1,4 @@
+pub mod Endings
+pub mod HexWords
+pub mod Splits
+pub mod WholeInputs
