@@ -1,0 +1,10 @@
+mod Rulings
+mod Sizes
+mod Knowing
+mod Spending
+mod Stepping
+mod Tracking
+mod Merges
+mod Hosts
+mod Ordering
+mod Auditing

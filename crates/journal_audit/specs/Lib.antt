@@ -1,0 +1,9 @@
+pub mod Calls
+pub mod Lines
+pub mod Judging
+pub mod Spent
+pub mod Known
+pub mod Tracks
+pub mod Orders
+pub mod Audits
+pub mod Merges
