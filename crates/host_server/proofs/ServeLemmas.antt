@@ -1,11 +1,13 @@
 -- From the messages so far to a whole connection.
-use Rattle.std.proofs.Common.{◌≡◌, ◌<◌, ◌+◌, ℕ, false, List, [], ◌∷◌, ◌++◌, Option, None, Some, refl, sym, ap, ◌∙◌, subst, arith, length-append}
+use Rattle.std.proofs.Common.{◌≡◌, ◌<◌, ◌+◌, ℕ, false, List, [], ◌∷◌, ◌++◌, Option, None, Some, refl, sym, ap, ◌∙◌, subst, arith, length-append, append-nil}
 use Rattle.std.specs.Io.KnownBytes.{Consumes, Appends, prepend_known}
 use Rattle.std.proofs.KnownBytes.{Appends-trans, Appends-nil, Consumes-trans}
 use Rattle.outside.specs.Clock.{GivesAll}
 use Rattle.outside.specs.Stream.{Are}
 use Rattle.wopi_http.specs.declared.message.Request.{Request}
 use Rattle.wopi_http.specs.Closing.{closes}
+use Rattle.wopi_http.specs.Answers.{hundred_text}
+use Rattle.wopi_http.specs.Cuts.{IsPrompt}
 use Rattle.host_server.specs.declared.connection.ConnEnd.{ConnEnd}
 use Rattle.host_server.specs.declared.connection.ConnEnd.TheVariants.{Done, ReadFault, WriteFault, Memory}
 use Rattle.host_server.specs.declared.connection.Progress.TheVariants.{Over}
@@ -14,9 +16,16 @@ use Rattle.host_server.specs.declared.desk.Desk.{Desk}
 use Rattle.host_server.specs.Deeds.{Does}
 use Rattle.host_server.proofs.DeedLemmas.{Does-nil, Does-join}
 use Rattle.host_server.specs.Turns.{bytes_of, moments_of, parts_of, texts_of, turn_text}
-use Rattle.host_server.specs.Connection.{message_limit, is_last, Cut, IsConnEnd, IsEnd, IsNext, IsLine, Serves, end_text, end_moments, end_part, next_moments, next_part}
+use Rattle.host_server.specs.Connection.{message_limit, is_last, IsEnd, IsNext, Serves, end_text, end_moments, end_part, next_moments, next_part}
 use Rattle.host_server.specs.Steps.{StepsOn, StepsOver, Breaks, Steps, Running}
 use Rattle.host_server.proofs.SequenceLemmas.{are_from, GivesAll-trans, GivesAll-nil, flat_map-one, map-one, GoOn-one}
+
+-- what is left of the link, and so what it held
+parts_of_input : (a b : Option (List ℕ)) (bytes : List ℕ) → Consumes a b bytes → (rest : List ℕ) × Are b rest × Are a (bytes ++ rest)
+parts_of_input None None bytes reads = ([], tt, tt)
+parts_of_input None (Some y) bytes reads = (y, refl, tt)
+parts_of_input (Some x) None bytes reads = absurd reads
+parts_of_input (Some x) (Some y) bytes reads = (y, refl, reads)
 
 -- a message that isn't the last doesn't close, and has room behind it
 pub stays_open : (count : ℕ) (q : Request) → is_last count q ≡ false → closes q ≡ false
@@ -61,10 +70,10 @@ module _ (desk : Desk) (always : Sight → Type 0) (left clock : Option (List �
           writes = subst (Appends held held'') (sym (flat_map-one (λ x. turn_text x false) turns t)) (Appends-trans held held' held'' _ _ running.writes step.writes);
         }
 
-    pub serves_over : (clock'' : Option (List ℕ)) (sight'' : Sight) (held'' : Option (List ℕ)) → count < message_limit
+    pub serves_over : (source clock'' : Option (List ℕ)) (sight'' : Sight) (held'' : Option (List ℕ)) → count < message_limit
         → StepsOver desk always count left' clock' clock'' sight' sight'' held' held''
-        → Serves desk always Done left clock clock'' sight sight'' held held''
-    serves_over clock'' sight'' held'' few step =
+        → Serves desk always Done left source clock clock'' sight sight'' held held''
+    serves_over source clock'' sight'' held'' few step =
         let turns = running.turns in
         record {
           input = bytes_of turns ++ step.rest;
@@ -91,36 +100,10 @@ module _ (desk : Desk) (always : Sight → Type 0) (left clock : Option (List �
           };
         }
 
-    cut_from : (clock'' : Option (List ℕ)) (sight'' : Sight) (held'' : Option (List ℕ)) → count < message_limit
-        → (step : Breaks desk always count left' clock' clock'' sight' sight'' held' held'')
-        → (cut : Cut desk (bytes_of running.turns ++ step.rest) (moments_of running.turns ++ next_moments step.next)
-        (parts_of running.turns ++ next_part step.next) (texts_of running.turns ++ step.front)) × (cut.next ≡ step.next) × (cut.back ≡ step.back)
-    cut_from clock'' sight'' held'' few step = (
-      record {
-        turns = running.turns;
-        next = step.next;
-        rest = step.rest;
-        go_on = running.go_on;
-        few = subst (λ n. n < message_limit) (sym running.count_is) few;
-        input_is = refl;
-        is_next = subst (λ n. IsNext desk n step.rest step.next) (sym running.count_is) step.is_next;
-        moments_are = refl;
-        deeds_are = refl;
-        front = step.front;
-        back = step.back;
-        parts = step.parts;
-        output_is = refl;
-      },
-      refl,
-      refl,
-    )
-
-    serves_breaking : (end : ConnEnd) (clock'' : Option (List ℕ)) (sight'' : Sight) (held'' : Option (List ℕ))
-        → (step : Breaks desk always count left' clock' clock'' sight' sight'' held' held'')
-        → IsConnEnd desk end (bytes_of running.turns ++ step.rest) (moments_of running.turns ++ next_moments step.next)
-        (parts_of running.turns ++ next_part step.next) (texts_of running.turns ++ step.front)
-        → Serves desk always end left clock clock'' sight sight'' held held''
-    serves_breaking end clock'' sight'' held'' step is_end =
+    pub serves_broken : (source clock'' : Option (List ℕ)) (sight'' : Sight) (held'' : Option (List ℕ)) → count < message_limit
+        → Breaks desk always count left' clock' clock'' sight' sight'' held' held''
+        → Serves desk always WriteFault left source clock clock'' sight sight'' held held''
+    serves_broken source clock'' sight'' held'' few step =
         let turns = running.turns in
         record {
           input = bytes_of turns ++ step.rest;
@@ -131,33 +114,68 @@ module _ (desk : Desk) (always : Sight → Type 0) (left clock : Option (List �
           times = GivesAll-trans clock clock' clock'' _ _ running.times step.times;
           makes = Does-join always sight sight' sight'' (parts_of turns) (next_part step.next) running.makes step.makes;
           writes = Appends-trans held held' held'' _ _ running.writes step.writes;
-          says = is_end;
+          says = record {
+            turns = turns;
+            next = step.next;
+            rest = step.rest;
+            go_on = running.go_on;
+            few = subst (λ n. n < message_limit) (sym running.count_is) few;
+            input_is = refl;
+            is_next = subst (λ n. IsNext desk n step.rest step.next) (sym running.count_is) step.is_next;
+            moments_are = refl;
+            deeds_are = refl;
+            front = step.front;
+            back = step.back;
+            parts = step.parts;
+            output_is = refl;
+          };
         }
 
-    pub serves_broken : (clock'' : Option (List ℕ)) (sight'' : Sight) (held'' : Option (List ℕ)) → count < message_limit
-        → Breaks desk always count left' clock' clock'' sight' sight'' held' held''
-        → Serves desk always WriteFault left clock clock'' sight sight'' held held''
-    serves_broken clock'' sight'' held'' few step =
-        serves_breaking WriteFault clock'' sight'' held'' step (cut_from clock'' sight'' held'' few step).0
+    -- a read failed behind these messages
+    pub serves_unread : (source clock'' : Option (List ℕ)) (sight'' : Sight) (held'' : Option (List ℕ)) → count < message_limit
+        → GivesAll clock' clock'' [] → Does always sight' sight'' [] → IsPrompt left' source held' held''
+        → Serves desk always ReadFault left source clock clock'' sight sight'' held held''
+    serves_unread source clock'' sight'' held'' few times makes prompt =
+        let turns = running.turns in
+        let (rest, unread, are) = parts_of_input left' source prompt.bytes prompt.read in
+        record {
+          input = bytes_of turns ++ (prompt.bytes ++ rest);
+          moments = moments_of turns;
+          deeds = parts_of turns;
+          output = texts_of turns ++ hundred_text prompt.hundred;
+          reads = are_from left left' (bytes_of turns) (prompt.bytes ++ rest) running.reads are;
+          times = subst (GivesAll clock clock'') (append-nil (moments_of turns)) (GivesAll-trans clock clock' clock'' _ _ running.times times);
+          makes = subst (Does always sight sight'') (append-nil (parts_of turns)) (Does-join always sight sight' sight'' (parts_of turns) [] running.makes makes);
+          writes = Appends-trans held held' held'' _ _ running.writes prompt.written;
+          says = record {
+            turns = turns;
+            tail = prompt.bytes;
+            rest = rest;
+            hundred = prompt.hundred;
+            go_on = running.go_on;
+            few = subst (λ n. n < message_limit) (sym running.count_is) few;
+            input_is = refl;
+            unread = unread;
+            owes_nothing = prompt.owes_nothing;
+            asks = prompt.asks;
+            moments_are = refl;
+            deeds_are = refl;
+            output_is = refl;
+          };
+        }
 
-    pub serves_unread : (clock'' : Option (List ℕ)) (sight'' : Sight) (held'' : Option (List ℕ)) → count < message_limit
-        → (step : Breaks desk always count left' clock' clock'' sight' sight'' held' held'') → IsLine step.next → step.back ≡ []
-        → Serves desk always ReadFault left clock clock'' sight sight'' held held''
-    serves_unread clock'' sight'' held'' few step is_line whole =
-        let (cut, next, back) = cut_from clock'' sight'' held'' few step in
-        serves_breaking ReadFault clock'' sight'' held'' step (cut, subst IsLine (sym next) is_line, back ∙ whole)
-
-    pub serves_from : (end : ConnEnd) (left'' clock'' : Option (List ℕ)) (sight'' : Sight) (held'' : Option (List ℕ)) → count < message_limit
+    pub serves_from : (end : ConnEnd) (left'' source clock'' : Option (List ℕ)) (sight'' : Sight) (held'' : Option (List ℕ)) → count < message_limit
         → Steps desk always count left' left'' clock' clock'' sight' sight'' held' held'' (Over end)
-        → Serves desk always end left clock clock'' sight sight'' held held''
-    serves_from Done left'' clock'' sight'' held'' few step = serves_over clock'' sight'' held'' few step
-    serves_from ReadFault left'' clock'' sight'' held'' few step = serves_unread clock'' sight'' held'' few step.0 step.1 step.2
-    serves_from WriteFault left'' clock'' sight'' held'' few step = serves_broken clock'' sight'' held'' few step
-    serves_from Memory left'' clock'' sight'' held'' few step = absurd step
+        → (Over end ≡ Over ReadFault → IsPrompt left' source held' held'')
+        → Serves desk always end left source clock clock'' sight sight'' held held''
+    serves_from Done left'' source clock'' sight'' held'' few step prompt = serves_over source clock'' sight'' held'' few step
+    serves_from ReadFault left'' source clock'' sight'' held'' few step prompt = serves_unread source clock'' sight'' held'' few step.0 step.1 (prompt refl)
+    serves_from WriteFault left'' source clock'' sight'' held'' few step prompt = serves_broken source clock'' sight'' held'' few step
+    serves_from Memory left'' source clock'' sight'' held'' few step prompt = absurd step
 
 -- no memory to begin
 pub serves_nothing : (desk : Desk) (always : Sight → Type 0) (left clock : Option (List ℕ)) (sight : Sight) (held : Option (List ℕ))
-    → Serves desk always Memory left clock clock sight sight held held
+    → Serves desk always Memory left left clock clock sight sight held held
 serves_nothing desk always left clock sight held =
     let (input, are) = some_input left in
     record {
@@ -169,7 +187,7 @@ serves_nothing desk always left clock sight held =
       times = GivesAll-nil clock;
       makes = Does-nil always sight;
       writes = Appends-nil held;
-      says = (refl, refl, refl);
+      says = (are, refl, refl, refl);
     }
   where
     some_input : (a : Option (List ℕ)) → (input : List ℕ) × Are a input

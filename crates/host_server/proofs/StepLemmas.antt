@@ -1,12 +1,12 @@
 -- One message of a connection.
-use Rattle.std.proofs.Common.{◌≡◌, ℕ, Bool, true, false, List, [], ◌∷◌, ◌++◌, Option, None, Some, Result, Ok, Err, refl, sym, ap, ◌∙◌, subst, append_assoc, append-nil}
+use Rattle.std.proofs.Common.{◌≡◌, ℕ, Bool, true, false, List, [], ◌∷◌, ◌++◌, Option, None, Some, Result, Ok, Err, refl, sym, ap, ◌∙◌, subst, append_assoc}
 use Rattle.std.specs.Io.KnownBytes.{Consumes, Appends}
 use Rattle.std.proofs.KnownBytes.{Appends-trans}
 use Rattle.outside.specs.declared.faults.Failed.{Failed}
 use Rattle.outside.specs.Clock.{GivesAll}
 use Rattle.outside.specs.Stream.{Are}
 use Rattle.wopi_http.specs.declared.message.Request.{Request}
-use Rattle.wopi_http.specs.declared.reading.Got.TheVariants.{Message, Refused, ReadFault, WriteFault, Memory}
+use Rattle.wopi_http.specs.declared.reading.Got.TheVariants.{Message, Refused, WriteFault, Memory}
 use Rattle.wopi_http.specs.Answers.{hundred_text, Reads, Looked, IsRefused}
 use Rattle.wopi_http.specs.Replies.{Writes}
 use Rattle.host_server.specs.Texts.{bare_reply}
@@ -15,7 +15,7 @@ use Rattle.host_server.specs.declared.desk.Desk.{Desk}
 use Rattle.host_server.specs.Deeds.{Does}
 use Rattle.host_server.proofs.DeedLemmas.{Does-nil}
 use Rattle.host_server.specs.Turns.{said_text, Turn, IsTurn}
-use Rattle.host_server.specs.Connection.{is_last, closed, refused, wanted, line, reply, last, IsLine}
+use Rattle.host_server.specs.Connection.{is_last, closed, refused, wanted, line, reply, last}
 use Rattle.host_server.specs.Steps.{Replies, StepsOn, StepsOver, Breaks}
 use Rattle.host_server.proofs.SequenceLemmas.{GivesAll-nil}
 
@@ -184,26 +184,6 @@ module _ (desk : Desk) (always : Sight → Type 0) (count : ℕ) (left left' clo
 
 module _ (desk : Desk) (always : Sight → Type 0) (count : ℕ) (left left' clock : Option (List ℕ)) (sight : Sight)
     (held held' : Option (List ℕ)) where
-  pub reading_broken : Reads left left' held held' ReadFault
-      → (breaks : Breaks desk always count left clock clock sight sight held held') × IsLine breaks.next × (breaks.back ≡ [])
-  reading_broken reads =
-      let (bytes, more, looked) = reads.answer in (
-        record {
-          next = line reads.hundred;
-          rest = bytes ++ more;
-          reads = looked.begins;
-          is_next = (bytes, more, looked_of left bytes more reads.hundred looked);
-          times = GivesAll-nil clock;
-          makes = Does-nil always sight;
-          front = hundred_text reads.hundred;
-          back = [];
-          parts = sym (append-nil (hundred_text reads.hundred));
-          writes = reads.asked;
-        },
-        tt,
-        refl,
-      )
-
   pub asking_broken : Reads left left' held held' WriteFault → Breaks desk always count left clock clock sight sight held held'
   asking_broken reads =
       let (bytes, more, looked) = reads.answer in

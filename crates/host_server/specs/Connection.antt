@@ -1,10 +1,11 @@
 -- A connection: what was asked on it, what was written, and where a fault cut it.
-use Rattle.std.specs.Prelude.{◌≡◌, ◌<◌, ◌+◌, ℕ, Bool, true, false, List, [], ◌∷◌, ◌++◌, length, Option, Some, ⊤, ◌==◌, ◌||◌}
+use Rattle.std.specs.Prelude.{◌≡◌, ◌<◌, ◌+◌, ℕ, Bool, true, false, List, [], ◌∷◌, ◌++◌, length, Option, Some, ◌==◌, ◌||◌}
 use Rattle.std.specs.Io.KnownBytes.{Appends}
 use Rattle.outside.specs.Clock.{GivesAll}
 use Rattle.outside.specs.Stream.{Are}
 use Rattle.wopi_http.specs.declared.message.Request.{Request}
-use Rattle.wopi_http.specs.Answers.{hundred_text, Looked, IsRefused}
+use Rattle.wopi_http.specs.Answers.{hundred_text, Asks, Looked, IsRefused}
+use Rattle.wopi_http.specs.Cuts.{OwesNothing}
 use Rattle.wopi_http.specs.Closing.{closes}
 use Rattle.host_server.specs.declared.connection.ConnEnd.{ConnEnd}
 use Rattle.host_server.specs.declared.connection.ConnEnd.TheVariants.{Done, ReadFault, WriteFault, Memory}
@@ -106,13 +107,7 @@ next_text (line hundred) = hundred_text hundred
 next_text (reply t) = turn_text t false
 next_text (last end) = end_text end
 
--- only the 100 line, or nothing
-abbrev pub IsLine : Next → Type 0
-IsLine (line hundred) = ⊤
-IsLine (reply t) = ⊥
-IsLine (last end) = ⊥
-
--- Where a fault cuts: what was written is the texts of the first messages, and a front of what comes next.
+-- Where a fault of writing cuts: what was written is the texts of the first messages, and a front of what comes next.
 pub record Cut (desk : Desk) (input moments : List ℕ) (deeds : List Deed) (output : List ℕ)
     : Type 0 where
   pub turns : List Turn
@@ -129,17 +124,36 @@ pub record Cut (desk : Desk) (input moments : List ℕ) (deeds : List Deed) (out
   pub parts : next_text next ≡ front ++ back
   pub output_is : output ≡ texts_of turns ++ front
 
--- A fault of reading comes between messages, where all that was begun was written.
-abbrev pub IsConnEnd : Desk → ConnEnd → List ℕ → List ℕ → List Deed → List ℕ → Type 0
-IsConnEnd desk Done input moments deeds output = Conn desk input moments deeds output
-IsConnEnd desk ReadFault input moments deeds output =
-    (cut : Cut desk input moments deeds output) × IsLine cut.next × (cut.back ≡ [])
-IsConnEnd desk WriteFault input moments deeds output = Cut desk input moments deeds output
-IsConnEnd desk Memory input moments deeds output = (moments ≡ []) × (deeds ≡ []) × (output ≡ [])
+-- At a read that failed, and so at each read: all that was read is messages that don't close, each of them answered, and then bytes for
+-- which nothing is owed. Behind the answers stands the 100 line, exactly where these bytes ask for it. The rest of the input is still to
+-- be read.
+pub record Awaits (desk : Desk) (input : List ℕ) (left : Option (List ℕ)) (moments : List ℕ) (deeds : List Deed) (output : List ℕ)
+    : Type 0 where
+  pub turns : List Turn
+  pub tail : List ℕ
+  pub rest : List ℕ
+  pub hundred : Bool
+  pub go_on : GoOn desk turns
+  pub few : length turns < message_limit
+  pub input_is : input ≡ bytes_of turns ++ (tail ++ rest)
+  pub unread : Are left rest
+  pub owes_nothing : OwesNothing tail
+  pub asks : Asks tail hundred
+  pub moments_are : moments ≡ moments_of turns
+  pub deeds_are : deeds ≡ parts_of turns
+  pub output_is : output ≡ texts_of turns ++ hundred_text hundred
 
--- The link's bytes, the moments that the clock gave, what was done and what was written are a connection that ended so.
+-- What a connection over this input is, by its end, where so much of the input is left.
+abbrev pub IsConnEnd : Desk → ConnEnd → List ℕ → Option (List ℕ) → List ℕ → List Deed → List ℕ → Type 0
+IsConnEnd desk Done input left moments deeds output = Conn desk input moments deeds output
+IsConnEnd desk ReadFault input left moments deeds output = Awaits desk input left moments deeds output
+IsConnEnd desk WriteFault input left moments deeds output = Cut desk input moments deeds output
+IsConnEnd desk Memory input left moments deeds output = Are left input × (moments ≡ []) × (deeds ≡ []) × (output ≡ [])
+
+-- The link's bytes, those that are left of them, the moments that the clock gave, what was done and what was written are a connection
+-- that ended so.
 pub record Serves (desk : Desk) (always : Sight → Type 0) (end : ConnEnd)
-    (left : Option (List ℕ)) (clock clock' : Option (List ℕ)) (sight sight' : Sight) (held held' : Option (List ℕ)) : Type 0 where
+    (left left' : Option (List ℕ)) (clock clock' : Option (List ℕ)) (sight sight' : Sight) (held held' : Option (List ℕ)) : Type 0 where
   pub input : List ℕ
   pub moments : List ℕ
   pub deeds : List Deed
@@ -148,4 +162,4 @@ pub record Serves (desk : Desk) (always : Sight → Type 0) (end : ConnEnd)
   pub times : GivesAll clock clock' moments
   pub makes : Does always sight sight' deeds
   pub writes : Appends held held' output
-  pub says : IsConnEnd desk end input moments deeds output
+  pub says : IsConnEnd desk end input left' moments deeds output

@@ -16,7 +16,7 @@ use Rattle.host_server.specs.declared.desk.Desk.{Desk}
 use Rattle.host_server.specs.Deeds.{Deed, Does}
 use Rattle.host_server.specs.Texts.{sent_text}
 use Rattle.host_server.specs.Turns.{Said, said_text, IsSaid, Turn, IsTurn, GoOn, turn_text, bytes_of, moments_of, parts_of, texts_of}
-use Rattle.host_server.specs.Connection.{is_last, End, IsEnd, end_moments, end_part, end_text, Next, IsNext, IsLine, next_moments, next_part, next_text}
+use Rattle.host_server.specs.Connection.{is_last, End, IsEnd, end_moments, end_part, end_text, Next, IsNext, next_moments, next_part, next_text}
 
 -- a message that doesn't close was answered
 pub record StepsOn (desk : Desk) (always : Sight → Type 0) (count : ℕ) (left left' clock clock' : Option (List ℕ))
@@ -40,7 +40,7 @@ pub record StepsOver (desk : Desk) (always : Sight → Type 0) (count : ℕ) (le
   pub makes : Does always sight sight' (end_part end)
   pub writes : Appends held held' (end_text end)
 
--- a fault cut them
+-- a fault of writing cut them
 pub record Breaks (desk : Desk) (always : Sight → Type 0) (count : ℕ) (left clock clock' : Option (List ℕ))
     (sight sight' : Sight) (held held' : Option (List ℕ)) : Type 0 where
   pub next : Next
@@ -54,7 +54,7 @@ pub record Breaks (desk : Desk) (always : Sight → Type 0) (count : ℕ) (left 
   pub parts : next_text next ≡ front ++ back
   pub writes : Appends held held' front
 
--- What was done behind so many messages.
+-- What was done behind so many messages; where a read failed, nothing was.
 abbrev pub Steps : Desk → (Sight → Type 0) → ℕ → Option (List ℕ) → Option (List ℕ) → Option (List ℕ) → Option (List ℕ)
     → Sight → Sight → Option (List ℕ) → Option (List ℕ) → Progress → Type 0
 Steps desk always count left left' clock clock' sight sight' held held' On =
@@ -62,7 +62,7 @@ Steps desk always count left left' clock clock' sight sight' held held' On =
 Steps desk always count left left' clock clock' sight sight' held held' (Over Done) =
     StepsOver desk always count left clock clock' sight sight' held held'
 Steps desk always count left left' clock clock' sight sight' held held' (Over ReadFault) =
-    (breaks : Breaks desk always count left clock clock' sight sight' held held') × IsLine breaks.next × (breaks.back ≡ [])
+    GivesAll clock clock' [] × Does always sight sight' []
 Steps desk always count left left' clock clock' sight sight' held held' (Over WriteFault) =
     Breaks desk always count left clock clock' sight sight' held held'
 Steps desk always count left left' clock clock' sight sight' held held' (Over Memory) = ⊥

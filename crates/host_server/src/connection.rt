@@ -1,9 +1,10 @@
 //! A connection served to its end.
-ghost use Rattle.std.specs.Prelude.{◌≡◌, ◌≤◌, ◌<◌, ◌+◌, ◌==◌, OnErr};
+ghost use Rattle.std.specs.Prelude.{◌≡◌, ◌≢◌, ◌≤◌, ◌<◌, ◌+◌, ◌==◌, OnErr};
 ghost use Rattle.std.specs.Io.KnownBytes.{prepend_known};
 ghost use Rattle.outside.specs.Faults.{Rose};
 ghost use Rattle.wopi_model.specs.Moment.{IsMoment};
 ghost use Rattle.access_tokens.specs.Remembering.{Remembers};
+ghost use Rattle.wopi_http.specs.Cuts.{IsPrompt};
 ghost use Rattle.host_server.specs.Connection.{message_limit, is_last, Serves};
 ghost use Rattle.host_server.specs.Steps.{Prepares, Replies, Steps};
 
@@ -119,6 +120,9 @@ fn serve_one<C: Caller, L: Link, K: Clock>(
     ensures lent { C.references caller.new ≡ C.references caller.old }
     ensures steps { Steps desk.now C.always count (prepend_known buffer.old (L.left link.old)) (prepend_known buffer.new (L.left link.new))
         (K.moments clock.old) (K.moments clock.new) (C.sight caller.old) (C.sight caller.new) (L.held link.old) (L.held link.new) result }
+    ensures prompt { result ≡ Progress.Over ConnEnd.ReadFault
+        → IsPrompt (prepend_known buffer.old (L.left link.old)) (L.left link.new) (L.held link.old) (L.held link.new) }
+    ensures fine { result ≢ Progress.Over ConnEnd.ReadFault → L.read_faults link.new ≡ L.read_faults link.old }
     ensures references { L.references link.new ≡ L.references link.old }
     ensures reads_count { L.read_faults link.old ≤ L.read_faults link.new }
     ensures writes_count { L.write_faults link.old ≤ L.write_faults link.new }
@@ -163,9 +167,14 @@ pub fn serve_connection<C: Caller, L: Link, K: Clock>(
     link: &mut L,
     clock: &mut K,
 ) -> ConnEnd
-    // What was read, written and done is a connection that ended so.
-    ensures serves { Serves desk.now C.always result (L.left link.old) (K.moments clock.old) (K.moments clock.new)
+    // What was read, written and done is a connection that ended so. At a read that fails, and so at each read,
+    // every message that was read was answered, none of them closes, and nothing is owed for the rest.
+    ensures serves { Serves desk.now C.always result (L.left link.old) (L.left link.new) (K.moments clock.old) (K.moments clock.new)
         (C.sight caller.old) (C.sight caller.new) (L.held link.old) (L.held link.new) }
+
+    // No read that failed is passed over.
+    ensures fine { result ≢ ConnEnd.ReadFault → L.read_faults link.new ≡ L.read_faults link.old }
+
     ensures basis { C.basis caller.new ≡ C.basis caller.old }
     ensures lent { C.references caller.new ≡ C.references caller.old }
     ensures references { L.references link.new ≡ L.references link.old }

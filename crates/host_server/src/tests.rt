@@ -13,6 +13,8 @@ use std::test::Fail;
 use wopi_headers::{Answer, BodyKind, Target};
 use wopi_text::{Bytes, FileName, LockField, LockId, Reason};
 
+mod reads;
+
 /// A token for `a.csv` that may write, under the desk's keys.
 const FOR_A: &[u8] =
     b"v1.ann.612e637376.w.1.253402300000000.253402300799999.e4367dab632e0b350a8cebce225b4b3af9ddf3ae5a45f45b85a6abd4ffe2d92a";
