@@ -1,9 +1,12 @@
 -- The lines of a text, and what they say.
 use Rattle.std.proofs.Common.{◌≡◌, ◌≢◌, ℕ, ◌+◌, ◌-◌, ◌*◌, ◌<◌, ◌≤◌, ◌==◌, ◌⊎◌, Bool, true, false, cond, List, [], ◌∷◌, ◌++◌, Result, Ok, Err, length, get_or, take, drop, refl, sym, ap, ◌∙◌, subst, arith, append_assoc, append-nil, inl, inr}
 use Rattle.std.specs.Prelude.{IfErr, OnOk, Option, None, Some}
-use Rattle.std.specs.Io.KnownBytes.{Consumes, IsAtEnd}
-use Rattle.outside.specs.Stream.{Are}
-use Rattle.grid_editor.specs.Inputs.{HasTaken, IsInputRead, fault_of, input_result}
+use Rattle.std.specs.Io.KnownBytes.{IsAtEnd}
+use Rattle.line_text.specs.declared.input.InputFault.{InputFault}
+use Rattle.line_text.specs.declared.input.InputFault.TheVariants.{Read, Text}
+use Rattle.line_text.specs.Inputs.{HasRead}
+use Rattle.line_text.proofs.WholeInputs.{at_its_end, whole_of}
+use Rattle.grid_editor.specs.Inputs.{IsInputRead, IsRefused, IsUndecided}
 use Rattle.std.specs.List.{AllByRecursion}
 use Rattle.std.proofs.lemmas.List.{length-append, take-append-drop, take_more}
 use Rattle.std.proofs.lemmas.Bool.{ne_eqb}
@@ -228,48 +231,55 @@ ends_room old new (Ok u) h =
 
 -- ---- an input
 
-take_on : (left mid left' : Option (List ℕ)) (front piece : List ℕ) → Consumes left mid front → Consumes mid left' piece → Consumes left left' (front ++ piece)
-take_on None mid left' front piece a b = tt
-take_on (Some left) None left' front piece a b = absurd a
-take_on (Some left) (Some mid) None front piece a b = absurd b
-take_on (Some left) (Some mid) (Some left') front piece a b = a ∙ ap (λ l. front ++ l) b ∙ sym (append_assoc front piece left')
+pub few_lines : (text : List ℕ) (reader : Reader) → IsSoFar text reader → reader.lines ≤ most_lines
+few_lines text reader so =
+    let few = so.good.few in
+    let count = so.count in
+    omega (arith, few, count)
 
-consumes_none : (left : Option (List ℕ)) → Consumes left left []
-consumes_none None = tt
-consumes_none (Some left) = refl
+-- what was taken up to here may still be a script
+pub undecided : (text : List ℕ) (reader : Reader) → IsSoFar text reader → IsUndecided text
+undecided text reader so =
+    let count : reader.lines ≡ length so.done = so.count in
+    record {
+      whole = so.done;
+      part = bytes reader;
+      lines = so.splits (10 ∷ []) ∙ ap (λ l. so.done ++ l) (lines_of-feed (bytes reader) [] so.line_is);
+      commands = reader.commands.items;
+      good = so.good;
+      short = so.short;
+      room = λ some. let few = so.room some in omega (arith, few, count);
+    }
 
-pub nothing_taken : (left : Option (List ℕ)) (reader : Reader) → IsSoFar [] reader → HasTaken left left reader
-nothing_taken left reader so = record { front = []; consumed = consumes_none left; so_far = so }
+pub taken_refused : (text : List ℕ) (reader : Reader) (fault : ScriptFault) → IsReadThrough text reader (Err fault) → IsRefused text fault
+taken_refused text reader Memory bad = tt
+taken_refused text reader (BadCommand number) bad = bad
 
-pub taken_on : (left mid left' : Option (List ℕ)) (old new : Reader) (piece : List ℕ) → HasTaken left mid old → Consumes mid left' piece
-    → ((text : List ℕ) → IsSoFar text old → IsReadThrough (text ++ piece) new (Ok tt)) → HasTaken left left' new
-taken_on left mid left' old new piece so consumed took =
-    record { front = so.front ++ piece; consumed = take_on left mid left' so.front piece so.consumed consumed; so_far = took so.front so.so_far }
+pub refuses_taken : (old new : Reader) (piece : List ℕ) (r : Result (Unit {0}) ScriptFault) → ((text : List ℕ) → IsSoFar text old → IsReadThrough (text ++ piece) new r)
+    → IfErr r (λ fault. (text : List ℕ) → IsSoFar text old → IsRefused (text ++ piece) fault)
+refuses_taken old new piece (Ok u) took = tt
+refuses_taken old new piece (Err fault) took = λ text so. taken_refused (text ++ piece) new fault (took text so)
 
-whole_of : (left left' : Option (List ℕ)) (front : List ℕ) → Consumes left left' front → (rest : List ℕ) × Are left (front ++ rest)
-whole_of None left' front consumed = ([], tt)
-whole_of (Some left) None front consumed = absurd consumed
-whole_of (Some left) (Some rest) front consumed = (rest, consumed)
+-- a bad line stays bad, whatever follows it
+pub refused_input : (left left' : Option (List ℕ)) (fault : InputFault ScriptFault)
+    → ((f : ScriptFault) → fault ≡ Text f → HasRead left left' (λ text. IsRefused text f)) → IsInputRead left (Err fault)
+refused_input left left' Read bad = tt
+refused_input left left' (Text Memory) bad = tt
+refused_input left left' (Text (BadCommand number)) bad =
+    let so = bad (BadCommand number) refl in
+    let whole = whole_of left left' so.bytes so.read in
+    record { text = so.bytes ++ whole.0; text_is = whole.1; bad = so.says whole.0 }
 
-pub bad_input : (left mid left' : Option (List ℕ)) (old new : Reader) (piece : List ℕ) (fault : ScriptFault) → HasTaken left mid old → Consumes mid left' piece
-    → ((text : List ℕ) → IsSoFar text old → IsReadThrough (text ++ piece) new (Err fault)) → IsInputRead left (Err (fault_of fault))
-bad_input left mid left' old new piece Memory so consumed took = tt
-bad_input left mid left' old new piece (BadCommand number) so consumed took =
-    let whole = whole_of left left' (so.front ++ piece) (take_on left mid left' so.front piece so.consumed consumed) in
-    record { text = (so.front ++ piece) ++ whole.0; text_is = whole.1; bad = took so.front so.so_far whole.0 }
+pub whole_script : (left left' : Option (List ℕ)) (reader : Reader) (commands : List Command) → HasRead left left' (λ text. IsSoFar text reader)
+    → IsAtEnd left' → ((text : List ℕ) → IsSoFar text reader → IsRead text (Ok commands)) → IsInputRead left (Ok commands)
+whole_script left left' reader commands so end reads =
+    record { text = so.bytes; text_is = at_its_end left left' so.bytes so.read end; good = reads so.bytes so.says }
 
-at_its_end : (left left' : Option (List ℕ)) (front : List ℕ) → Consumes left left' front → IsAtEnd left' → Are left front
-at_its_end None left' front a end = tt
-at_its_end (Some left) None front a end = absurd a
-at_its_end (Some left) (Some rest) front a end = a ∙ ap (λ l. front ++ l) end ∙ append-nil front
-
-pub whole_input : (left left' : Option (List ℕ)) (old : Reader) (read : Result (List Command) ScriptFault) → HasTaken left left' old
-    → IsAtEnd left' → ((text : List ℕ) → IsSoFar text old → IsRead text read) → IsInputRead left (input_result read)
-whole_input left left' old (Ok commands) so end reads =
-    record { text = so.front; text_is = at_its_end left left' so.front so.consumed end; good = reads so.front so.so_far }
-whole_input left left' old (Err (BadCommand number)) so end reads =
-    record { text = so.front; text_is = at_its_end left left' so.front so.consumed end; bad = reads so.front so.so_far }
-whole_input left left' old (Err Memory) so end reads = tt
+pub whole_bad : (left left' : Option (List ℕ)) (reader : Reader) (fault : ScriptFault) → HasRead left left' (λ text. IsSoFar text reader)
+    → IsAtEnd left' → ((text : List ℕ) → IsSoFar text reader → IsRead text (Err fault)) → IsInputRead left (Err (Text fault))
+whole_bad left left' reader Memory so end reads = tt
+whole_bad left left' reader (BadCommand number) so end reads =
+    record { text = so.bytes; text_is = at_its_end left left' so.bytes so.read end; bad = reads so.bytes so.says }
 
 -- ---- faults
 

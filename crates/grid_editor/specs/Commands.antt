@@ -2,7 +2,7 @@
 use Rattle.std.specs.Prelude.{ℕ, ◌≡◌, ◌<◌, ◌^◌, List, [], ◌∷◌, ◌++◌, codes, decimal, ⊤}
 use Rattle.wopi_text.specs.FileName.{IsFileName}
 use Rattle.grid_editor.specs.declared.command.Command.{Command}
-use Rattle.grid_editor.specs.declared.command.Command.TheVariants.{Open, Set, InsRow, DelRow, InsCol, DelCol, Show, Undo, Save, SaveAs, Refresh, Close}
+use Rattle.grid_editor.specs.declared.command.Command.TheVariants.{Open, Set, InsRow, DelRow, InsCol, DelCol, Show, Values, Undo, Save, SaveAs, Refresh, Close}
 
 -- the line of a command: its words, with one space between them
 abbrev pub command_text : Command → List ℕ
@@ -13,6 +13,7 @@ command_text (DelRow row) = codes "delrow " ++ decimal row
 command_text (InsCol column) = codes "inscol " ++ decimal column
 command_text (DelCol column) = codes "delcol " ++ decimal column
 command_text Show = codes "show"
+command_text Values = codes "values"
 command_text Undo = codes "undo"
 command_text Save = codes "save"
 command_text (SaveAs name) = codes "saveas " ++ name

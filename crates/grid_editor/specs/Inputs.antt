@@ -1,15 +1,12 @@
 -- A script that is the whole of an input.
-use Rattle.std.specs.Prelude.{ℕ, ◌≡◌, List, Option, Result, Ok, Err, ⊤}
-use Rattle.std.specs.Io.KnownBytes.{Consumes}
+use Rattle.std.specs.Prelude.{ℕ, ◌≡◌, ◌<◌, ◌≤◌, List, [], ◌∷◌, ◌++◌, Option, Result, Ok, Err, length, ⊤}
 use Rattle.outside.specs.Stream.{Are}
+use Rattle.line_text.specs.declared.input.InputFault.{InputFault}
+use Rattle.line_text.specs.declared.input.InputFault.TheVariants.{Read, Text}
 use Rattle.grid_editor.specs.declared.command.Command.{Command}
-use Rattle.grid_editor.specs.declared.input.InputFault.{InputFault}
-use Rattle.grid_editor.specs.declared.input.InputFault.TheVariants.{BadCommand, Read, Memory}
-use Rattle.grid_editor.specs.declared.script.Reader.{Reader}
 use Rattle.grid_editor.specs.declared.script.ScriptFault.{ScriptFault}
-use Rattle.grid_editor.specs.declared.script.ScriptFault.TheVariants as script
-use Rattle.grid_editor.specs.Reading.{IsSoFar}
-use Rattle.grid_editor.specs.Scripts.{AreGood, IsFirstBad, lines_of}
+use Rattle.grid_editor.specs.declared.script.ScriptFault.TheVariants.{BadCommand, Memory}
+use Rattle.grid_editor.specs.Scripts.{AreGood, IsFirstBad, IsShort, lines_of, most_lines}
 
 -- the bytes that were left are the lines of these commands
 pub record IsScript (left : Option (List ℕ)) (commands : List Command) : Type 0 where
@@ -24,23 +21,24 @@ pub record IsBadScript (left : Option (List ℕ)) (number : ℕ) : Type 0 where
   pub bad : IsFirstBad text number
 
 -- an input read as a script
-abbrev pub IsInputRead : Option (List ℕ) → Result (List Command) InputFault → Type 0
+abbrev pub IsInputRead : Option (List ℕ) → Result (List Command) (InputFault ScriptFault) → Type 0
 IsInputRead left (Ok commands) = IsScript left commands
-IsInputRead left (Err (BadCommand number)) = IsBadScript left number
+IsInputRead left (Err (Text (BadCommand number))) = IsBadScript left number
+IsInputRead left (Err (Text Memory)) = ⊤
 IsInputRead left (Err Read) = ⊤
-IsInputRead left (Err Memory) = ⊤
 
--- so much of an input was taken
-pub record HasTaken (left left' : Option (List ℕ)) (reader : Reader) : Type 0 where
-  pub front : List ℕ
-  pub consumed : Consumes left left' front
-  pub so_far : IsSoFar front reader
+-- Whether these bytes are the front of a script rests on what follows: with a line feed behind them, all their lines but the last
+-- are good, and the last, which is not whole yet, is past no limit.
+pub record IsUndecided (text : List ℕ) : Type 0 where
+  pub whole : List (List ℕ)
+  pub part : List ℕ
+  pub lines : lines_of (text ++ 10 ∷ []) ≡ whole ++ part ∷ []
+  pub commands : List Command
+  pub good : AreGood whole commands
+  pub short : IsShort part
+  pub room : 0 < length part → length whole < most_lines
 
--- the fault of a script that an input is
-abbrev pub fault_of : ScriptFault → InputFault
-fault_of (script.BadCommand number) = BadCommand number
-fault_of script.Memory = Memory
-
-abbrev pub input_result : Result (List Command) ScriptFault → Result (List Command) InputFault
-input_result (Ok commands) = Ok commands
-input_result (Err fault) = Err (fault_of fault)
+-- a text that begins so has its first bad line here, however it goes on
+abbrev pub IsRefused : List ℕ → ScriptFault → Type 0
+IsRefused text (BadCommand number) = (more : List ℕ) → IsFirstBad (text ++ more) number
+IsRefused text Memory = ⊤

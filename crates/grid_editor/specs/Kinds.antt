@@ -2,12 +2,13 @@
 use Rattle.std.specs.Prelude.{ℕ, ◌≡◌, ◌<◌, ◌^◌, List, ◌∷◌, ◌++◌, codes, decimal, ⊤}
 use Rattle.wopi_text.specs.FileName.{IsFileName}
 use Rattle.grid_editor.specs.declared.command.Command.{Command}
-use Rattle.grid_editor.specs.declared.command.Command.TheVariants.{Open, Set, InsRow, DelRow, InsCol, DelCol, Show, Undo, Save, SaveAs, Refresh, Close}
+use Rattle.grid_editor.specs.declared.command.Command.TheVariants.{Open, Set, InsRow, DelRow, InsCol, DelCol, Show, Values, Undo, Save, SaveAs, Refresh, Close}
 
 -- a word alone
 abbrev pub IsBare : Command → Type 0
 IsBare Open = ⊤
 IsBare Show = ⊤
+IsBare Values = ⊤
 IsBare Undo = ⊤
 IsBare Save = ⊤
 IsBare Refresh = ⊤

@@ -4,6 +4,7 @@ pub mod Scripts
 pub mod Reading
 pub mod Sheets
 pub mod Lines
+pub mod Values
 pub mod Turns
 pub mod Runs
 pub mod Inputs

@@ -29,6 +29,7 @@ use Rattle.grid_editor.specs.declared.turns.EditFault.TheVariants.{BadReply, Wri
 use Rattle.grid_editor.specs.declared.turns.Turn.{Turn}
 use Rattle.grid_editor.specs.declared.turns.Went.TheVariants.{On}
 use Rattle.grid_editor.specs.Sheets.{Edited, after_edit, most_undos}
+use Rattle.grid_editor.specs.Values.{values_line}
 use Rattle.grid_editor.specs.Lines.{outcome_line, went_of, opened_line, copied_line, not_open, nothing_to_undo, refusal_line}
 
 -- the script goes on behind a line
@@ -57,6 +58,7 @@ undoes sheet (rows ∷ past) = record { sheet = record { rows = rows; past = pas
 -- what is done with an open sheet alone
 abbrev pub done_with : Edited → Command → Done
 done_with sheet command.Show = record { sheet = sheet; turn = writes (write_of sheet.rows) }
+done_with sheet command.Values = record { sheet = sheet; turn = writes (values_line sheet.rows) }
 done_with sheet command.Undo = undoes sheet sheet.past
 done_with sheet asked = edits sheet (after_edit sheet.rows asked)
 

@@ -18,6 +18,8 @@ pub enum Command {
     DelCol { column: u64 },
     /// Write the sheet's text.
     Show,
+    /// Write the sheet's text with the value of each formula cell in its place.
+    Values,
     /// Go back over the last edit that isn't undone.
     Undo,
     /// Replace the file's contents by the sheet's text.

@@ -119,6 +119,7 @@ fn turn<D: Dialer>(
         Command::InsCol { .. } => alone(editor, command),
         Command::DelCol { .. } => alone(editor, command),
         Command::Show => alone(editor, command),
+        Command::Values => alone(editor, command),
         Command::Undo => alone(editor, command),
     }
 }

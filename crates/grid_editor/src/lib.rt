@@ -22,11 +22,12 @@ mod lines;
 mod script;
 mod sheet;
 mod turns;
+mod values;
 mod words;
 
 pub use command::Command;
 pub use editor::Editor;
-pub use input::{InputFault, read_script};
+pub use input::read_script;
 pub use script::{MOST_BYTES, MOST_LINES, Script, ScriptFault};
 pub use sheet::MOST_UNDOS;
 pub use turns::{EditFault, Went};

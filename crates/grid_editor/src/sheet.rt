@@ -6,8 +6,10 @@ ghost use Rattle.grid_sheet.specs.Reading.{IsUnreadable};
 ghost use Rattle.grid_sheet.specs.Text.{read_of, write_of};
 ghost use Rattle.grid_sheet.specs.Undoing.{Undoes};
 ghost use Rattle.grid_editor.specs.Sheets.{CanUndo, IsEdited, IsUndone, after_edit, edited_of, most_undos};
+ghost use Rattle.grid_editor.specs.Values.{AreOf, values_line};
 
 use crate::command::Command;
+use crate::values::{follow, values_line};
 use circular_buffer::HeapCircularBuffer;
 use grid_sheet::{Grid, GridFault, Undo};
 use std::alloc::Global;
@@ -20,22 +22,25 @@ pub const MOST_UNDOS: usize = 64;
 /// What undoes the latest edits, the latest first.
 type Steps = HeapCircularBuffer<Undo, Global>;
 
-/// A sheet that can be edited and undone. A step back holds the row or column of its edit alone.
+/// A sheet that can be edited and undone. A step back holds the row or column of its edit alone. The
+/// values of its formulas are kept from when they are asked for until an edit that isn't a `set`.
 #[derive(Drop)]
 pub(crate) struct Sheet {
     grid: Grid,
     steps: Steps,
+    values: Option<grid_formulas::Sheet>,
 }
 
 impl Model for Sheet {
     ghost use Rattle.std.specs.Prelude.{◌≡◌};
     ghost use Rattle.grid_editor.specs.Sheets.{CanUndo, Edited, edited_of, most_undos};
+    ghost use Rattle.grid_editor.specs.Values.{AreOf};
 
     ghost Value = { Edited };
 
     ghost view = { λ s. edited_of s.grid s.steps };
 
-    ghost invariant = { λ s. (s.steps.capacity ≡ most_undos) × CanUndo s.grid s.steps.items };
+    ghost invariant = { λ s. (s.steps.capacity ≡ most_undos) × CanUndo s.grid s.steps.items × AreOf s.grid s.values };
 }
 
 impl Sheet {
@@ -47,7 +52,11 @@ impl Sheet {
     {
         let grid = Grid::read(alloc, contents)?;
         let steps = HeapCircularBuffer::with_capacity(alloc, MOST_UNDOS)?;
-        Ok(Sheet { grid, steps })
+        Ok(Sheet {
+            grid,
+            steps,
+            values: None,
+        })
     }
 
     /// The text of the rows.
@@ -70,14 +79,23 @@ impl Sheet {
         ensures refused { IfErr result (IsRefusal (after_edit self.old.rows command.now)) }
         ensures kept { OnErr result (self.new ≡ self.old) }
     {
-        edit_rows(&mut self.grid, &mut self.steps, command)
+        edit_sheet(&mut self.grid, &mut self.steps, &mut self.values, command)
     }
 
     /// Goes back over the last edit, if there is one. After want of memory nothing can be undone.
     pub(crate) fn undo(&mut self) -> Result<bool, Memory>
         ensures { IfOk result (IsUndone self.old self.new) }
     {
+        self.values = None;
         undo_last(&mut self.grid, &mut self.steps)
+    }
+
+    /// The line of `values`.
+    pub(crate) fn values(&mut self, alloc: Global) -> Result<Bytes, Memory>
+        ensures line { IfOk result (λ line. line ≡ values_line self.old.rows) }
+        ensures same { self.new ≡ self.old }
+    {
+        values_line(alloc, &self.grid, &mut self.values)
     }
 }
 
@@ -100,6 +118,32 @@ fn edited(grid: &mut Grid, command: &Command) -> Result<Undo, GridFault>
             let _rows = grid.rows();
             Err(GridFault::OutOfGrid)
         }
+    }
+}
+
+/// Edits the rows, and follows with what is kept of values.
+fn edit_sheet(
+    grid: &mut Grid,
+    steps: &mut Steps,
+    values: &mut Option<grid_formulas::Sheet>,
+    command: &Command,
+) -> Result<(), GridFault>
+    requires capacity { steps.old.capacity ≡ most_undos }
+    requires can { CanUndo grid.old steps.old.items }
+    requires values { AreOf grid.old values.old }
+    ensures capacity { steps.new.capacity ≡ most_undos }
+    ensures can { CanUndo grid.new steps.new.items }
+    ensures values { AreOf grid.new values.new }
+    ensures ok { OnOk result (IsEdited (after_edit grid.old command.now) (edited_of grid.old steps.old) (edited_of grid.new steps.new)) }
+    ensures refused { IfErr result (IsRefusal (after_edit grid.old command.now)) }
+    ensures kept { OnErr result (edited_of grid.new steps.new ≡ edited_of grid.old steps.old) }
+{
+    match edit_rows(grid, steps, command) {
+        Ok(()) => {
+            follow(values, grid, command);
+            return Ok(());
+        }
+        Err(fault) => return Err(fault),
     }
 }
 

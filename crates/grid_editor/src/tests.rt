@@ -1,5 +1,6 @@
 //! Scripts over a host by a script: each line that is written, and how many requests were sent.
 mod commands;
+mod formulas;
 mod scripts;
 mod undoing;
 

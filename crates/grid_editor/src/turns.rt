@@ -190,6 +190,7 @@ pub(crate) fn done(alloc: Global, sheet: &mut Sheet, command: &Command) -> Resul
 {
     match command {
         Command::Show => sheet.write(),
+        Command::Values => sheet.values(alloc),
         Command::Undo => undone(alloc, sheet),
         _ => edited(alloc, sheet, command),
     }

@@ -39,6 +39,9 @@ fn bare(line: &[u8]) -> Option<Command>
     if line == b"show".as_slice() {
         return Some(Command::Show);
     }
+    if line == b"values".as_slice() {
+        return Some(Command::Values);
+    }
     if line == b"undo".as_slice() {
         return Some(Command::Undo);
     }

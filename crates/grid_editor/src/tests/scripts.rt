@@ -39,22 +39,24 @@ fn a_set_has_the_rest_of_its_line(rt: HostRuntime) -> Result<(), Fail> {
 
 #[test]
 fn each_command_is_read(rt: HostRuntime) -> Result<(), Fail> {
-    let text = b"open\ninsrow 1\ndelrow 2\ninscol 3\ndelcol 4\nshow\nundo\nsave\nsaveas b c.csv\n\
+    let text =
+        b"open\ninsrow 1\ndelrow 2\ninscol 3\ndelcol 4\nshow\nvalues\nundo\nsave\nsaveas b c.csv\n\
 refresh\nclose\n";
     let script = Script::read(rt.alloc(), text)?;
-    assert_eq!(rt; script.len(), 11);
+    assert_eq!(rt; script.len(), 12);
     assert!(rt; matches!(script.get(0), Some(Command::Open)));
     assert!(rt; matches!(script.get(1), Some(Command::InsRow { row: 1 })));
     assert!(rt; matches!(script.get(2), Some(Command::DelRow { row: 2 })));
     assert!(rt; matches!(script.get(3), Some(Command::InsCol { column: 3 })));
     assert!(rt; matches!(script.get(4), Some(Command::DelCol { column: 4 })));
     assert!(rt; matches!(script.get(5), Some(Command::Show)));
-    assert!(rt; matches!(script.get(6), Some(Command::Undo)));
-    assert!(rt; matches!(script.get(7), Some(Command::Save)));
-    assert_eq!(rt; name_of(script.get(8)), "b c.csv");
-    assert!(rt; matches!(script.get(9), Some(Command::Refresh)));
-    assert!(rt; matches!(script.get(10), Some(Command::Close)));
-    assert!(rt; script.get(11).is_none());
+    assert!(rt; matches!(script.get(6), Some(Command::Values)));
+    assert!(rt; matches!(script.get(7), Some(Command::Undo)));
+    assert!(rt; matches!(script.get(8), Some(Command::Save)));
+    assert_eq!(rt; name_of(script.get(9)), "b c.csv");
+    assert!(rt; matches!(script.get(10), Some(Command::Refresh)));
+    assert!(rt; matches!(script.get(11), Some(Command::Close)));
+    assert!(rt; script.get(12).is_none());
     Ok(())
 }
 
@@ -74,7 +76,7 @@ fn the_last_line_may_lack_its_line_feed(rt: HostRuntime) -> Result<(), Fail> {
     Ok(())
 }
 
-const BAD: [&[u8]; 13] = [
+const BAD: [&[u8]; 14] = [
     b"Open",
     b"open ",
     b" open",
@@ -85,6 +87,7 @@ const BAD: [&[u8]; 13] = [
     b"insrow",
     b"insrow -1",
     b"delcol 1 ",
+    b"values ",
     b"saveas",
     b"saveas a/b",
     b"save as",
