@@ -1,8 +1,8 @@
--- What holds of one session in a world, and that it goes on as the history, the requests, the replies and the told
--- outcomes grow.
+-- What holds of one session beside a history, and that it goes on as the history grows, as requests of the session arrive, and as it sends
+-- and tells.
 use Rattle.std.proofs.Common.{◌≡◌, ◌≢◌, ◌⊎◌, ℕ, ◌+◌, ◌<◌, Bool, List, [], ◌∷◌, ◌++◌, length, Option, None, Some, unwrap_or, sym, ap, subst, ◌∙◌, inl, inr, arith}
-use Rattle.std.specs.List.{slice_get}
-use Rattle.std.proofs.lemmas.List.{length-append}
+use Rattle.std.proofs.lemmas.List.Elements.{Contains-append_left, Contains-push, Contains-push_cases}
+use Rattle.std.specs.List.{slice_get, Contains}
 use Rattle.wopi_model.specs.declared.calls.Ruling.{Ruling}
 use Rattle.wopi_model.specs.Shard.{Shard, Step}
 use Rattle.wopi_world.specs.History.{Item, Ran, IsAllowed, Along, happens, after}
@@ -15,7 +15,8 @@ use Rattle.save_session.specs.declared.state.Phase.TheVariants.{New, Working, En
 use Rattle.save_session.specs.declared.output.Outcome.TheVariants.{Opened, Read as WasRead, Saved, Refreshed, Closed, Conflict as InConflict, LockLost, TooLarge, HostFault, TokenDead, Gone, NoAnswer}
 use Rattle.wopi_world.specs.Requests.{sent_with, Sent, Info, TakeLock, Get, Put, Relock, RefreshLock, Unlock}
 use Rattle.wopi_world.specs.Requests.{Client}
-use Rattle.wopi_world.specs.World.{Request, Reply, Told, Member}
+use Rattle.wopi_world.specs.World.{Told}
+use Rattle.wopi_world.specs.Talks.{Speaker, Came}
 use Rattle.wopi_world.specs.Safe.{contents_in, IsSave, IsNoSave}
 use Rattle.wopi_world.proofs.Held.{same_holder, not_both}
 use Rattle.wopi_world.proofs.Moving.{own_file, IsUnder, IsGone, IsStaged, Moves, remains_out, taken, kept, saved, relocked, ended, ComesAt, staged-happens, gone-moves, HasMark, mark-happens, moves}
@@ -31,29 +32,24 @@ pub record Ground (client : Client) (start shard : Shard) (history : List Item) 
   pub staged : IsStaged client shard
   pub used : HasMark client (own_file client shard) → WasUsed client history
 
-abbrev pub WasSent : ℕ → List Request → Sent → Type 0
-WasSent s requests op = (r : ℕ) × (slice_get requests r ≡ Some (record { sender = s; op = op }))
-
 -- the session told that it opened, with the contents of that shard
 abbrev pub OpenedWith : Client → List Told → Shard → Type 0
 OpenedWith client told shard =
     (place : ℕ) × (one : Told) × (version : Option ℕ) × (slice_get told place ≡ Some one) × (one.outcome ≡ Opened version)
     × (contents_in client shard ≡ Some one.contents)
 
-abbrev pub SavesSent : Client → ℕ → Shard → List Item → List Request → Type 0
-SavesSent client s start history requests =
-    Along (λ at item. (j : ℕ) (d : List ℕ) → IsSave client j d item → WasSent s requests (Put j d)) start history
+-- each accepted save was sent
+abbrev pub SavesSent : Client → Shard → List Item → List Sent → Type 0
+SavesSent client start history sent =
+    Along (λ at item. (j : ℕ) (d : List ℕ) → IsSave client j d item → Contains sent (Put j d)) start history
 
-pub record Holds (client : Client) (s : ℕ) (start shard : Shard) (history : List Item) (requests : List Request) (replies : List Reply) (member : Member) : Type 0 where
+pub record Holds (client : Client) (start shard : Shard) (history : List Item) (speaker : Speaker) (came : List Came) : Type 0 where
   pub ground : Ground client start shard history
-  pub knows : Knows client start shard history (WasSent s requests) member.told member.session
-  pub asked : (r : ℕ) (w : Waiting) → member.asked ≡ Some r → member.session.waits ≡ Some w → slice_get requests r ≡ Some (record { sender = s; op = sent_with member.session.body w.op })
-  pub saves_sent : SavesSent client s start history requests
-  pub replied : (p : ℕ) (reply : Reply) (r : ℕ) → slice_get replies p ≡ Some reply → reply.request ≡ Some r → r < length requests
-  pub replies_hold : (p : ℕ) (reply : Reply) (r : ℕ) (op : Sent) → slice_get replies p ≡ Some reply → reply.request ≡ Some r →
-      slice_get requests r ≡ Some (record { sender = s; op = op }) → ReplyHolds client start shard history op reply.ruling
-  pub told_holds : (place : ℕ) (one : Told) → slice_get member.told place ≡ Some one → OutcomeHolds client start shard history one.number one.contents one.outcome
-  pub first : AtFirstSave client (OpenedWith client member.told) start history
+  pub knows : Knows client start shard history (Contains speaker.sent) speaker.told speaker.session
+  pub saves_sent : SavesSent client start history speaker.sent
+  pub came_holds : (one : Came) → Contains came one → ReplyHolds client start shard history one.sent one.ruling
+  pub told_holds : (place : ℕ) (one : Told) → slice_get speaker.told place ≡ Some one → OutcomeHolds client start shard history one.number one.contents one.outcome
+  pub first : AtFirstSave client (OpenedWith client speaker.told) start history
 
 -- the history grows
 
@@ -147,11 +143,11 @@ ground-push client start shard history item g allowed comes =
       ];
     }
 
-pub holds-push : (client : Client) (s : ℕ) (start shard : Shard) (history : List Item) (requests : List Request) (replies : List Reply) (member : Member) (item : Item) →
-    Holds client s start shard history requests replies member → IsAllowed shard item → ComesAt client shard item →
-    ((j : ℕ) (d : List ℕ) → IsSave client j d item → WasSent s requests (Put j d)) →
-    Holds client s start (happens shard item) (history ++ item ∷ []) requests replies member
-holds-push client s start shard history requests replies member item h allowed comes sends =
+pub holds-push : (client : Client) (start shard : Shard) (history : List Item) (speaker : Speaker) (came : List Came) (item : Item) →
+    Holds client start shard history speaker came → IsAllowed shard item → ComesAt client shard item →
+    ((j : ℕ) (d : List ℕ) → IsSave client j d item → Contains speaker.sent (Put j d)) →
+    Holds client start (happens shard item) (history ++ item ∷ []) speaker came
+holds-push client start shard history speaker came item h allowed comes sends =
     let mv = moves client shard item h.ground.staged allowed comes in
     let next = happens shard item in
     let longer = history ++ item ∷ [] in
@@ -159,118 +155,69 @@ holds-push client s start shard history requests replies member item h allowed c
     record {
       ground = ground-push client start shard history item h.ground allowed comes;
       knows = record {
-        ops = λ op sent. op-later client start shard history next longer l member.told member.session.number member.session.used op (h.knows.ops op sent);
+        ops = λ op sent. op-later client start shard history next longer l speaker.told speaker.session.number speaker.session.used op (h.knows.ops op sent);
         same = h.knows.same;
-        phase = phase-later client start shard history next longer l member.told member.session.number member.session.phase h.knows.phase;
+        phase = phase-later client start shard history next longer l speaker.told speaker.session.number speaker.session.phase h.knows.phase;
         waits = h.knows.waits;
       };
-      asked = h.asked;
-      saves_sent = Along-append (λ at one. (j : ℕ) (d : List ℕ) → IsSave client j d one → WasSent s requests (Put j d)) start history (item ∷ []) h.saves_sent (sends, tt);
-      replied = h.replied;
-      replies_hold = λ p reply r op a b c. reply-later client start shard history next longer l op reply.ruling (h.replies_hold p reply r op a b c);
+      saves_sent = Along-append (λ at one. (j : ℕ) (d : List ℕ) → IsSave client j d one → Contains speaker.sent (Put j d)) start history (item ∷ []) h.saves_sent (sends, tt);
+      came_holds = λ one there. reply-later client start shard history next longer l one.sent one.ruling (h.came_holds one there);
       told_holds = λ place one e. outcome-later client start shard history next longer l one.number one.contents one.outcome (h.told_holds place one e);
-      first = first_save_push client (OpenedWith client member.told) start history item h.first (λ none j d save.
+      first = first_save_push client (OpenedWith client speaker.told) start history item h.first (λ none j d save.
           let op = h.knows.ops (Put j d) (sends j d save) in
-          let opened : HasOpened member.told = op.3 in
+          let opened : HasOpened speaker.told = op.3 in
           let fresh : IsFresh client start shard history opened.1.contents =
           subst (OutcomeHolds client start shard history opened.1.number opened.1.contents) opened.4 (h.told_holds opened.0 opened.1 opened.3) in
           let found = carried client opened.1.contents shard j (saves_under client shard item j d mv save).before (fresh none) in
           (opened.0, opened.1, opened.2, opened.3, opened.4, subst (λ (x : Shard). contents_in client x ≡ Some opened.1.contents) (sym h.ground.is_after) found));
     }
 
--- a reply is listed
+-- a request arrived
 
-pub holds-reply : (client : Client) (s : ℕ) (start shard : Shard) (history : List Item) (requests : List Request) (replies : List Reply) (member : Member) (reply : Reply) →
-    Holds client s start shard history requests replies member →
-    ((r : ℕ) → reply.request ≡ Some r → r < length requests) →
-    ((r : ℕ) (op : Sent) → reply.request ≡ Some r → slice_get requests r ≡ Some (record { sender = s; op = op }) → ReplyHolds client start shard history op reply.ruling) →
-    Holds client s start shard history requests (replies ++ reply ∷ []) member
-holds-reply client s start shard history requests replies member reply h bound new =
+pub holds-came : (client : Client) (start shard : Shard) (history : List Item) (speaker : Speaker) (came : List Came) (new : Came) →
+    Holds client start shard history speaker came → ReplyHolds client start shard history new.sent new.ruling →
+    Holds client start shard history speaker (came ++ new ∷ [])
+holds-came client start shard history speaker came new h holds =
     record {
       ground = h.ground;
       knows = h.knows;
-      asked = h.asked;
       saves_sent = h.saves_sent;
-      replied = λ p one r a b. elim (get_back replies reply p one a) [
-        | inl old ↦ h.replied p one r old b
-        | inr same ↦ bound r (ap (λ (x : Reply). x.request) same.1 ∙ b)
-      ];
-      replies_hold = λ p one r op a b c. elim (get_back replies reply p one a) [
-        | inl old ↦ h.replies_hold p one r op old b c
-        | inr same ↦ subst (λ (x : Reply). ReplyHolds client start shard history op x.ruling) same.1 (new r op (ap (λ (x : Reply). x.request) same.1 ∙ b) c)
+      came_holds = λ one there. elim (Contains-push_cases came new one there) [
+        | inl old ↦ h.came_holds one old
+        | inr same ↦ subst (λ (x : Came). ReplyHolds client start shard history x.sent x.ruling) same holds
       ];
       told_holds = h.told_holds;
       first = h.first;
     }
 
--- requests are sent
+-- the session sends
 
-was_sent_more : (s : ℕ) (requests : List Request) (request : Request) (op : Sent) → WasSent s requests op → WasSent s (requests ++ request ∷ []) op
-was_sent_more s requests request op h = (h.0, get_left requests (request ∷ []) h.0 (record { sender = s; op = op }) h.1)
+saves_sent_more : (client : Client) (start : Shard) (history : List Item) (sent : List Sent) (op : Sent) →
+    SavesSent client start history sent → SavesSent client start history (sent ++ op ∷ [])
+saves_sent_more client start history sent op h =
+    Along-weaker (λ at one. (j : ℕ) (d : List ℕ) → IsSave client j d one → Contains sent (Put j d))
+    (λ at one. (j : ℕ) (d : List ℕ) → IsSave client j d one → Contains (sent ++ op ∷ []) (Put j d))
+    (λ at one f j d save. Contains-append_left sent (op ∷ []) (Put j d) (f j d save)) start history h
 
-saves_sent_more : (client : Client) (s : ℕ) (start : Shard) (history : List Item) (requests : List Request) (request : Request) →
-    SavesSent client s start history requests → SavesSent client s start history (requests ++ request ∷ [])
-saves_sent_more client s start history requests request h =
-    Along-weaker (λ at one. (j : ℕ) (d : List ℕ) → IsSave client j d one → WasSent s requests (Put j d))
-    (λ at one. (j : ℕ) (d : List ℕ) → IsSave client j d one → WasSent s (requests ++ request ∷ []) (Put j d))
-    (λ at one f j d save. was_sent_more s requests request (Put j d) (f j d save)) start history h
-
-bound_more : (requests : List Request) (request : Request) (r : ℕ) → r < length requests → r < length (requests ++ request ∷ [])
-bound_more requests request r h = omega (arith, length-append requests (request ∷ []))
-
--- by another session
-pub holds-other : (client : Client) (s : ℕ) (start shard : Shard) (history : List Item) (requests : List Request) (replies : List Reply) (member : Member) (request : Request) →
-    Holds client s start shard history requests replies member → request.sender ≢ s → Holds client s start shard history (requests ++ request ∷ []) replies member
-holds-other client s start shard history requests replies member request h other =
-    let back : (op : Sent) → WasSent s (requests ++ request ∷ []) op → WasSent s requests op = λ op sent.
-    elim (get_back requests request sent.0 (record { sender = s; op = op }) sent.1) [
-      | inl old ↦ (sent.0, old)
-      | inr new ↦ absurd (other (ap (λ (x : Request). x.sender) new.1))
-    ] in
+pub holds-send : (client : Client) (start shard : Shard) (history : List Item) (speaker : Speaker) (came : List Came) (session : State) (op : Sent) →
+    Holds client start shard history speaker came → SendHolds client start shard history (Contains speaker.sent) speaker.told session op →
+    Holds client start shard history (record { session = session; sent = speaker.sent ++ op ∷ []; told = speaker.told }) came
+holds-send client start shard history speaker came session op h sh =
+    let sent = speaker.sent in
     record {
       ground = h.ground;
       knows = record {
-        ops = λ op sent. h.knows.ops op (back op sent);
-        same = λ j c d a b. h.knows.same j c d (back (Put j c) a) (back (Put j d) b);
-        phase = h.knows.phase;
-        waits = λ w e. let k = h.knows.waits w e in (k.0, was_sent_more s requests request (sent_with member.session.body w.op) k.1);
-      };
-      asked = λ r w a b. get_left requests (request ∷ []) r (record { sender = s; op = sent_with member.session.body w.op }) (h.asked r w a b);
-      saves_sent = saves_sent_more client s start history requests request h.saves_sent;
-      replied = λ p reply r a b. bound_more requests request r (h.replied p reply r a b);
-      replies_hold = λ p reply r op a b c. elim (get_back requests request r (record { sender = s; op = op }) c) [
-        | inl old ↦ h.replies_hold p reply r op a b old
-        | inr new ↦ absurd (other (ap (λ (x : Request). x.sender) new.1))
-      ];
-      told_holds = h.told_holds;
-      first = h.first;
-    }
-
--- by the session
-pub holds-send : (client : Client) (s : ℕ) (start shard : Shard) (history : List Item) (requests : List Request) (replies : List Reply) (member : Member) (session : State) (op : Sent) →
-    Holds client s start shard history requests replies member → SendHolds client start shard history (WasSent s requests) member.told session op →
-    Holds client s start shard history (requests ++ record { sender = s; op = op } ∷ []) replies (record { session = session; asked = Some (length requests); told = member.told })
-holds-send client s start shard history requests replies member session op h sh =
-    let request : Request = record { sender = s; op = op } in
-    let back : (o : Sent) → WasSent s (requests ++ request ∷ []) o → WasSent s requests o ⊎ (op ≡ o) = λ o sent.
-    elim (get_back requests request sent.0 (record { sender = s; op = o }) sent.1) [
-      | inl old ↦ inl (sent.0, old)
-      | inr new ↦ inr (ap (λ (x : Request). x.op) new.1)
-    ] in
-    record {
-      ground = h.ground;
-      knows = record {
-        ops = λ o sent. elim (back o sent) [
+        ops = λ o there. elim (Contains-push_cases sent op o there) [
           | inl old ↦ sh.ops o old
-          | inr new ↦ subst (OpHolds client shard member.told session.number session.used) new sh.new
+          | inr new ↦ subst (OpHolds client shard speaker.told session.number session.used) new sh.new
         ];
-        same = λ j c d a b. elim (back (Put j c) a) [
-          | inl old_c ↦ elim (back (Put j d) b) [
+        same = λ j c d a b. elim (Contains-push_cases sent op (Put j c) a) [
+          | inl old_c ↦ elim (Contains-push_cases sent op (Put j d) b) [
             | inl old_d ↦ h.knows.same j c d old_c old_d
-            | inr new_d ↦ (subst (IsSameAsSent (WasSent s requests)) new_d sh.same) c old_c
+            | inr new_d ↦ (subst (IsSameAsSent (Contains sent)) new_d sh.same) c old_c
           ]
-          | inr new_c ↦ elim (back (Put j d) b) [
-            | inl old_d ↦ sym ((subst (IsSameAsSent (WasSent s requests)) new_c sh.same) d old_d)
+          | inr new_c ↦ elim (Contains-push_cases sent op (Put j d) b) [
+            | inl old_d ↦ sym ((subst (IsSameAsSent (Contains sent)) new_c sh.same) d old_d)
             | inr new_d ↦ let both : Put j c ≡ Put j d = sym new_c ∙ new_d in cc
           ]
         ];
@@ -278,29 +225,21 @@ holds-send client s start shard history requests replies member session op h sh 
         waits = λ w e.
             let is = sh.waits w e in (
               subst (WaitHolds session.phase session.number) (sym is) sh.waits_for,
-              subst (WasSent s (requests ++ request ∷ [])) (sym is) (length requests, get_new requests request),
+              subst (Contains (sent ++ op ∷ [])) (sym is) (Contains-push sent op),
             );
       };
-      asked = λ r w a b.
-          let place : length requests ≡ r = cc in
-          let is = sh.waits w b in
-          subst (λ (n : ℕ). slice_get (requests ++ request ∷ []) n ≡ Some (record { sender = s; op = sent_with session.body w.op })) place
-          (subst (λ (o : Sent). slice_get (requests ++ request ∷ []) (length requests) ≡ Some (record { sender = s; op = o })) (sym is) (get_new requests request));
-      saves_sent = saves_sent_more client s start history requests request h.saves_sent;
-      replied = λ p reply r a b. bound_more requests request r (h.replied p reply r a b);
-      replies_hold = λ p reply r o a b c. elim (get_back requests request r (record { sender = s; op = o }) c) [
-        | inl old ↦ h.replies_hold p reply r o a b old
-        | inr new ↦ let within = h.replied p reply r a b in let at = new.0 in absurd (omega (arith, within, at))
-      ];
+      saves_sent = saves_sent_more client start history sent op h.saves_sent;
+      came_holds = h.came_holds;
       told_holds = h.told_holds;
       first = h.first;
     }
 
 -- the session tells
-pub holds-tell : (client : Client) (s : ℕ) (start shard : Shard) (history : List Item) (requests : List Request) (replies : List Reply) (member : Member) (session : State) (outcome : Outcome) →
-    Holds client s start shard history requests replies member → TellHolds client start shard history (WasSent s requests) member.told session outcome →
-    Holds client s start shard history requests replies (record { session = session; asked = None; told = told_with member.told session outcome })
-holds-tell client s start shard history requests replies member session outcome h th =
+
+pub holds-tell : (client : Client) (start shard : Shard) (history : List Item) (speaker : Speaker) (came : List Came) (session : State) (outcome : Outcome) →
+    Holds client start shard history speaker came → TellHolds client start shard history (Contains speaker.sent) speaker.told session outcome →
+    Holds client start shard history (record { session = session; sent = speaker.sent; told = told_with speaker.told session outcome }) came
+holds-tell client start shard history speaker came session outcome h th =
     let one : Told = record { number = session.number; outcome = outcome; contents = (unwrap_or session.contents []) } in
     record {
       ground = h.ground;
@@ -310,14 +249,12 @@ holds-tell client s start shard history requests replies member session outcome 
         phase = th.phase;
         waits = λ w e. let bad : None ≡ Some w = sym th.quiet ∙ e in cc;
       };
-      asked = λ r w a b. let bad : None ≡ Some w = sym th.quiet ∙ b in cc;
       saves_sent = h.saves_sent;
-      replied = h.replied;
-      replies_hold = h.replies_hold;
-      told_holds = λ place other e. elim (get_back member.told one place other e) [
+      came_holds = h.came_holds;
+      told_holds = λ place other e. elim (get_back speaker.told one place other e) [
         | inl old ↦ h.told_holds place other old
         | inr new ↦ subst (λ (x : Told). OutcomeHolds client start shard history x.number x.contents x.outcome) new.1 th.true_told
       ];
-      first = first_save_weaker client (OpenedWith client member.told) (OpenedWith client (told_with member.told session outcome))
-          (λ at p. (p.0, p.1, p.2, get_left member.told (one ∷ []) p.0 p.1 p.3, p.4, p.5)) start history h.first;
+      first = first_save_weaker client (OpenedWith client speaker.told) (OpenedWith client (told_with speaker.told session outcome))
+          (λ at p. (p.0, p.1, p.2, get_left speaker.told (one ∷ []) p.0 p.1 p.3, p.4, p.5)) start history h.first;
     }

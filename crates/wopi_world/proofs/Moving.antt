@@ -24,7 +24,7 @@ use Rattle.wopi_model.proofs.Soundness.{same_bytes}
 use Rattle.wopi_model.proofs.Replacing.{acceptance-status}
 use Rattle.wopi_model.proofs.Ended.{accepted_if, ended-entry, ended-happens}
 use Rattle.save_session.specs.LockIds.{lock_id}
-use Rattle.wopi_world.specs.Requests.{Client, Sent, call_of}
+use Rattle.wopi_world.specs.Requests.{Client, Sent, call_of, PresentsNone}
 use Rattle.wopi_world.specs.Safe.{contents_in, IsSave, IsNoSave, IsUnlock, moment_of, Expires, Unlocks, Drops, Ends, IsRestart}
 use Rattle.wopi_world.specs.Sessions.{IsDead, IsUse}
 use Rattle.wopi_world.proofs.Held.{held_id, others_out, accepted-status, HasGone, Under, IsOut, Stage, IsOther, Acts, stays_out, takes, keeps, saves, relocks, frees, same_holder, not_both, gone-settled, HasExpired, under-settled, standing_was, out-settled}
@@ -79,10 +79,10 @@ There file = (lock : Lock) → file.lock ≡ Some lock → exists file ≡ true
 IsOther-unaccepted : (client : Client) (call : Call) (status : ℕ) → status ≢ 200 → IsOther client call status
 IsOther-unaccepted client call status not = (λ j d s. not s.2, λ j s. not s.2)
 
-step_acts : (client : Client) (opened now : ℕ) (file : File) (call : Call) (ruling : Ruling) → Stage client now file → Comes client now file call →
+step_acts : (client : Client) (opened now : ℕ) (file : File) (call : Call) (ruling : Ruling) → Stage client now file → Comes client now file call → call.name ≡ client.token.file →
     IsOutcome file call opened now ruling →
     Acts client now file (after_step file call opened now ruling) call ruling.status × There (after_step file call opened now ruling)
-step_acts client opened now file call ruling s comes outcome =
+step_acts client opened now file call ruling s comes here outcome =
     elim (stepped file call opened now ruling outcome) [
       | inl same ↦ (
         subst (λ (f : File). Acts client now file f call ruling.status) (sym same.0) (nothing client now file call ruling.status s (IsOther-unaccepted client call ruling.status same.1)),
@@ -91,7 +91,7 @@ step_acts client opened now file call ruling s comes outcome =
       | inr went ↦
           let told : ruling.status ≡ 200 = ap (λ (r : Ruling). r.status) went.1 ∙ acceptance-status call.act (effect file call now) in (
             subst (λ (n : ℕ). Acts client now file (after_step file call opened now ruling) call n) (sym told)
-                (subst (λ (f : File). Acts client now file f call 200) (sym went.2) (accepted_acts client opened now file call s comes went.0)),
+                (subst (λ (f : File). Acts client now file f call 200) (sym went.2) (accepted_acts client opened now file call s comes here went.0)),
             subst There (sym went.2) (there_after file call opened now went.0),
           )
     ]
@@ -114,7 +114,7 @@ entry_acts client at entry s comes outcome =
           let same = same_bytes call.name name e in
           let out : IsOutcome (at.files name) call at.opened at.now entry.ruling = subst (λ (n : List ℕ). IsOutcome (at.files n) call at.opened at.now entry.ruling) same outcome in
           subst (λ (n : List ℕ). Acts client at.now (at.files name) (after_step (at.files n) call at.opened at.now entry.ruling) call entry.ruling.status
-          × There (after_step (at.files n) call at.opened at.now entry.ruling)) (sym same) (step_acts client at.opened at.now (at.files name) call entry.ruling s comes out)
+          × There (after_step (at.files n) call at.opened at.now entry.ruling)) (sym same) (step_acts client at.opened at.now (at.files name) call entry.ruling s comes same out)
       | false ↦ λ e.
           let apart : call.name ≢ name = λ same. true≢false (sym ((bytes_eq-Decides call.name name).1 same) ∙ e) in
           (nothing client at.now (at.files name) call entry.ruling.status s (λ j d h. apart h.0, λ j h. apart h.0), s.there)
@@ -142,7 +142,7 @@ there-entry client at entry there outcome =
 -- who calls, where the session's token may be dead
 
 abbrev pub IsBy : Client → Call → Type 0
-IsBy client call = ((number : ℕ) → Presents call.act (lock_id client.nonce number) → ⊥) ⊎ ((op : Sent) × (call ≡ call_of client op))
+IsBy client call = PresentsNone client call ⊎ ((op : Sent) × (call ≡ call_of client op))
 
 who : (client : Client) (now : ℕ) (file : File) (call : Call) → Comes client now file call → IsBy client call
 who client now file call (by_other other) = inl other
@@ -161,14 +161,14 @@ abbrev Rests : Client → File → Call → ℕ → Type 0
 Rests client after call status = IsOut client after × IsOther client call status
 
 dead_step : (client : Client) (opened now : ℕ) (file : File) (call : Call) (ruling : Ruling) → IsOut client file → client.token.issued < opened → IsBy client call →
-    IsOutcome file call opened now ruling → Rests client (after_step file call opened now ruling) call ruling.status
-dead_step client opened now file call ruling out dead by outcome =
+    call.name ≡ client.token.file → IsOutcome file call opened now ruling → Rests client (after_step file call opened now ruling) call ruling.status
+dead_step client opened now file call ruling out dead by here outcome =
     elim (stepped file call opened now ruling outcome) [
       | inl same ↦ (subst (IsOut client) (sym same.0) out, IsOther-unaccepted client call ruling.status same.1)
       | inr went ↦ elim by [
         | inl other ↦ (
-          subst (IsOut client) (sym went.2) (λ number e. others_out client file.lock file call.act call.token.expires now number (out number) (other number) e),
-          IsOther-from client call ruling.status other,
+          subst (IsOut client) (sym went.2) (λ number e. others_out client file.lock file call.act call.token.expires now number (out number) (other here number) e),
+          IsOther-from client call ruling.status (other here),
         )
         | inr own ↦
             let live = accepted_live file call opened now went.0 in
@@ -187,7 +187,7 @@ dead_entry client at entry out dead by outcome =
       | true ↦ λ e.
           let same = same_bytes call.name name e in
           let here : IsOut client (at.files call.name) = subst (λ (n : List ℕ). IsOut client (at.files n)) (sym same) out in
-          dead_step client at.opened at.now (at.files call.name) call entry.ruling here dead by outcome
+          dead_step client at.opened at.now (at.files call.name) call entry.ruling here dead by same outcome
       | false ↦ λ e.
           let apart : call.name ≢ name = λ same. true≢false (sym ((bytes_eq-Decides call.name name).1 same) ∙ e) in
           (out, (λ j d h. apart h.0, λ j h. apart h.0))
@@ -276,13 +276,13 @@ mark-others client file call now other (number, inl held) = (number, inl (was (h
     was : (x : Option (List ℕ)) → held_id file.lock ≡ x → held_id file.lock ≡ Some id
     was x e = elim (same_or x e) [ inl stood ↦ stood | inr apart ↦ absurd (others_out client file.lock file call.act call.token.expires now number apart (other number) held) ]
 
-mark-step : (client : Client) (opened now : ℕ) (file : File) (call : Call) (ruling : Ruling) → IsBy client call → IsOutcome file call opened now ruling →
+mark-step : (client : Client) (opened now : ℕ) (file : File) (call : Call) (ruling : Ruling) → IsBy client call → call.name ≡ client.token.file → IsOutcome file call opened now ruling →
     HasMark client (after_step file call opened now ruling) → HasMark client file ⊎ IsUseBy client call ruling.status
-mark-step client opened now file call ruling by outcome m =
+mark-step client opened now file call ruling by here outcome m =
     elim (stepped file call opened now ruling outcome) [
       | inl same ↦ inl (subst (HasMark client) same.0 m)
       | inr went ↦ elim by [
-        | inl other ↦ inl (mark-others client file call now other (subst (HasMark client) went.2 m))
+        | inl other ↦ inl (mark-others client file call now (other here) (subst (HasMark client) went.2 m))
         | inr own ↦ inr (ap (λ (c : Call). c.token) own.1, ap (λ (r : Ruling). r.status) went.1 ∙ acceptance-status call.act (effect file call now))
       ]
     ]
@@ -296,7 +296,7 @@ mark-entry client at entry by outcome m =
     (elim (bytes_eq call.name name) as (λ b. bytes_eq call.name name ≡ b → HasMark client (cond b new_file (at.files name)) →
     HasMark client (at.files name) ⊎ IsUseBy client call entry.ruling.status) [
       | true ↦ λ e x. subst (λ (n : List ℕ). HasMark client (at.files n) ⊎ IsUseBy client call entry.ruling.status) (same_bytes call.name name e)
-          (mark-step client at.opened at.now (at.files call.name) call entry.ruling by outcome x)
+          (mark-step client at.opened at.now (at.files call.name) call entry.ruling by (same_bytes call.name name e) outcome x)
       | false ↦ λ e x. inl x
     ]) refl m
 

@@ -45,7 +45,7 @@ spaced-push seen [] item h a = (subst (λ (l : List Item). IsAfter l item) (appe
 spaced-push seen (one ∷ history) item h a =
     (h.0, spaced-push (seen ++ one ∷ []) history item h.1 (subst (λ (l : List Item). IsAfter l item) (sym (append_assoc seen (one ∷ []) history)) a))
 
-spaced-split : (seen first rest : List Item) → AreSpaced seen (first ++ rest) → AreSpaced (seen ++ first) rest
+pub spaced-split : (seen first rest : List Item) → AreSpaced seen (first ++ rest) → AreSpaced (seen ++ first) rest
 spaced-split seen [] rest h = subst (λ (l : List Item). AreSpaced l rest) (sym (append-nil seen)) h
 spaced-split seen (item ∷ first) rest h =
     subst (λ (l : List Item). AreSpaced l rest) (append_assoc seen (item ∷ []) first) (spaced-split (seen ++ item ∷ []) first rest h.1)

@@ -1,473 +1,564 @@
--- Every event keeps what holds of each session, and so every world is safe.
-use Rattle.std.proofs.Common.{◌≡◌, ◌≢◌, ◌⊎◌, ◌==◌, ℕ, ◌+◌, ◌<◌, max, Bool, true, false, cond, List, [], ◌∷◌, ◌++◌, length, Option, None, Some, unwrap_or, refl, sym, ap, subst, ◌∙◌, inl, inr, arith}
+-- Each session of a valid world is a talk over the world's history, and so every valid world is safe.
+use Rattle.std.proofs.Common.{◌≡◌, ◌≢◌, ◌⊎◌, ◌==◌, ℕ, ◌+◌, ◌<◌, Bool, true, false, cond, List, [], ◌∷◌, ◌++◌, length, Option, None, Some, unwrap_or, refl, sym, ap, subst, ◌∙◌, inl, inr, arith}
 use Rattle.std.proofs.lemmas.Bool.{cond_both, cases_eq, eqb-true, eq-eqb, ne_eqb}
+use Rattle.std.proofs.lemmas.List.{append_assoc, append-nil, length-append}
+use Rattle.std.proofs.lemmas.List.Elements.{Contains-append_left, Contains-push}
 use Rattle.std.proofs.lemmas.Option.{slice_get_within}
-use Rattle.std.specs.Str.{bytes_eq}
-use Rattle.std.specs.List.{slice_get, AllByRecursion}
-use Rattle.wopi_model.specs.declared.calls.Act.TheVariants as act
-use Rattle.wopi_model.specs.declared.calls.Act.{Act}
+use Rattle.std.specs.List.{slice_get, AllByRecursion, Contains}
 use Rattle.wopi_model.specs.declared.calls.Call.{Call}
 use Rattle.wopi_model.specs.declared.calls.Ruling.{Ruling}
-use Rattle.wopi_model.specs.File.{opened_with}
-use Rattle.wopi_model.specs.declared.locks.Spent.{Spent}
 use Rattle.wopi_model.specs.Step.{bare}
-use Rattle.wopi_model.specs.Safety.{Presents, IsSpentUntil}
-use Rattle.wopi_model.specs.Shard.{Shard, Opening, Tick, at_moment, opening_file}
-use Rattle.wopi_world.specs.History.{Item, Ran, Restarted, IsAllowed, Along, happens, after}
+use Rattle.wopi_model.specs.Safety.{Presents}
+use Rattle.wopi_model.specs.Shard.{Shard, Tick}
 use Rattle.wopi_model.proofs.Replacing.{keeps_contents}
 use Rattle.wopi_model.proofs.Conflicts.{tells_why}
+use Rattle.wopi_headers.specs.declared.answer.Answer.{Answer}
 use Rattle.wopi_acts.specs.Answers.{ruling_told}
-use Rattle.wopi_world.proofs.Lengthening.{Along-weaker}
-use Rattle.wopi_world.proofs.OneRun.{issued}
-use Rattle.wopi_world.proofs.Ids.{keeps_ids}
-use Rattle.wopi_world.proofs.Coming.{answered_in}
-use Rattle.wopi_world.proofs.Fairness.{fair}
 use Rattle.save_session.specs.LockIds.{lock_id}
+use Rattle.save_session.specs.declared.input.Input.{Input}
+use Rattle.save_session.specs.declared.input.Input.TheVariants.{Reply as Replies, NoAnswer}
+use Rattle.save_session.specs.declared.state.SessionOp.{SessionOp}
 use Rattle.save_session.specs.declared.state.State.{State}
+use Rattle.save_session.specs.declared.state.Waiting.{Waiting}
 use Rattle.save_session.specs.declared.state.Effect.{Effect}
 use Rattle.save_session.specs.declared.state.Effect.TheVariants.{Sends, Tells, Ignores}
 use Rattle.save_session.specs.declared.state.Turn.{Turn}
-use Rattle.wopi_world.specs.Requests.{Client, input_of, act_sent, call_of, sent_with, Sent, Info, TakeLock, Get, Put, Relock, RefreshLock, Unlock}
-use Rattle.save_session.specs.declared.input.Input.TheVariants.{Reply as Replies, NoAnswer}
 use Rattle.save_session.specs.Session.{stepped}
-use Rattle.save_session.proofs.Naming.{begins_with_nonce, same_nonce}
-use Rattle.wopi_world.specs.World.{Setting, Request, Reply, Member, World, first_shard, first_world, Event, Asks, Deliver, Answer, Lose, Foreign, Ticks, Entry, Restarts, Fault, Refused, next_first, ruling_in, next_stamp, entry_of, item_of, enters, delivered_by, delivered, replied, Ask, Unread, One, Copy, asks_one, is_taken, tries, foreign, takes, turns, for_client, is_asked, answers_sender, answers_place, answers, refuses, comes, run_from, run}
+use Rattle.wopi_world.specs.History.{Item, Ran, Restarted, IsAllowed, Along}
+use Rattle.wopi_world.specs.Requests.{Client, Wish, Start, Read, Save, Refresh, Close, input_of, sent_with, call_of, Sent, PresentsNone}
+use Rattle.wopi_world.specs.World.{Setting, Request, Reply, Told, Member, World, first_shard, first_world, Event, Asks, Deliver, Answer as Answers, Lose, Foreign, Ticks, Entry, Restarts, Fault, Refused, next_first, ruling_in, item_of, with_item, enters, delivered_by, delivered, replied, Ask, Unread, One, Copy, asks_one, is_taken, tries, foreign, takes, turns, for_client, is_asked, answers_sender, answers_place, answers, refuses, comes, run_from, run}
 use Rattle.wopi_world.specs.Valid.{IsOfNoSession, AskIsOfNoSession, IsValidEvent, AreValid, IsValid}
-use Rattle.wopi_world.specs.Safe.{IsSave, SavesAreOrdered, KeepsAll, TellsAll, IsSafe}
-use Rattle.wopi_world.proofs.Held.{WasHeld, held_id, own_number, under-settled, gone-settled}
-use Rattle.wopi_world.proofs.Acting.{IsReady, by_other, by_session}
-use Rattle.wopi_world.specs.Sessions.{IsDead, KeepsIds}
-use Rattle.wopi_world.proofs.Moving.{own_file, HasMark, same_reopened}
-use Rattle.wopi_world.proofs.Positions.{Along-split, rising_lem, replaced_lem, over_lem, upon_save_lem, first_save_at}
-use Rattle.wopi_world.proofs.Lists.{get_new}
-use Rattle.wopi_world.proofs.Machine.{WasHeldIn, ReplyHolds, OutcomeHolds, OutputHolds, TurnHolds, asked_holds, answered_holds, unanswered_holds}
-use Rattle.wopi_world.proofs.Growing.{WasSent, OpenedWith, Holds, holds-push, holds-reply, holds-other, holds-send, holds-tell}
-use Rattle.wopi_world.proofs.Replying.{ruling_allowed, reply_to_lock, reply_to_relock, conflict_with_next, reply_to_get}
+use Rattle.wopi_world.specs.Safe.{SavesAreOrdered, KeepsAll, TellsAll, IsSafe}
+use Rattle.wopi_world.specs.Sessions.{KeepsIds, IsUse}
+use Rattle.wopi_world.specs.Talks.{Speaker, first_speaker, does, hears, hears_all, told_by, Awaits, Came, IsNoReply, IsOfOthers, TalksOver, IsTalkOver, RestartsLater, IsSafeFor}
+use Rattle.wopi_world.specs.Talks as talk
+use Rattle.wopi_world.proofs.Lists.{get_left, get_new, get_back}
+use Rattle.wopi_world.proofs.Lengthening.{Along-weaker}
+use Rattle.wopi_world.proofs.Moving.{same_reopened}
+use Rattle.wopi_world.proofs.OneRun.{AreSpaced, spaced-split, issued}
+use Rattle.wopi_world.proofs.Coming.{answered_in}
+use Rattle.wopi_world.proofs.Fairness.{fair}
+use Rattle.wopi_world.proofs.Waiting.{WaitsFor, stepped_waits}
+use Rattle.wopi_world.proofs.Seeing.{looks_itself}
+use Rattle.wopi_world.proofs.Naming.{apart_lem}
+use Rattle.wopi_world.proofs.Talking.{talk_lem}
 
--- what holds of the session in the world
-abbrev pub IsKept : Setting → Client → ℕ → World → Type 0
-IsKept setting client s world = Holds client s (first_shard setting) world.shard world.history world.requests world.replies (world.members s)
+-- the session as it is in the world
 
--- entries
+-- what is told of a request came of it, or tells no entry
+abbrev IsOfCome : List Came → Sent → Ruling → Type 0
+IsOfCome came op ruling = Contains came (record { sent = op; ruling = ruling }) ⊎ ((ruling.status ≢ 200) × (ruling.status ≢ 409))
 
-others_enter : (setting : Setting) (client : Client) (s : ℕ) (world : World) (call : Call) (moment : ℕ) → IsKept setting client s world →
-    ((number : ℕ) → Presents call.act (lock_id client.nonce number) → ⊥) → IsKept setting client s (enters world call moment)
-others_enter setting client s world call moment h other =
-    holds-push client s (first_shard setting) world.shard world.history world.requests world.replies (world.members s) (item_of world call moment) h
-    (ruling_allowed world.faulty (at_moment world.shard moment) call) (inl (by_other other))
-    (λ j d save. absurd (other j (subst (λ (a : Act). Presents a (lock_id client.nonce j)) (sym save.1) refl)))
+record Agrees (s : ℕ) (requests : List Request) (replies : List Reply) (member : Member) (speaker : Speaker) (came : List Came) : Type 0 where
+  session_is : member.session ≡ speaker.session
+  told_is : member.told ≡ speaker.told
+  was_sent : (r : ℕ) (op : Sent) → slice_get requests r ≡ Some (record { sender = s; op = op }) → Contains speaker.sent op
+  asked : (r : ℕ) → member.asked ≡ Some r →
+      (w : Waiting) × (member.session.waits ≡ Some w) × (slice_get requests r ≡ Some (record { sender = s; op = sent_with member.session.body w.op }))
+  replied : (p : ℕ) (reply : Reply) (r : ℕ) → slice_get replies p ≡ Some reply → reply.request ≡ Some r → r < length requests
+  came_of : (p : ℕ) (reply : Reply) (r : ℕ) (op : Sent) → slice_get replies p ≡ Some reply → reply.request ≡ Some r →
+      slice_get requests r ≡ Some (record { sender = s; op = op }) → IsOfCome came op reply.ruling
 
-was_held-at_moment : (client : Client) (j : ℕ) (shard : Shard) (moment : ℕ) → WasHeldIn client j shard →
-    WasHeld client j (max shard.now moment) (own_file client (at_moment shard moment)) ⊎ IsDead client shard
-was_held-at_moment client j shard moment (inl u) =
-    elim (under-settled client j shard.now (max shard.now moment) (own_file client shard) (omega arith) u) [
-      | inl still ↦ inl (inl still.0)
-      | inr over ↦ let counted = u.counted in inl (inr (over.1.all j counted (omega arith)))
-    ]
-was_held-at_moment client j shard moment (inr (inl gone)) = inl (inr (gone-settled client j shard.now (max shard.now moment) (own_file client shard) (omega arith) gone))
-was_held-at_moment client j shard moment (inr (inr dead)) = inr dead
+more_come : (came : List Came) (new : Came) (op : Sent) (ruling : Ruling) → IsOfCome came op ruling → IsOfCome (came ++ new ∷ []) op ruling
+more_come came new op ruling (inl there) = inl (Contains-append_left came (new ∷ []) (record { sent = op; ruling = ruling }) there)
+more_come came new op ruling (inr none) = inr none
 
-put_of_act : (client : Client) (op : Sent) (j : ℕ) (d : List ℕ) → act_sent client.nonce op ≡ act.Put (Some (lock_id client.nonce j)) d → op ≡ Put j d
-put_of_act client Info j d h = cc
-put_of_act client TakeLock j d h = cc
-put_of_act client Get j d h = cc
-put_of_act client (Put i c) j d h =
-    let ids : lock_id client.nonce i ≡ lock_id client.nonce j = cc in
-    let numbers = own_number client i j ids in
-    let contents : c ≡ d = cc in
-    cc
-put_of_act client (Relock i) j d h = cc
-put_of_act client (RefreshLock i) j d h = cc
-put_of_act client (Unlock i) j d h = cc
-
-ready : (setting : Setting) (client : Client) (s : ℕ) (world : World) (op : Sent) (moment : ℕ) → IsKept setting client s world → WasSent s world.requests op →
-    IsReady client (max world.shard.now moment) (own_file client (at_moment world.shard moment)) op ⊎ IsDead client world.shard
-ready setting client s world Info moment h sent = inl tt
-ready setting client s world TakeLock moment h sent = inl tt
-ready setting client s world Get moment h sent = inl tt
-ready setting client s world (Put j d) moment h sent = was_held-at_moment client j world.shard moment (h.knows.ops (Put j d) sent).0
-ready setting client s world (Relock j) moment h sent = inl tt
-ready setting client s world (RefreshLock j) moment h sent = inl tt
-ready setting client s world (Unlock j) moment h sent = inl tt
-
-own_enter : (setting : Setting) (client : Client) (s : ℕ) (world : World) (op : Sent) (moment : ℕ) → IsKept setting client s world → WasSent s world.requests op →
-    IsKept setting client s (enters world (call_of client op) moment)
-own_enter setting client s world op moment h sent =
-    holds-push client s (first_shard setting) world.shard world.history world.requests world.replies (world.members s) (item_of world (call_of client op) moment) h
-    (ruling_allowed world.faulty (at_moment world.shard moment) (call_of client op))
-    (elim (ready setting client s world op moment h sent) [ inl able ↦ inl (by_session op refl able) | inr dead ↦ inr (dead, op, refl) ])
-    (λ j d save. subst (WasSent s world.requests) (put_of_act client op j d save.1) sent)
-
--- deliveries
-
-own_reply : (setting : Setting) (client : Client) (s : ℕ) (world : World) (op : Sent) (moment : ℕ) → IsKept setting client s (enters world (call_of client op) moment) →
-    WasSent s world.requests op →
-    ReplyHolds client (first_shard setting) (enters world (call_of client op) moment).shard (enters world (call_of client op) moment).history op (ruling_in world (call_of client op) moment)
-own_reply setting client s world Info moment h sent = tt
-own_reply setting client s world TakeLock moment h sent =
-    reply_to_lock client world.shard moment (next_stamp world) (ruling_in world (call_of client TakeLock) moment)
-    (ruling_allowed world.faulty (at_moment world.shard moment) (call_of client TakeLock)) h.ground.staged
-own_reply setting client s world Get moment h sent =
-    reply_to_get client (first_shard setting) world.shard (enters world (call_of client Get) moment).history moment (next_stamp world) (ruling_in world (call_of client Get) moment)
-    (ruling_allowed world.faulty (at_moment world.shard moment) (call_of client Get)) h.ground.staged (h.knows.ops Get sent)
-own_reply setting client s world (Put j d) moment h sent = λ status. (
-  length world.history,
-  entry_of world (call_of client (Put j d)) moment,
-  d,
-  get_new world.history (item_of world (call_of client (Put j d)) moment),
-  (refl, refl, status),
-  refl,
-)
-own_reply setting client s world (Relock j) moment h sent = (
-  reply_to_relock client world.shard j moment (next_stamp world) (ruling_in world (call_of client (Relock j)) moment)
-      (ruling_allowed world.faulty (at_moment world.shard moment) (call_of client (Relock j))) h.ground.staged,
-  conflict_with_next client world.shard (Relock j) (j + 1) moment (next_stamp world) (ruling_in world (call_of client (Relock j)) moment)
-      (ruling_allowed world.faulty (at_moment world.shard moment) (call_of client (Relock j))) h.ground.staged,
-)
-own_reply setting client s world (RefreshLock j) moment h sent = tt
-own_reply setting client s world (Unlock j) moment h sent = tt
-
-within : (requests : List Request) (place r : ℕ) (request : Request) → slice_get requests place ≡ Some request → Some place ≡ Some r → r < length requests
-within requests place r request e same =
-    let at : place ≡ r = cc in
-    subst (λ (n : ℕ). n < length requests) at (slice_get_within requests place request e)
-
-one_request : (requests : List Request) (place r : ℕ) (one other : Request) → slice_get requests place ≡ Some one → Some place ≡ Some r → slice_get requests r ≡ Some other → one ≡ other
-one_request requests place r one other e same get =
-    let at : place ≡ r = cc in
-    let both : Some one ≡ Some other = sym e ∙ ap (slice_get requests) at ∙ get in
-    cc
-
-own_delivered : (setting : Setting) (client : Client) (s : ℕ) (world : World) (place moment : ℕ) (op : Sent) → IsKept setting client s world →
-    slice_get world.requests place ≡ Some (record { sender = s; op = op }) → IsKept setting client s (delivered_by world place moment op (Some client))
-own_delivered setting client s world place moment op h e =
-    let call = call_of client op in
-    let next = enters world call moment in
-    let entered = own_enter setting client s world op moment h (place, e) in
-    holds-reply client s (first_shard setting) next.shard next.history next.requests next.replies (next.members s)
-    (record { request = Some place; before = length world.history; after = length next.history; ruling = ruling_in world call moment }) entered
-    (λ r same. within world.requests place r (record { sender = s; op = op }) e same)
-    (λ r other same get.
-    let ops : op ≡ other = ap (λ (x : Request). x.op) (one_request world.requests place r (record { sender = s; op = op }) (record { sender = s; op = other }) e same get) in
-    subst (λ (o : Sent). ReplyHolds client (first_shard setting) next.shard next.history o (ruling_in world call moment)) ops (own_reply setting client s world op moment entered (place, e)))
-
-others_delivered : (setting : Setting) (client other : Client) (s t : ℕ) (world : World) (place moment : ℕ) (op : Sent) → IsKept setting client s world →
-    slice_get world.requests place ≡ Some (record { sender = t; op = op }) → t ≢ s →
-    ((number : ℕ) → Presents (act_sent other.nonce op) (lock_id client.nonce number) → ⊥) → IsKept setting client s (delivered_by world place moment op (Some other))
-others_delivered setting client other s t world place moment op h e apart free =
-    let call = call_of other op in
-    let next = enters world call moment in
-    let entered = others_enter setting client s world call moment h free in
-    holds-reply client s (first_shard setting) next.shard next.history next.requests next.replies (next.members s)
-    (record { request = Some place; before = length world.history; after = length next.history; ruling = ruling_in world call moment }) entered
-    (λ r same. within world.requests place r (record { sender = t; op = op }) e same)
-    (λ r own same get.
-    absurd (apart (ap (λ (x : Request). x.sender) (one_request world.requests place r (record { sender = t; op = op }) (record { sender = s; op = own }) e same get))))
-
--- another session presents ids of its own
-
-presented : (nonce : List ℕ) (op : Sent) (id : List ℕ) → Presents (act_sent nonce op) id → (i : ℕ) × (lock_id nonce i ≡ id)
-presented nonce Info id h = absurd h
-presented nonce TakeLock id h = (1, h)
-presented nonce Get id h = absurd h
-presented nonce (Put j d) id h = (j, h)
-presented nonce (Relock j) id (inl h) = (j, h)
-presented nonce (Relock j) id (inr h) = (j + 1, h)
-presented nonce (RefreshLock j) id h = (j, h)
-presented nonce (Unlock j) id h = (j, h)
-
-free_of : (setting : Setting) (events : List Event) → IsValid setting events → (s t : ℕ) (client other : Client) → slice_get setting.clients s ≡ Some client →
-    slice_get setting.clients t ≡ Some other → t ≢ s → (op : Sent) (number : ℕ) → Presents (act_sent other.nonce op) (lock_id client.nonce number) → ⊥
-free_of setting events valid s t client other e f apart op number h =
-    let p = presented other.nonce op (lock_id client.nonce number) h in
-    let mine = begins_with_nonce client.nonce number in
-    let theirs = begins_with_nonce other.nonce p.0 in
-    let joined : other.nonce ++ 45 ∷ theirs.0 ≡ client.nonce ++ 45 ∷ mine.0 = sym theirs.1 ∙ p.1 ∙ mine.1 in
-    apart (valid.different t s other client f e (same_nonce other.nonce client.nonce theirs.0 mine.0 (valid.plain t other f) (valid.plain s client e) joined))
-
-is_same_client : (setting : Setting) (s t : ℕ) (client other : Client) → slice_get setting.clients s ≡ Some client → slice_get setting.clients t ≡ Some other → t ≡ s → client ≡ other
-is_same_client setting s t client other e f same =
-    let both : Some client ≡ Some other = sym e ∙ ap (slice_get setting.clients) (sym same) ∙ f in
-    cc
-
--- turns
-
-own_takes : (setting : Setting) (client : Client) (s : ℕ) (world : World) (session : State) (output : Effect) → IsKept setting client s world →
-    OutputHolds client (first_shard setting) world.shard world.history (WasSent s world.requests) (world.members s).told session output →
-    IsKept setting client s (takes world s (world.members s) session output)
-own_takes setting client s world session (Sends op) h o =
-    let member : Member = record { session = session; asked = Some (length world.requests); told = (world.members s).told } in
-    subst (λ (b : Bool). Holds client s (first_shard setting) world.shard world.history (world.requests ++ record { sender = s; op = sent_with session.body op } ∷ []) world.replies (cond b member (world.members s)))
-    (sym (eq-eqb s s refl)) (holds-send client s (first_shard setting) world.shard world.history world.requests world.replies (world.members s) session (sent_with session.body op) h o)
-own_takes setting client s world session (Tells outcome) h o =
-    let member : Member = record {
-      session = session;
-      asked = None;
-      told = (world.members s).told ++ record { number = session.number; outcome = outcome; contents = (unwrap_or session.contents []) } ∷ [];
-    } in
-    subst (λ (b : Bool). Holds client s (first_shard setting) world.shard world.history world.requests world.replies (cond b member (world.members s)))
-    (sym (eq-eqb s s refl)) (holds-tell client s (first_shard setting) world.shard world.history world.requests world.replies (world.members s) session outcome h o)
-own_takes setting client s world session (Ignores input) h o = h
-
-own_turns : (setting : Setting) (client : Client) (s : ℕ) (world : World) (turn : Turn) → IsKept setting client s world →
-    TurnHolds client (first_shard setting) world.shard world.history (WasSent s world.requests) (world.members s).told turn → IsKept setting client s (turns world s turn)
-own_turns setting client s world turn h t = own_takes setting client s world turn.session turn.effect h t
-
-others_take : (setting : Setting) (client : Client) (s t : ℕ) (world : World) (session : State) (output : Effect) → t ≢ s → IsKept setting client s world →
-    IsKept setting client s (takes world t (world.members t) session output)
-others_take setting client s t world session (Sends op) apart h =
-    let member : Member = record { session = session; asked = Some (length world.requests); told = (world.members t).told } in
-    subst (λ (b : Bool). Holds client s (first_shard setting) world.shard world.history (world.requests ++ record { sender = t; op = sent_with session.body op } ∷ []) world.replies (cond b member (world.members s)))
-    (sym (ne_eqb s t (λ e. apart (sym e)))) (holds-other client s (first_shard setting) world.shard world.history world.requests world.replies (world.members s) (record { sender = t; op = sent_with session.body op }) h apart)
-others_take setting client s t world session (Tells outcome) apart h =
-    let member : Member = record {
-      session = session;
-      asked = None;
-      told = (world.members t).told ++ record { number = session.number; outcome = outcome; contents = (unwrap_or session.contents []) } ∷ [];
-    } in
-    subst (λ (b : Bool). Holds client s (first_shard setting) world.shard world.history world.requests world.replies (cond b member (world.members s)))
-    (sym (ne_eqb s t (λ e. apart (sym e)))) h
-others_take setting client s t world session (Ignores input) apart h = h
-
-for_client_holds : (setting : Setting) (client : Client) (s : ℕ) (world : World) (found : Option Client) (body : Client → World) → IsKept setting client s world →
-    ((other : Client) → found ≡ Some other → IsKept setting client s (body other)) → IsKept setting client s (for_client world found body)
-for_client_holds setting client s world None body h f = h
-for_client_holds setting client s world (Some other) body h f = f other refl
-
-asks_holds : (setting : Setting) (client other : Client) (s t : ℕ) (world : World) (turn : List ℕ → ℕ → Turn) → slice_get setting.clients s ≡ Some client →
-    slice_get setting.clients t ≡ Some other → IsKept setting client s world →
-    TurnHolds client (first_shard setting) world.shard world.history (WasSent s world.requests) (world.members s).told (turn client.nonce s) →
-    IsKept setting client s (turns world t (turn other.nonce t))
-asks_holds setting client other s t world turn mine theirs h own =
-    elim (cases_eq t s) [
-      | inl same ↦
-          subst (λ (n : ℕ). IsKept setting client s (turns world n (turn other.nonce n))) (sym same)
-          (subst (λ (c : Client). IsKept setting client s (turns world s (turn c.nonce s))) (is_same_client setting s t client other mine theirs same)
-          (own_turns setting client s world (turn client.nonce s) h own))
-      | inr apart ↦ others_take setting client s t world (turn other.nonce t).session (turn other.nonce t).effect apart h
-    ]
-
--- answers
-
-asked_only : (asked_for : Option ℕ) (place : ℕ) → is_asked asked_for place ≡ true → asked_for ≡ Some place
-asked_only None place h = cc
-asked_only (Some own) place h = ap (λ (n : ℕ). Some n) (eqb-true own place h)
-
-own_answered : (setting : Setting) (client : Client) (s : ℕ) (world : World) (p : ℕ) (reply : Reply) (place : ℕ) → IsKept setting client s world →
-    slice_get world.replies p ≡ Some reply → reply.request ≡ Some place → IsKept setting client s (answered_in world client.nonce place reply.ruling s)
-own_answered setting client s world p reply place h e request =
-    let member = world.members s in
-    cond_both (is_asked member.asked place) (turns world s (stepped client.nonce member.session (Replies (ruling_told reply.ruling)))) world (IsKept setting client s)
-    (λ t. own_turns setting client s world (stepped client.nonce member.session (Replies (ruling_told reply.ruling))) h
-    (answered_holds client (first_shard setting) world.shard world.history (WasSent s world.requests) member.told member.session h.knows reply.ruling
-    (λ w waits. h.replies_hold p reply place (sent_with member.session.body w.op) e request (h.asked place w (asked_only member.asked place t) waits))))
-    (λ f. h)
-
-others_answered : (setting : Setting) (client : Client) (s t : ℕ) (world : World) (nonce : List ℕ) (place : ℕ) (ruling : Ruling) → t ≢ s → IsKept setting client s world →
-    IsKept setting client s (answered_in world nonce place ruling t)
-others_answered setting client s t world nonce place ruling apart h =
-    let turn = stepped nonce (world.members t).session (Replies (ruling_told ruling)) in
-    cond_both (is_asked (world.members t).asked place) (turns world t turn) world (IsKept setting client s)
-    (λ e. others_take setting client s t world turn.session turn.effect apart h) (λ f. h)
-
-answers_sender_holds : (setting : Setting) (client : Client) (s : ℕ) (world : World) (p : ℕ) (reply : Reply) (place : ℕ) (found : Option Request) →
-    slice_get setting.clients s ≡ Some client → IsKept setting client s world → slice_get world.replies p ≡ Some reply → reply.request ≡ Some place →
-    IsKept setting client s (answers_sender setting world place reply.ruling found)
-answers_sender_holds setting client s world p reply place None own h e request = h
-answers_sender_holds setting client s world p reply place (Some one) own h e request =
-    for_client_holds setting client s world (slice_get setting.clients one.sender) (λ other. answered_in world other.nonce place reply.ruling one.sender) h
-    (λ other f. elim (cases_eq one.sender s) [
-      | inl same ↦
-          let clients = is_same_client setting s one.sender client other own f same in
-          subst (λ (n : ℕ). IsKept setting client s (answered_in world other.nonce place reply.ruling n)) (sym same)
-          (subst (λ (c : Client). IsKept setting client s (answered_in world c.nonce place reply.ruling s)) clients
-          (own_answered setting client s world p reply place h e request))
-      | inr apart ↦ others_answered setting client s one.sender world other.nonce place reply.ruling apart h
-    ])
-
-answers_place_holds : (setting : Setting) (client : Client) (s : ℕ) (world : World) (p : ℕ) (reply : Reply) (place : Option ℕ) →
-    slice_get setting.clients s ≡ Some client → IsKept setting client s world → slice_get world.replies p ≡ Some reply → reply.request ≡ place →
-    IsKept setting client s (answers_place setting world reply.ruling place)
-answers_place_holds setting client s world p reply None own h e request = h
-answers_place_holds setting client s world p reply (Some place) own h e request =
-    answers_sender_holds setting client s world p reply place (slice_get world.requests place) own h e request
-
-answers_holds : (setting : Setting) (client : Client) (s : ℕ) (world : World) (p : ℕ) (found : Option Reply) →
-    slice_get setting.clients s ≡ Some client → IsKept setting client s world → slice_get world.replies p ≡ found → IsKept setting client s (answers setting world found)
-answers_holds setting client s world p None own h e = h
-answers_holds setting client s world p (Some reply) own h e = answers_place_holds setting client s world p reply reply.request own h e refl
-
--- deliveries, by who sent
-
-delivered_holds : (setting : Setting) (events : List Event) → IsValid setting events → (client : Client) (s : ℕ) (world : World) (place moment : ℕ) (found : Option Request) →
-    slice_get setting.clients s ≡ Some client → IsKept setting client s world → slice_get world.requests place ≡ found → IsKept setting client s (delivered setting world place moment found)
-delivered_holds setting events valid client s world place moment None own h e = h
-delivered_holds setting events valid client s world place moment (Some one) own h e = go (slice_get setting.clients one.sender) refl
-  where
-    go : (found : Option Client) → slice_get setting.clients one.sender ≡ found → IsKept setting client s (delivered_by world place moment one.op found)
-    go None f = h
-    go (Some other) f =
-        elim (cases_eq one.sender s) [
-          | inl same ↦
-              let get : slice_get world.requests place ≡ Some (record { sender = s; op = one.op }) = subst (λ (n : ℕ). slice_get world.requests place ≡ Some (record { sender = n; op = one.op })) same e in
-              subst (λ (c : Client). IsKept setting client s (delivered_by world place moment one.op (Some c))) (is_same_client setting s one.sender client other own f same)
-              (own_delivered setting client s world place moment one.op h get)
-          | inr apart ↦
-              others_delivered setting client other s one.sender world place moment one.op h e apart (free_of setting events valid s one.sender client other own f apart one.op)
-        ]
-
-unanswerable : (setting : Setting) (client : Client) (s : ℕ) (world : World) (before : ℕ) (last : Ruling) → IsKept setting client s world → IsKept setting client s (replied world None before last)
-unanswerable setting client s world before last h =
-    holds-reply client s (first_shard setting) world.shard world.history world.requests world.replies (world.members s)
-    (record { request = None; before = before; after = length world.history; ruling = last }) h (λ r e. cc) (λ r op e get. cc)
-
-foreign_enter : (setting : Setting) (client : Client) (s : ℕ) (world : World) (call : Call) (moment : ℕ) → slice_get setting.clients s ≡ Some client →
-    IsOfNoSession setting call → IsKept setting client s world → IsKept setting client s (enters world call moment)
-foreign_enter setting client s world call moment own none h =
-    others_enter setting client s world call moment h (λ number p. none s client (lock_id client.nonce number) own p (begins_with_nonce client.nonce number))
-
-asks_one_holds : (setting : Setting) (client : Client) (s : ℕ) (world : World) (call : Call) (moment before : ℕ) → slice_get setting.clients s ≡ Some client →
-    IsOfNoSession setting call → IsKept setting client s world → IsKept setting client s (asks_one world call moment before)
-asks_one_holds setting client s world call moment before own none h =
-    unanswerable setting client s (enters world call moment) before (ruling_in world call moment) (foreign_enter setting client s world call moment own none h)
-
-tries_holds : (setting : Setting) (client : Client) (s : ℕ) (world : World) (calls : List Call) (moment before : ℕ) (last : Ruling) →
-    slice_get setting.clients s ≡ Some client → AllByRecursion (IsOfNoSession setting) calls → IsKept setting client s world → IsKept setting client s (tries world calls moment before last)
-tries_holds setting client s world [] moment before last own none h = unanswerable setting client s world before last h
-tries_holds setting client s world (call ∷ calls) moment before last own none h =
-    let more = tries_holds setting client s (enters world call moment) calls moment before (ruling_in world call moment) own none.1 (foreign_enter setting client s world call moment own none.0 h) in
-    cond_both (is_taken (ruling_in world call moment).reason) (tries (enters world call moment) calls moment before (ruling_in world call moment)) (asks_one world call moment before)
-    (IsKept setting client s) (λ e. more) (λ e. asks_one_holds setting client s world call moment before own none.0 h)
-
-foreign_holds : (setting : Setting) (client : Client) (s : ℕ) (world : World) (ask : Ask) (moment before : ℕ) →
-    slice_get setting.clients s ≡ Some client → AskIsOfNoSession setting ask → IsKept setting client s world → IsKept setting client s (foreign world ask moment before)
-foreign_holds setting client s world Unread moment before own none h =
-    holds-reply client s (first_shard setting) world.shard world.history world.requests world.replies (world.members s)
-    (record { request = None; before = before; after = length world.history; ruling = bare 401 }) h
-    (λ r same. cc) (λ r op same get. cc)
-foreign_holds setting client s world (One call) moment before own none h = asks_one_holds setting client s world call moment before own none h
-foreign_holds setting client s world (Copy look creates) moment before own none h =
-    cond_both ((ruling_in world look moment).status == 200) (tries (enters world look moment) creates moment before (bare 400)) (asks_one world look moment before)
-    (IsKept setting client s)
-    (λ e. tries_holds setting client s (enters world look moment) creates moment before (bare 400) own none.1 (foreign_enter setting client s world look moment own none.0 h))
-    (λ e. asks_one_holds setting client s world look moment before own none.0 h)
-
-bare_holds : (client : Client) (start shard : Shard) (history : List Item) (op : Sent) (status : ℕ) → status ≢ 200 → status ≢ 409 → ReplyHolds client start shard history op (bare status)
-bare_holds client start shard history Info status a b = tt
-bare_holds client start shard history TakeLock status a b = λ e. absurd (a e)
-bare_holds client start shard history Get status a b = λ e. absurd (a e)
-bare_holds client start shard history (Put j d) status a b = λ e. absurd (a e)
-bare_holds client start shard history (Relock j) status a b = (λ e. absurd (a e), λ e n. absurd (b e))
-bare_holds client start shard history (RefreshLock j) status a b = tt
-bare_holds client start shard history (Unlock j) status a b = tt
-
-refuses_holds : (setting : Setting) (client : Client) (s : ℕ) (world : World) (place status : ℕ) (found : Option Request) → status ≢ 200 → status ≢ 409 →
-    IsKept setting client s world → slice_get world.requests place ≡ found → IsKept setting client s (refuses world place status found)
-refuses_holds setting client s world place status None a b h e = h
-refuses_holds setting client s world place status (Some one) a b h e =
-    holds-reply client s (first_shard setting) world.shard world.history world.requests world.replies (world.members s)
-    (record { request = Some place; before = length world.history; after = length world.history; ruling = bare status }) h
-    (λ r same. within world.requests place r one e same)
-    (λ r op same get. bare_holds client (first_shard setting) world.shard world.history op status a b)
-
-comes_holds : (setting : Setting) (events : List Event) → IsValid setting events → (client : Client) (s : ℕ) → slice_get setting.clients s ≡ Some client →
-    (world : World) (event : Event) → IsValidEvent setting world event → IsKept setting client s world → IsKept setting client s (comes setting world event)
-comes_holds setting events valid client s own world (Asks t wish) v h =
-    for_client_holds setting client s world (slice_get setting.clients t) (λ other. turns world t (stepped other.nonce (world.members t).session (input_of wish))) h
-    (λ other f. asks_holds setting client other s t world (λ nonce n. stepped nonce (world.members n).session (input_of wish)) own f h
-    (asked_holds client (first_shard setting) world.shard world.history (WasSent s world.requests) (world.members s).told (world.members s).session h.knows wish))
-comes_holds setting events valid client s own world (Deliver place moment) v h =
-    delivered_holds setting events valid client s world place moment (slice_get world.requests place) own h refl
-comes_holds setting events valid client s own world (Answer p) v h = answers_holds setting client s world p (slice_get world.replies p) own h refl
-comes_holds setting events valid client s own world (Lose t) v h =
-    for_client_holds setting client s world (slice_get setting.clients t) (λ other. turns world t (stepped other.nonce (world.members t).session NoAnswer)) h
-    (λ other f. asks_holds setting client other s t world (λ nonce n. stepped nonce (world.members n).session NoAnswer) own f h
-    (unanswered_holds client (first_shard setting) world.shard world.history (WasSent s world.requests) (world.members s).told (world.members s).session h.knows))
-comes_holds setting events valid client s own world (Foreign ask moment) v h =
-    foreign_holds setting client s world ask moment (length world.history) own v h
-comes_holds setting events valid client s own world (Ticks moment) v h =
-    holds-push client s (first_shard setting) world.shard world.history world.requests world.replies (world.members s) (Ran (Tick moment)) h tt tt (λ j d save. absurd save)
-comes_holds setting events valid client s own world (Entry call moment) v h =
-    others_enter setting client s world call moment h (λ number p. v s client (lock_id client.nonce number) own p (begins_with_nonce client.nonce number))
-comes_holds setting events valid client s own world (Restarts moment) v h =
-    holds-push client s (first_shard setting) world.shard world.history world.requests world.replies (world.members s) (Restarted moment (next_first setting world)) h v.0
-    (v.0, λ mark. issued client moment world.history v.1 (h.ground.used mark)) (λ j d save. absurd save)
-comes_holds setting events valid client s own world Fault v h = h
-comes_holds setting events valid client s own world (Refused place status) v h =
-    refuses_holds setting client s world place status (slice_get world.requests place) v.0 v.3 h refl
-
-run_holds : (setting : Setting) (all : List Event) → IsValid setting all → (client : Client) (s : ℕ) → slice_get setting.clients s ≡ Some client →
-    (world : World) (events : List Event) → AreValid setting world events → IsKept setting client s world → IsKept setting client s (run_from setting world events)
-run_holds setting all valid client s own world [] v h = h
-run_holds setting all valid client s own world (event ∷ events) v h =
-    run_holds setting all valid client s own (comes setting world event) events v.1 (comes_holds setting all valid client s own world event v.0 h)
-
--- the first world
-
-unlocked : (number : ℕ) (opening : Opening) (name : List ℕ) → (opening_file number opening name).lock ≡ None
-unlocked number [] name = refl
-unlocked number (first ∷ rest) name =
-    elim (bytes_eq first.0 name) as (λ b. (cond b (opened_with number first.1) (opening_file number rest name)).lock ≡ None) [ true ↦ refl | false ↦ unlocked number rest name ]
-
-unspent : (number : ℕ) (opening : Opening) (name : List ℕ) → (opening_file number opening name).spent ≡ []
-unspent number [] name = refl
-unspent number (first ∷ rest) name =
-    elim (bytes_eq first.0 name) as (λ b. (cond b (opened_with number first.1) (opening_file number rest name)).spent ≡ []) [ true ↦ refl | false ↦ unspent number rest name ]
-
-unmarked : (client : Client) (number : ℕ) (opening : Opening) → HasMark client (opening_file number opening client.token.file) → ⊥
-unmarked client number opening (j, inl held) =
-    let bad : None ≡ Some (lock_id client.nonce j) = sym (ap held_id (unlocked number opening client.token.file)) ∙ held in cc
-unmarked client number opening (j, inr spent) =
-    subst (λ (l : List Spent). IsSpentUntil l (lock_id client.nonce j) client.token.expires) (unspent number opening client.token.file) spent
-
-first_holds : (setting : Setting) (client : Client) (s : ℕ) → IsKept setting client s (first_world setting)
-first_holds setting client s =
-    let none = unlocked setting.first setting.opening client.token.file in
+-- a request arrived
+agrees-came : (s : ℕ) (requests : List Request) (replies : List Reply) (member : Member) (speaker : Speaker) (came : List Came) (new : Came) →
+    Agrees s requests replies member speaker came → Agrees s requests replies member speaker (came ++ new ∷ [])
+agrees-came s requests replies member speaker came new h =
     record {
-      ground = record {
-        is_after = refl;
-        moved = tt;
-        staged = record {
-          stage = inr (λ number e. let bad : None ≡ Some (lock_id client.nonce number) = sym (ap held_id none) ∙ e in cc);
-          there = λ lock e. let bad : None ≡ Some lock = sym none ∙ e in cc;
-          dead = λ d. λ number e. let bad : None ≡ Some (lock_id client.nonce number) = sym (ap held_id none) ∙ e in cc;
-          opened = omega arith;
-        };
-        used = λ mark. absurd (unmarked client setting.first setting.opening mark);
-      };
-      knows = record {
-        ops = λ op sent. let bad : None ≡ Some (record { sender = s; op = op }) = sent.1 in cc;
-        same = λ j c d a b. let bad : None ≡ Some (record { sender = s; op = Put j c }) = a.1 in cc;
-        phase = refl;
-        waits = λ w e. cc;
-      };
-      asked = λ r w a b. cc;
-      saves_sent = tt;
-      replied = λ p reply r a b. cc;
-      replies_hold = λ p reply r op a b c. cc;
-      told_holds = λ place one e. cc;
-      first = tt;
+      session_is = h.session_is;
+      told_is = h.told_is;
+      was_sent = h.was_sent;
+      asked = h.asked;
+      replied = h.replied;
+      came_of = λ p reply r op a b c. more_come came new op reply.ruling (h.came_of p reply r op a b c);
     }
+
+-- a reply is listed
+agrees-reply : (s : ℕ) (requests : List Request) (replies : List Reply) (member : Member) (speaker : Speaker) (came : List Came) (reply : Reply) →
+    Agrees s requests replies member speaker came → ((r : ℕ) → reply.request ≡ Some r → r < length requests) →
+    ((r : ℕ) (op : Sent) → reply.request ≡ Some r → slice_get requests r ≡ Some (record { sender = s; op = op }) → IsOfCome came op reply.ruling) →
+    Agrees s requests (replies ++ reply ∷ []) member speaker came
+agrees-reply s requests replies member speaker came reply h bound new =
+    record {
+      session_is = h.session_is;
+      told_is = h.told_is;
+      was_sent = h.was_sent;
+      asked = h.asked;
+      replied = λ p one r a b. elim (get_back replies reply p one a) [
+        | inl old ↦ h.replied p one r old b
+        | inr same ↦ bound r (ap (λ (x : Reply). x.request) same.1 ∙ b)
+      ];
+      came_of = λ p one r op a b c. elim (get_back replies reply p one a) [
+        | inl old ↦ h.came_of p one r op old b c
+        | inr same ↦ subst (λ (x : Reply). IsOfCome came op x.ruling) same.1 (new r op (ap (λ (x : Reply). x.request) same.1 ∙ b) c)
+      ];
+    }
+
+within_more : (requests : List Request) (request : Request) (r : ℕ) → r < length requests → r < length (requests ++ request ∷ [])
+within_more requests request r h = omega (arith, h, length-append requests (request ∷ []))
+
+old_request : (s : ℕ) (requests : List Request) (request : Request) (r : ℕ) (op : Sent) → slice_get (requests ++ request ∷ []) r ≡ Some (record { sender = s; op = op }) → r < length requests →
+    slice_get requests r ≡ Some (record { sender = s; op = op })
+old_request s requests request r op e within =
+    elim (get_back requests request r (record { sender = s; op = op }) e) [
+      | inl old ↦ old
+      | inr new ↦ let at = new.0 in absurd (omega (arith, within, at))
+    ]
+
+-- another session sends
+agrees-other : (s : ℕ) (requests : List Request) (replies : List Reply) (member : Member) (speaker : Speaker) (came : List Came) (request : Request) →
+    Agrees s requests replies member speaker came → request.sender ≢ s → Agrees s (requests ++ request ∷ []) replies member speaker came
+agrees-other s requests replies member speaker came request h other =
+    record {
+      session_is = h.session_is;
+      told_is = h.told_is;
+      was_sent = λ r op e. elim (get_back requests request r (record { sender = s; op = op }) e) [
+        | inl old ↦ h.was_sent r op old
+        | inr new ↦ absurd (other (ap (λ (x : Request). x.sender) new.1))
+      ];
+      asked = λ r e.
+          let old = h.asked r e in
+          (old.0, old.1, get_left requests (request ∷ []) r (record { sender = s; op = sent_with member.session.body old.0.op }) old.2);
+      replied = λ p reply r a b. within_more requests request r (h.replied p reply r a b);
+      came_of = λ p reply r op a b c. h.came_of p reply r op a b (old_request s requests request r op c (h.replied p reply r a b));
+    }
+
+-- the session sends
+agrees-send : (s : ℕ) (requests : List Request) (replies : List Reply) (member : Member) (speaker : Speaker) (came : List Came) (session : State) (asked : SessionOp) →
+    Agrees s requests replies member speaker came → WaitsFor (Sends asked) session →
+    Agrees s (requests ++ record { sender = s; op = sent_with session.body asked } ∷ []) replies
+    (record { session = session; asked = Some (length requests); told = member.told }) (does speaker session (Sends asked)) came
+agrees-send s requests replies member speaker came session asked h waits =
+    let sent = sent_with session.body asked in
+    let request : Request = record { sender = s; op = sent } in
+    record {
+      session_is = refl;
+      told_is = h.told_is;
+      was_sent = λ r op e. elim (get_back requests request r (record { sender = s; op = op }) e) [
+        | inl old ↦ Contains-append_left speaker.sent (sent ∷ []) op (h.was_sent r op old)
+        | inr new ↦ subst (Contains (speaker.sent ++ sent ∷ [])) (ap (λ (x : Request). x.op) new.1) (Contains-push speaker.sent sent)
+      ];
+      asked = λ r e. (
+        waits.0,
+        waits.1,
+        (let place : length requests ≡ r = cc in
+            subst (λ (n : ℕ). slice_get (requests ++ request ∷ []) n ≡ Some (record { sender = s; op = sent_with session.body waits.0.op })) place
+            (subst (λ (o : SessionOp). slice_get (requests ++ request ∷ []) (length requests) ≡ Some (record { sender = s; op = sent_with session.body o })) (sym waits.2) (get_new requests request))),
+      );
+      replied = λ p reply r a b. within_more requests request r (h.replied p reply r a b);
+      came_of = λ p reply r op a b c. h.came_of p reply r op a b (old_request s requests request r op c (h.replied p reply r a b));
+    }
+
+-- the session tells
+agrees-tell : (s : ℕ) (requests : List Request) (replies : List Reply) (member : Member) (speaker : Speaker) (came : List Came) (session : State) (one : Told) →
+    Agrees s requests replies member speaker came →
+    Agrees s requests replies (record { session = session; asked = None; told = member.told ++ one ∷ [] }) (record { session = session; sent = speaker.sent; told = speaker.told ++ one ∷ [] }) came
+agrees-tell s requests replies member speaker came session one h =
+    record {
+      session_is = refl;
+      told_is = ap (λ (l : List Told). l ++ one ∷ []) h.told_is;
+      was_sent = h.was_sent;
+      asked = λ r e. cc;
+      replied = h.replied;
+      came_of = h.came_of;
+    }
+
+module _ (setting : Setting) (client : Client) (s : ℕ) where
+  abbrev In : World → Speaker → List Came → Type 0
+  In world speaker came = Agrees s world.requests world.replies (world.members s) speaker came
+
+  -- What a step of the world is to the session: the inputs that it hears, and the items that happen.
+  record Steps (world next : World) (speaker : Speaker) (came : List Came) : Type 0 where
+    speaker_then : Speaker
+    came_then : List Came
+    heard : List Input
+    items : List Item
+    agrees : In next speaker_then came_then
+    history_is : next.history ≡ world.history ++ items
+    hears_is : hears_all client speaker heard ≡ speaker_then
+    goes : (more : List Input) (later : List Item) → TalksOver client speaker_then came_then more later → TalksOver client speaker came (heard ++ more) (items ++ later)
+
+  -- it hears nothing, and nothing happens
+  quiet : (world next : World) (speaker : Speaker) (came : List Came) → next.history ≡ world.history → In next speaker came → Steps world next speaker came
+  quiet world next speaker came same h =
+      record {
+        speaker_then = speaker;
+        came_then = came;
+        heard = [];
+        items = [];
+        agrees = h;
+        history_is = same ∙ sym (append-nil world.history);
+        hears_is = refl;
+        goes = λ more later g. g;
+      }
+
+  -- an item of others happens
+  passing : (world next : World) (speaker : Speaker) (came : List Came) (item : Item) → next.history ≡ world.history ++ item ∷ [] → IsOfOthers client item → In next speaker came →
+      Steps world next speaker came
+  passing world next speaker came item is other h =
+      record {
+        speaker_then = speaker;
+        came_then = came;
+        heard = [];
+        items = item ∷ [];
+        agrees = h;
+        history_is = is;
+        hears_is = refl;
+        goes = λ more later g. talk.passes speaker came item more later other g;
+      }
+
+  -- the session hears an input
+  hearing : (world next : World) (speaker : Speaker) (came : List Came) (input : Input) → next.history ≡ world.history → In next (hears client speaker input) came →
+      ((more : List Input) (later : List Item) → TalksOver client (hears client speaker input) came more later → TalksOver client speaker came (input ∷ more) later) → Steps world next speaker came
+  hearing world next speaker came input same h goes =
+      record {
+        speaker_then = hears client speaker input;
+        came_then = came;
+        heard = input ∷ [];
+        items = [];
+        agrees = h;
+        history_is = same ∙ sym (append-nil world.history);
+        hears_is = refl;
+        goes = goes;
+      }
+
+  hears-append : (speaker : Speaker) (first second : List Input) → hears_all client speaker (first ++ second) ≡ hears_all client (hears_all client speaker first) second
+  hears-append speaker [] second = refl
+  hears-append speaker (input ∷ first) second = hears-append (hears client speaker input) first second
+
+  -- one step and then another
+  followed : (world mid next : World) (speaker : Speaker) (came : List Came) (first : Steps world mid speaker came) → Steps mid next first.speaker_then first.came_then → Steps world next speaker came
+  followed world mid next speaker came first second =
+      record {
+        speaker_then = second.speaker_then;
+        came_then = second.came_then;
+        heard = first.heard ++ second.heard;
+        items = first.items ++ second.items;
+        agrees = second.agrees;
+        history_is = second.history_is ∙ ap (λ (l : List Item). l ++ second.items) first.history_is ∙ append_assoc world.history first.items second.items;
+        hears_is = hears-append speaker first.heard second.heard ∙ ap (λ (x : Speaker). hears_all client x second.heard) first.hears_is ∙ second.hears_is;
+        goes = λ more later g.
+            subst (λ (l : List Input). TalksOver client speaker came l ((first.items ++ second.items) ++ later)) (sym (append_assoc first.heard second.heard more))
+            (subst (λ (l : List Item). TalksOver client speaker came (first.heard ++ (second.heard ++ more)) l) (sym (append_assoc first.items second.items later))
+            (first.goes (second.heard ++ more) (second.items ++ later) (second.goes more later g)));
+      }
+
+  -- turns
+
+  own_takes : (world : World) (speaker : Speaker) (came : List Came) (session : State) (effect : Effect) → In world speaker came → WaitsFor effect session →
+      In (takes world s (world.members s) session effect) (does speaker session effect) came
+  own_takes world speaker came session (Sends asked) h waits =
+      let member : Member = record { session = session; asked = Some (length world.requests); told = (world.members s).told } in
+      subst (λ (b : Bool). Agrees s (world.requests ++ record { sender = s; op = sent_with session.body asked } ∷ []) world.replies (cond b member (world.members s)) (does speaker session (Sends asked)) came)
+      (sym (eq-eqb s s refl)) (agrees-send s world.requests world.replies (world.members s) speaker came session asked h waits)
+  own_takes world speaker came session (Tells outcome) h waits =
+      let one : Told = record { number = session.number; outcome = outcome; contents = (unwrap_or session.contents []) } in
+      let member : Member = record { session = session; asked = None; told = (world.members s).told ++ one ∷ [] } in
+      subst (λ (b : Bool). Agrees s world.requests world.replies (cond b member (world.members s)) (does speaker session (Tells outcome)) came)
+      (sym (eq-eqb s s refl)) (agrees-tell s world.requests world.replies (world.members s) speaker came session one h)
+  own_takes world speaker came session (Ignores input) h waits = h
+
+  own_turns : (world : World) (speaker : Speaker) (came : List Came) (input : Input) → In world speaker came →
+      In (turns world s (stepped client.nonce (world.members s).session input)) (hears client speaker input) came
+  own_turns world speaker came input h =
+      let turn = stepped client.nonce (world.members s).session input in
+      subst (λ (x : State). In (turns world s turn) (talk.turns speaker (stepped client.nonce x input)) came) h.session_is
+      (own_takes world speaker came turn.session turn.effect h (stepped_waits client.nonce (world.members s).session input))
+
+  takes_none : (world : World) (t : ℕ) (session : State) (effect : Effect) → (takes world t (world.members t) session effect).history ≡ world.history
+  takes_none world t session (Sends asked) = refl
+  takes_none world t session (Tells outcome) = refl
+  takes_none world t session (Ignores input) = refl
+
+  others_take : (t : ℕ) (world : World) (speaker : Speaker) (came : List Came) (session : State) (effect : Effect) → t ≢ s → In world speaker came →
+      In (takes world t (world.members t) session effect) speaker came
+  others_take t world speaker came session (Sends asked) apart h =
+      let member : Member = record { session = session; asked = Some (length world.requests); told = (world.members t).told } in
+      let request : Request = record { sender = t; op = sent_with session.body asked } in
+      subst (λ (b : Bool). Agrees s (world.requests ++ request ∷ []) world.replies (cond b member (world.members s)) speaker came)
+      (sym (ne_eqb s t (λ e. apart (sym e)))) (agrees-other s world.requests world.replies (world.members s) speaker came request h apart)
+  others_take t world speaker came session (Tells outcome) apart h =
+      let member : Member = record {
+        session = session;
+        asked = None;
+        told = (world.members t).told ++ record { number = session.number; outcome = outcome; contents = (unwrap_or session.contents []) } ∷ [];
+      } in
+      subst (λ (b : Bool). Agrees s world.requests world.replies (cond b member (world.members s)) speaker came)
+      (sym (ne_eqb s t (λ e. apart (sym e)))) h
+  others_take t world speaker came session (Ignores input) apart h = h
+
+  others_turn : (t : ℕ) (world : World) (speaker : Speaker) (came : List Came) (turn : Turn) → t ≢ s → In world speaker came → Steps world (turns world t turn) speaker came
+  others_turn t world speaker came turn apart h =
+      quiet world (turns world t turn) speaker came (takes_none world t turn.session turn.effect) (others_take t world speaker came turn.session turn.effect apart h)
+
+  for_client_steps : (world : World) (speaker : Speaker) (came : List Came) (found : Option Client) (body : Client → World) → In world speaker came →
+      ((other : Client) → found ≡ Some other → Steps world (body other) speaker came) → Steps world (for_client world found body) speaker came
+  for_client_steps world speaker came None body h f = quiet world world speaker came refl h
+  for_client_steps world speaker came (Some other) body h f = f other refl
+
+  module _ (mine : slice_get setting.clients s ≡ Some client) where
+    same_client : (t : ℕ) (other : Client) → slice_get setting.clients t ≡ Some other → t ≡ s → client ≡ other
+    same_client t other f same =
+        let both : Some client ≡ Some other = sym mine ∙ ap (slice_get setting.clients) (sym same) ∙ f in
+        cc
+
+    -- a session is asked for something, or gets no answer
+    prompts : (t : ℕ) (world : World) (speaker : Speaker) (came : List Came) (input : Input) → IsNoReply input → In world speaker came →
+        Steps world (for_client world (slice_get setting.clients t) (λ other. turns world t (stepped other.nonce (world.members t).session input))) speaker came
+    prompts t world speaker came input none h =
+        for_client_steps world speaker came (slice_get setting.clients t) (λ other. turns world t (stepped other.nonce (world.members t).session input)) h
+        (λ other f. elim (cases_eq t s) [
+          | inl same ↦
+              subst (λ (n : ℕ). Steps world (turns world n (stepped other.nonce (world.members n).session input)) speaker came) (sym same)
+              (subst (λ (c : Client). Steps world (turns world s (stepped c.nonce (world.members s).session input)) speaker came) (same_client t other f same)
+              (hearing world (turns world s (stepped client.nonce (world.members s).session input)) speaker came input
+              (takes_none world s (stepped client.nonce (world.members s).session input).session (stepped client.nonce (world.members s).session input).effect)
+              (own_turns world speaker came input h) (λ more later g. talk.prompted speaker came input more later none g)))
+          | inr apart ↦ others_turn t world speaker came (stepped other.nonce (world.members t).session input) apart h
+        ])
+
+    -- answers
+
+    asked_only : (asked_for : Option ℕ) (place : ℕ) → is_asked asked_for place ≡ true → asked_for ≡ Some place
+    asked_only None place h = cc
+    asked_only (Some own) place h = ap (λ (n : ℕ). Some n) (eqb-true own place h)
+
+    -- the session hears what tells the ruling
+    told_ruling : (world : World) (speaker : Speaker) (came : List Came) (ruling : Ruling) (w : Waiting) → In world speaker came → (world.members s).session.waits ≡ Some w →
+        IsOfCome came (sent_with (world.members s).session.body w.op) ruling →
+        (more : List Input) (later : List Item) → TalksOver client (hears client speaker (Replies (ruling_told ruling))) came more later →
+        TalksOver client speaker came (Replies (ruling_told ruling) ∷ more) later
+    told_ruling world speaker came ruling w h waits (inl there) more later g =
+        let op = sent_with (world.members s).session.body w.op in
+        let awaits : Awaits speaker op = record {
+          waiting = w;
+          waits = ap (λ (x : State). x.waits) (sym h.session_is) ∙ waits;
+          sent_is = ap (λ (x : State). sent_with x.body w.op) h.session_is;
+        } in
+        talk.answered speaker came (record { sent = op; ruling = ruling }) awaits (ruling_told ruling) more later there (looks_itself w.op (ruling_told ruling)) g
+    told_ruling world speaker came ruling w h waits (inr none) more later g = talk.refused speaker came (ruling_told ruling) more later none.0 none.1 g
+
+    own_answered : (world : World) (speaker : Speaker) (came : List Came) (p : ℕ) (reply : Reply) (place : ℕ) → In world speaker came →
+        slice_get world.replies p ≡ Some reply → reply.request ≡ Some place → Steps world (answered_in world client.nonce place reply.ruling s) speaker came
+    own_answered world speaker came p reply place h e request =
+        let turn = stepped client.nonce (world.members s).session (Replies (ruling_told reply.ruling)) in
+        cond_both (is_asked (world.members s).asked place) (turns world s turn) world (λ (next : World). Steps world next speaker came)
+        (λ t.
+        let a = h.asked place (asked_only (world.members s).asked place t) in
+        hearing world (turns world s turn) speaker came (Replies (ruling_told reply.ruling)) (takes_none world s turn.session turn.effect)
+        (own_turns world speaker came (Replies (ruling_told reply.ruling)) h)
+        (told_ruling world speaker came reply.ruling a.0 h a.1 (h.came_of p reply place (sent_with (world.members s).session.body a.0.op) e request a.2)))
+        (λ f. quiet world world speaker came refl h)
+
+    others_answered : (t : ℕ) (world : World) (speaker : Speaker) (came : List Came) (nonce : List ℕ) (place : ℕ) (ruling : Ruling) → t ≢ s → In world speaker came →
+        Steps world (answered_in world nonce place ruling t) speaker came
+    others_answered t world speaker came nonce place ruling apart h =
+        let turn = stepped nonce (world.members t).session (Replies (ruling_told ruling)) in
+        cond_both (is_asked (world.members t).asked place) (turns world t turn) world (λ (next : World). Steps world next speaker came)
+        (λ e. others_turn t world speaker came turn apart h) (λ f. quiet world world speaker came refl h)
+
+    answers_sender_steps : (world : World) (speaker : Speaker) (came : List Came) (p : ℕ) (reply : Reply) (place : ℕ) (found : Option Request) → In world speaker came →
+        slice_get world.replies p ≡ Some reply → reply.request ≡ Some place → Steps world (answers_sender setting world place reply.ruling found) speaker came
+    answers_sender_steps world speaker came p reply place None h e request = quiet world world speaker came refl h
+    answers_sender_steps world speaker came p reply place (Some one) h e request =
+        for_client_steps world speaker came (slice_get setting.clients one.sender) (λ other. answered_in world other.nonce place reply.ruling one.sender) h
+        (λ other f. elim (cases_eq one.sender s) [
+          | inl same ↦
+              subst (λ (n : ℕ). Steps world (answered_in world other.nonce place reply.ruling n) speaker came) (sym same)
+              (subst (λ (c : Client). Steps world (answered_in world c.nonce place reply.ruling s) speaker came) (same_client one.sender other f same)
+              (own_answered world speaker came p reply place h e request))
+          | inr apart ↦ others_answered one.sender world speaker came other.nonce place reply.ruling apart h
+        ])
+
+    answers_place_steps : (world : World) (speaker : Speaker) (came : List Came) (p : ℕ) (reply : Reply) (place : Option ℕ) → In world speaker came →
+        slice_get world.replies p ≡ Some reply → reply.request ≡ place → Steps world (answers_place setting world reply.ruling place) speaker came
+    answers_place_steps world speaker came p reply None h e request = quiet world world speaker came refl h
+    answers_place_steps world speaker came p reply (Some place) h e request = answers_sender_steps world speaker came p reply place (slice_get world.requests place) h e request
+
+    answers_steps : (world : World) (speaker : Speaker) (came : List Came) (p : ℕ) (found : Option Reply) → In world speaker came → slice_get world.replies p ≡ found →
+        Steps world (answers setting world found) speaker came
+    answers_steps world speaker came p None h e = quiet world world speaker came refl h
+    answers_steps world speaker came p (Some reply) h e = answers_place_steps world speaker came p reply reply.request h e refl
+
+    -- deliveries
+
+    within : (requests : List Request) (place r : ℕ) (request : Request) → slice_get requests place ≡ Some request → Some place ≡ Some r → r < length requests
+    within requests place r request e same =
+        let at : place ≡ r = cc in
+        subst (λ (n : ℕ). n < length requests) at (slice_get_within requests place request e)
+
+    one_request : (requests : List Request) (place r : ℕ) (one other : Request) → slice_get requests place ≡ Some one → Some place ≡ Some r → slice_get requests r ≡ Some other → one ≡ other
+    one_request requests place r one other e same get =
+        let at : place ≡ r = cc in
+        let both : Some one ≡ Some other = sym e ∙ ap (slice_get requests) at ∙ get in
+        cc
+
+    own_delivered : (world : World) (speaker : Speaker) (came : List Came) (place moment : ℕ) (op : Sent) → In world speaker came →
+        slice_get world.requests place ≡ Some (record { sender = s; op = op }) → Steps world (delivered_by world place moment op (Some client)) speaker came
+    own_delivered world speaker came place moment op h e =
+        let call = call_of client op in
+        let ruling = ruling_in world call moment in
+        let next = enters world call moment in
+        let new : Came = record { sent = op; ruling = ruling } in
+        let reply : Reply = record { request = Some place; before = length world.history; after = length next.history; ruling = ruling } in
+        let longer = agrees-came s world.requests world.replies (world.members s) speaker came new h in
+        record {
+          speaker_then = speaker;
+          came_then = came ++ new ∷ [];
+          heard = [];
+          items = item_of world call moment ∷ [];
+          agrees = agrees-reply s world.requests world.replies (world.members s) speaker (came ++ new ∷ []) reply longer
+              (λ r same. within world.requests place r (record { sender = s; op = op }) e same)
+              (λ r other same get.
+              let ops : op ≡ other = ap (λ (x : Request). x.op) (one_request world.requests place r (record { sender = s; op = op }) (record { sender = s; op = other }) e same get) in
+              subst (λ (o : Sent). IsOfCome (came ++ new ∷ []) o ruling) ops (inl (Contains-push came new)));
+          history_is = refl;
+          hears_is = refl;
+          goes = λ more later g. talk.arrives speaker came op (Rattle.wopi_world.specs.World.entry_of world call moment) more later (h.was_sent place op e) refl g;
+        }
+
+    others_delivered : (other : Client) (t : ℕ) (world : World) (speaker : Speaker) (came : List Came) (place moment : ℕ) (op : Sent) → In world speaker came →
+        slice_get world.requests place ≡ Some (record { sender = t; op = op }) → t ≢ s → PresentsNone client (call_of other op) →
+        Steps world (delivered_by world place moment op (Some other)) speaker came
+    others_delivered other t world speaker came place moment op h e apart free =
+        let call = call_of other op in
+        let next = enters world call moment in
+        let reply : Reply = record { request = Some place; before = length world.history; after = length next.history; ruling = ruling_in world call moment } in
+        passing world (delivered_by world place moment op (Some other)) speaker came (item_of world call moment) refl free
+        (agrees-reply s world.requests world.replies (world.members s) speaker came reply h
+        (λ r same. within world.requests place r (record { sender = t; op = op }) e same)
+        (λ r own same get.
+        absurd (apart (ap (λ (x : Request). x.sender) (one_request world.requests place r (record { sender = t; op = op }) (record { sender = s; op = own }) e same get)))))
+
+    -- another session of the file presents ids of its own
+    free_of : (events : List Event) → IsValid setting events → (t : ℕ) (other : Client) → slice_get setting.clients t ≡ Some other → t ≢ s → (op : Sent) → PresentsNone client (call_of other op)
+    free_of events valid t other f apart op = apart_lem client other op (λ files nonces. apart (sym (valid.different s t client other mine f files nonces)))
+
+    delivered_steps : (events : List Event) → IsValid setting events → (world : World) (speaker : Speaker) (came : List Came) (place moment : ℕ) (found : Option Request) → In world speaker came →
+        slice_get world.requests place ≡ found → Steps world (delivered setting world place moment found) speaker came
+    delivered_steps events valid world speaker came place moment None h e = quiet world world speaker came refl h
+    delivered_steps events valid world speaker came place moment (Some one) h e = go (slice_get setting.clients one.sender) refl
+      where
+        go : (found : Option Client) → slice_get setting.clients one.sender ≡ found → Steps world (delivered_by world place moment one.op found) speaker came
+        go None f = quiet world world speaker came refl h
+        go (Some other) f =
+            elim (cases_eq one.sender s) [
+              | inl same ↦
+                  let get : slice_get world.requests place ≡ Some (record { sender = s; op = one.op }) = subst (λ (n : ℕ). slice_get world.requests place ≡ Some (record { sender = n; op = one.op })) same e in
+                  subst (λ (c : Client). Steps world (delivered_by world place moment one.op (Some c)) speaker came) (same_client one.sender other f same)
+                  (own_delivered world speaker came place moment one.op h get)
+              | inr apart ↦ others_delivered other one.sender world speaker came place moment one.op h e apart (free_of events valid one.sender other f apart one.op)
+            ]
+
+    -- others
+
+    others_enter : (world : World) (speaker : Speaker) (came : List Came) (call : Call) (moment : ℕ) → IsOfNoSession setting call → In world speaker came →
+        Steps world (enters world call moment) speaker came
+    others_enter world speaker came call moment none h = passing world (enters world call moment) speaker came (item_of world call moment) refl (none s client mine) h
+
+    -- a reply to nobody's request
+    unanswerable : (world : World) (speaker : Speaker) (came : List Came) (before : ℕ) (last : Ruling) → In world speaker came → Steps world (replied world None before last) speaker came
+    unanswerable world speaker came before last h =
+        quiet world (replied world None before last) speaker came refl
+        (agrees-reply s world.requests world.replies (world.members s) speaker came (record { request = None; before = before; after = length world.history; ruling = last }) h
+        (λ r same. cc) (λ r op same get. cc))
+
+    asks_one_steps : (world : World) (speaker : Speaker) (came : List Came) (call : Call) (moment before : ℕ) → IsOfNoSession setting call → In world speaker came →
+        Steps world (asks_one world call moment before) speaker came
+    asks_one_steps world speaker came call moment before none h =
+        let first = others_enter world speaker came call moment none h in
+        followed world (enters world call moment) (asks_one world call moment before) speaker came first
+        (unanswerable (enters world call moment) first.speaker_then first.came_then before (ruling_in world call moment) first.agrees)
+
+    tries_steps : (world : World) (speaker : Speaker) (came : List Came) (calls : List Call) (moment before : ℕ) (last : Ruling) → AllByRecursion (IsOfNoSession setting) calls → In world speaker came →
+        Steps world (tries world calls moment before last) speaker came
+    tries_steps world speaker came [] moment before last none h = unanswerable world speaker came before last h
+    tries_steps world speaker came (call ∷ calls) moment before last none h =
+        let ruling = ruling_in world call moment in
+        let first = others_enter world speaker came call moment none.0 h in
+        let more = followed world (enters world call moment) (tries (enters world call moment) calls moment before ruling) speaker came first
+        (tries_steps (enters world call moment) first.speaker_then first.came_then calls moment before ruling none.1 first.agrees) in
+        cond_both (is_taken ruling.reason) (tries (enters world call moment) calls moment before ruling) (asks_one world call moment before)
+        (λ (next : World). Steps world next speaker came) (λ e. more) (λ e. asks_one_steps world speaker came call moment before none.0 h)
+
+    foreign_steps : (world : World) (speaker : Speaker) (came : List Came) (ask : Ask) (moment before : ℕ) → AskIsOfNoSession setting ask → In world speaker came →
+        Steps world (foreign world ask moment before) speaker came
+    foreign_steps world speaker came Unread moment before none h = unanswerable world speaker came before (bare 401) h
+    foreign_steps world speaker came (One call) moment before none h = asks_one_steps world speaker came call moment before none h
+    foreign_steps world speaker came (Copy look creates) moment before none h =
+        let first = others_enter world speaker came look moment none.0 h in
+        cond_both ((ruling_in world look moment).status == 200) (tries (enters world look moment) creates moment before (bare 400)) (asks_one world look moment before)
+        (λ (next : World). Steps world next speaker came)
+        (λ e. followed world (enters world look moment) (tries (enters world look moment) creates moment before (bare 400)) speaker came first
+        (tries_steps (enters world look moment) first.speaker_then first.came_then creates moment before (bare 400) none.1 first.agrees))
+        (λ e. asks_one_steps world speaker came look moment before none.0 h)
+
+    refuses_steps : (world : World) (speaker : Speaker) (came : List Came) (place status : ℕ) (found : Option Request) → status ≢ 200 → status ≢ 409 → In world speaker came →
+        slice_get world.requests place ≡ found → Steps world (refuses world place status found) speaker came
+    refuses_steps world speaker came place status None ok conflict h e = quiet world world speaker came refl h
+    refuses_steps world speaker came place status (Some one) ok conflict h e =
+        quiet world (refuses world place status (Some one)) speaker came refl
+        (agrees-reply s world.requests world.replies (world.members s) speaker came
+        (record { request = Some place; before = length world.history; after = length world.history; ruling = bare status }) h
+        (λ r same. within world.requests place r one e same) (λ r op same get. inr (ok, conflict)))
+
+    -- all events
+
+    no_reply : (wish : Wish) → IsNoReply (input_of wish)
+    no_reply Start = tt
+    no_reply Read = tt
+    no_reply (Save contents) = tt
+    no_reply Refresh = tt
+    no_reply Close = tt
+
+    comes_steps : (events : List Event) → IsValid setting events → (world : World) (speaker : Speaker) (came : List Came) (event : Event) → IsValidEvent setting world event → In world speaker came →
+        Steps world (comes setting world event) speaker came
+    comes_steps events valid world speaker came (Asks t wish) v h = prompts t world speaker came (input_of wish) (no_reply wish) h
+    comes_steps events valid world speaker came (Deliver place moment) v h = delivered_steps events valid world speaker came place moment (slice_get world.requests place) h refl
+    comes_steps events valid world speaker came (Answers p) v h = answers_steps world speaker came p (slice_get world.replies p) h refl
+    comes_steps events valid world speaker came (Lose t) v h = prompts t world speaker came NoAnswer tt h
+    comes_steps events valid world speaker came (Foreign ask moment) v h = foreign_steps world speaker came ask moment (length world.history) v h
+    comes_steps events valid world speaker came (Ticks moment) v h = passing world (with_item world (Ran (Tick moment))) speaker came (Ran (Tick moment)) refl tt h
+    comes_steps events valid world speaker came (Entry call moment) v h = others_enter world speaker came call moment v h
+    comes_steps events valid world speaker came (Restarts moment) v h =
+        passing world (comes setting world (Restarts moment)) speaker came (Restarted moment (next_first setting world)) refl tt h
+    comes_steps events valid world speaker came Fault v h = quiet world (comes setting world Fault) speaker came refl h
+    comes_steps events valid world speaker came (Refused place status) v h = refuses_steps world speaker came place status (slice_get world.requests place) v.0 v.1 h refl
+
+    run_steps : (all : List Event) → IsValid setting all → (world : World) (speaker : Speaker) (came : List Came) (events : List Event) → AreValid setting world events → In world speaker came →
+        Steps world (run_from setting world events) speaker came
+    run_steps all valid world speaker came [] v h = quiet world world speaker came refl h
+    run_steps all valid world speaker came (event ∷ events) v h =
+        let first = comes_steps all valid world speaker came event v.0 h in
+        followed world (comes setting world event) (run_from setting (comes setting world event) events) speaker came first
+        (run_steps all valid (comes setting world event) first.speaker_then first.came_then events v.1 first.agrees)
+
+    first_agrees : In (first_world setting) first_speaker []
+    first_agrees =
+        record {
+          session_is = refl;
+          told_is = refl;
+          was_sent = λ r op e. cc;
+          asked = λ r e. cc;
+          replied = λ p reply r a b. cc;
+          came_of = λ p reply r op a b c. cc;
+        }
+
+pub session_talks : (setting : Setting) (events : List Event) (s : ℕ) (client : Client) → IsValid setting events → slice_get setting.clients s ≡ Some client →
+    (heard : List Input) × IsTalkOver client heard (run setting events).history × (told_by client heard ≡ ((run setting events).members s).told)
+session_talks setting events s client valid mine =
+    let steps = run_steps setting client s mine events valid (first_world setting) first_speaker [] events valid.each (first_agrees setting client s mine) in
+    let over : TalksOver client first_speaker [] (steps.heard ++ []) (steps.items ++ []) = steps.goes [] [] (talk.ends steps.speaker_then steps.came_then) in (
+      steps.heard,
+      subst (λ (l : List Item). IsTalkOver client steps.heard l) (append-nil steps.items ∙ sym steps.history_is)
+          (subst (λ (l : List Input). TalksOver client first_speaker [] l (steps.items ++ [])) (append-nil steps.heard) over),
+      ap (λ (x : Speaker). x.told) steps.hears_is ∙ sym steps.agrees.told_is,
+    )
 
 -- the whole
-
-ordered : (setting : Setting) (client : Client) (s : ℕ) (world : World) → IsKept setting client s world →
-    SavesAreOrdered client (world.members s).told (first_shard setting) world.history
-ordered setting client s world h =
-    let start = first_shard setting in
-    let moved = h.ground.moved in
-    record {
-      rising = λ first middle last p q i j c d e a b. rising_lem client start first middle last p q i j c d (rw e moved) a b;
-      replaced = λ first middle last p q i c e a keeps differs.
-          let sent : Along (λ at item. (j : ℕ) (d : List ℕ) → IsSave client j d item → WasSent s world.requests (Put j d)) start (first ++ (p ∷ (middle ++ q ∷ last))) = rw e h.saves_sent in
-          let here = Along-split (λ at item. (j : ℕ) (d : List ℕ) → IsSave client j d item → WasSent s world.requests (Put j d)) start first (p ∷ (middle ++ q ∷ last)) sent in
-          let there = Along-split (λ at item. (j : ℕ) (d : List ℕ) → IsSave client j d item → WasSent s world.requests (Put j d)) (happens (after start first) p) middle (q ∷ last) here.1 in
-          replaced_lem client start first middle last p q i c (rw e moved) (λ d b. h.knows.same i c d (here.0 i c a) (there.0 i d b)) a keeps differs;
-      over = λ first last p e end. over_lem client start first last p (rw e moved) end;
-      acknowledged = λ place one version e saved. subst (OutcomeHolds client start world.shard world.history one.number one.contents) saved (h.told_holds place one e);
-      upon_save = λ first middle last p q i j c d e a none b. upon_save_lem client start first middle last p q i j c d (rw e moved) a none b;
-      upon_open = λ first last q j d e none b. first_save_at client (OpenedWith client (world.members s).told) start first last q j d (rw e h.first) none b;
-    }
 
 keeps_all : (shard : Shard) (item : Item) → IsAllowed shard item → KeepsAll shard item
 keeps_all shard (Ran item) allowed = keeps_contents shard item allowed
@@ -477,8 +568,19 @@ tells_all : (shard : Shard) (item : Item) → IsAllowed shard item → TellsAll 
 tells_all shard (Ran item) allowed = tells_why shard item allowed
 tells_all shard (Restarted moment first) allowed = tt
 
-kept_in : (setting : Setting) (events : List Event) → IsValid setting events → (client : Client) (s : ℕ) → slice_get setting.clients s ≡ Some client → IsKept setting client s (run setting events)
-kept_in setting events valid client s own = run_holds setting events valid client s own (first_world setting) events valid.each (first_holds setting client s)
+restarts_later : (client : Client) (history : List Item) → AreSpaced [] history → RestartsLater client history
+restarts_later client history spaced before later moment first place item e there use_ =
+    let rest : AreSpaced [] (before ++ Restarted moment first ∷ later) = subst (AreSpaced []) (sym e) spaced in
+    issued client moment before (spaced-split [] before (Restarted moment first ∷ later) rest).0 (place, item, there, use_)
+
+safe_for : (setting : Setting) (events : List Event) (s : ℕ) (client : Client) → IsValid setting events → slice_get setting.clients s ≡ Some client →
+    IsSafeFor client ((run setting events).members s).told (first_shard setting) (run setting events).history
+safe_for setting events s client valid mine =
+    let world = run setting events in
+    let f = fair setting events valid in
+    let talks = session_talks setting events s client valid mine in
+    subst (λ (told : List Told). IsSafeFor client told (first_shard setting) world.history) talks.2
+    (talk_lem setting.opening setting.opened setting.first client talks.0 world.history f.allowed (restarts_later client world.history f.spaced) talks.1)
 
 pub safe_lem : (setting : Setting) (events : List Event) → IsValid setting events → IsSafe setting (run setting events)
 safe_lem setting events valid =
@@ -489,10 +591,9 @@ safe_lem setting events valid =
       kept = Along-weaker IsAllowed KeepsAll keeps_all start world.history f.allowed;
       risen = f.begins;
       told_why = Along-weaker IsAllowed TellsAll tells_all start world.history f.allowed;
-      saves = λ s client own. ordered setting client s world (kept_in setting events valid client s own);
+      saves = λ s client own. (safe_for setting events s client valid own).saves;
     }
 
 pub keeps_ids_lem : (setting : Setting) (events : List Event) (s : ℕ) (client : Client) → IsValid setting events → slice_get setting.clients s ≡ Some client →
     KeepsIds client (first_shard setting) (run setting events).history
-keeps_ids_lem setting events s client valid own =
-    let world = run setting events in keeps_ids client (first_shard setting) world.shard world.history (kept_in setting events valid client s own).ground
+keeps_ids_lem setting events s client valid own = (safe_for setting events s client valid own).ids

@@ -5,3 +5,5 @@ pub mod Valid
 pub mod Safe
 pub mod Sessions
 pub mod Journals
+pub mod Talks
+pub mod Foreign

@@ -1,13 +1,15 @@
 -- What a session asks the host, as values.
-use Rattle.std.specs.Prelude.{ℕ, List, [], Option, unwrap_or}
+use Rattle.std.specs.Prelude.{◌≡◌, ℕ, List, [], Option, unwrap_or}
 use Rattle.wopi_model.specs.declared.token.Token.{Token}
 use Rattle.wopi_model.specs.declared.calls.Act.{Act}
 use Rattle.wopi_model.specs.declared.calls.Call.{Call}
+use Rattle.wopi_model.specs.Safety.{Presents}
 use Rattle.wopi_acts.specs.Acts.{act_with}
 use Rattle.save_session.specs.declared.input.Input.{Input}
 use Rattle.save_session.specs.declared.input.Input.TheVariants as input
 use Rattle.save_session.specs.declared.state.SessionOp.{SessionOp}
 use Rattle.save_session.specs.declared.state.SessionOp.TheVariants as op
+use Rattle.save_session.specs.LockIds.{lock_id}
 use Rattle.save_session.specs.Session.{op_of}
 
 -- who a session belongs to: its nonce, and the token that all its requests carry
@@ -70,3 +72,7 @@ act_sent nonce sent = act_with (body sent) (op_of nonce (operation sent))
 -- the one call that a session's request makes
 abbrev pub call_of : Client → Sent → Call
 call_of client sent = record { name = client.token.file; token = client.token; act = act_sent client.nonce sent }
+
+-- on the session's file the call presents none of the session's lock ids
+abbrev pub PresentsNone : Client → Call → Type 0
+PresentsNone client call = call.name ≡ client.token.file → (number : ℕ) → Presents call.act (lock_id client.nonce number) → ⊥

@@ -1,0 +1,6 @@
+pub mod Owning
+pub mod Hearing
+pub mod Joining
+pub mod Living
+pub mod Sourcing
+pub mod Saying

@@ -1,0 +1,170 @@
+-- What a host makes of a session's request.
+use Rattle.std.proofs.Common.{◌≡◌, ◌≢◌, ◌⊎◌, ◌==◌, ℕ, List, [], ◌∷◌, ◌++◌, Option, Some, None, unwrap_or, refl, sym, ap, subst, ◌∙◌, inl, inr, arith}
+use Rattle.std.proofs.lemmas.Bool.{cond_both}
+use Rattle.wopi_model.specs.declared.token.Token.{Token}
+use Rattle.wopi_model.specs.declared.calls.Act.{Act}
+use Rattle.wopi_model.specs.declared.calls.Act.TheVariants as act
+use Rattle.wopi_model.specs.declared.calls.Call.{Call}
+use Rattle.wopi_model.specs.declared.calls.Ruling.{Ruling}
+use Rattle.wopi_model.specs.Shard.{Entry}
+use Rattle.wopi_http.specs.declared.message.Request.{Request}
+use Rattle.wopi_headers.specs.declared.answer.Answer.{Answer}
+use Rattle.wopi_headers.specs.declared.ask.Ask.{Ask}
+use Rattle.wopi_headers.specs.declared.ask.Op.TheVariants as op
+use Rattle.wopi_headers.specs.declared.ask.Target.{Target}
+use Rattle.wopi_headers.specs.Operations.{AsksFor, IsRefusal}
+use Rattle.access_tokens.specs.TokenText.{IsSigned}
+use Rattle.wopi_acts.specs.Acts.{act_of}
+use Rattle.wopi_acts.specs.Answers.{ruling_told}
+use Rattle.save_session.specs.Session.{op_of}
+use Rattle.wopi_client.specs.declared.desktop.Desktop.{Desktop}
+use Rattle.host_server.specs.declared.desk.Desk.{Desk}
+use Rattle.host_server.specs.Deeds.{Deed, Made, Blocked, made}
+use Rattle.host_server.specs.Answering.{Ruled, Answered, unauthorized, ruled, full, copied, refused, asked}
+use Rattle.host_server.specs.Answering as host
+use Rattle.host_server.specs.Telling.{is_info, told_of, info_told, told}
+use Rattle.host_server.specs.Turns.{Turn, Said, answer, no_memory, IsSaid}
+use Rattle.wopi_world.specs.Requests.{Client, Sent, Info, TakeLock, Get, Put, Relock, RefreshLock, Unlock, operation, body, act_sent, call_of}
+use Rattle.wopi_world.specs.Talks.{LooksSame}
+use Rattle.wopi_ends.specs.Messages.{IsAt, ask_of, TellsNone, TellsEntry, IsOwnTurn, unmade, makes}
+
+-- what is told of a call
+
+module _ (call : Call) (ruling : Ruling) where
+  told_status : (told_of call ruling).status ≡ ruling.status
+  told_status =
+      let P = λ (a : Answer). a.status ≡ ruling.status in
+      let info = info_told call.name call.token ruling in
+      cond_both (is_info call.act) info (ruling_told ruling) P (λ e. info_keeps P (λ k b. refl) refl) (λ e. refl)
+    where
+      info_keeps : (P : Answer → Type 0) → ((k : Rattle.wopi_headers.specs.declared.answer.BodyKind.BodyKind) (b : List ℕ) → P (record (ruling_told ruling) { version = None; kind = k; body = b })) → P (ruling_told ruling) →
+          P (info_told call.name call.token ruling)
+      info_keeps P f g = cond_both (ruling.status == 200) _ (ruling_told ruling) P (λ e. f _ _) (λ e. g)
+
+  told_lock : (told_of call ruling).lock ≡ ruling.lock
+  told_lock =
+      let P = λ (a : Answer). a.lock ≡ ruling.lock in
+      let info = info_told call.name call.token ruling in
+      cond_both (is_info call.act) info (ruling_told ruling) P (λ e. info_keeps P (λ k b. refl) refl) (λ e. refl)
+    where
+      info_keeps : (P : Answer → Type 0) → ((k : Rattle.wopi_headers.specs.declared.answer.BodyKind.BodyKind) (b : List ℕ) → P (record (ruling_told ruling) { version = None; kind = k; body = b })) → P (ruling_told ruling) →
+          P (info_told call.name call.token ruling)
+      info_keeps P f g = cond_both (ruling.status == 200) _ (ruling_told ruling) P (λ e. f _ _) (λ e. g)
+
+  told_reason : (told_of call ruling).reason ≡ ruling.reason
+  told_reason =
+      let P = λ (a : Answer). a.reason ≡ ruling.reason in
+      let info = info_told call.name call.token ruling in
+      cond_both (is_info call.act) info (ruling_told ruling) P (λ e. info_keeps P (λ k b. refl) refl) (λ e. refl)
+    where
+      info_keeps : (P : Answer → Type 0) → ((k : Rattle.wopi_headers.specs.declared.answer.BodyKind.BodyKind) (b : List ℕ) → P (record (ruling_told ruling) { version = None; kind = k; body = b })) → P (ruling_told ruling) →
+          P (info_told call.name call.token ruling)
+      info_keeps P f g = cond_both (ruling.status == 200) _ (ruling_told ruling) P (λ e. f _ _) (λ e. g)
+
+-- a session sees in the answer what the ruling tells
+sees : (client : Client) (sent : Sent) (ruling : Ruling) → LooksSame (operation sent) (told_of (call_of client sent) ruling) (ruling_told ruling)
+sees client Info ruling =
+    let call = call_of client Info in
+    record { status = told_status call ruling; lock = told_lock call ruling; reason = told_reason call ruling; text = tt }
+sees client TakeLock ruling = record { status = refl; lock = refl; reason = refl; text = (refl, refl) }
+sees client Get ruling = record { status = refl; lock = refl; reason = refl; text = (refl, refl) }
+sees client (Put number contents) ruling = record { status = refl; lock = refl; reason = refl; text = (refl, refl) }
+sees client (Relock number) ruling = record { status = refl; lock = refl; reason = refl; text = (refl, refl) }
+sees client (RefreshLock number) ruling = record { status = refl; lock = refl; reason = refl; text = (refl, refl) }
+sees client (Unlock number) ruling = record { status = refl; lock = refl; reason = refl; text = (refl, refl) }
+
+no_copy : (nonce : List ℕ) (sent : Sent) (target : Target) → op_of nonce (operation sent) ≡ op.PutRelative target → ⊥
+no_copy nonce Info target e = cc
+no_copy nonce TakeLock target e = cc
+no_copy nonce Get target e = cc
+no_copy nonce (Put number contents) target e = cc
+no_copy nonce (Relock number) target e = cc
+no_copy nonce (RefreshLock number) target e = cc
+no_copy nonce (Unlock number) target e = cc
+
+-- What was done for the request, and the answer.
+data Did (client : Client) (sent : Sent) (moment : ℕ) : List Deed → Answer → Type 0 where
+  nothing : (a : Answer) → a.status ≢ 200 → a.status ≢ 409 → Did client sent moment [] a
+  blocked : (call : Call) (m : ℕ) (before later : Rattle.host_core.specs.Caller.Sight) (a : Answer) → a.status ≢ 200 → a.status ≢ 409 → Did client sent moment (Blocked call m before later ∷ []) a
+  entered : (entry : Entry) (a : Answer) → entry.call ≡ call_of client sent → entry.moment ≡ moment → LooksSame (operation sent) a (ruling_told entry.ruling) →
+      Did client sent moment (Made entry ∷ []) a
+
+fault_ok : (status : ℕ) → status ≡ 500 → status ≢ 200
+fault_ok status is e = omega (arith, is, e)
+
+fault_conflict : (status : ℕ) → status ≡ 500 → status ≢ 409
+fault_conflict status is e = omega (arith, is, e)
+
+module _ (desk : Desk) (desktop : Desktop) (client : Client) (sent : Sent) (at : IsAt desk.keys desktop client)
+    (one_token : (token other : Token) → IsSigned desk.keys desktop.token token → IsSigned desk.keys desktop.token other → token ≡ other) where
+  abbrev own_ask : Ask
+  own_ask = ask_of desktop client sent
+
+  -- the one act of the ask is the session's
+  own_act : (contents : List ℕ) (a : Act) → contents ≡ body sent → act_of own_ask.op contents ≡ Some a → act_sent client.nonce sent ≡ a
+  own_act contents a is e =
+      ap (λ (o : Option Act). unwrap_or o act.Look) (ap (act_of own_ask.op) (sym is) ∙ e)
+
+  own_call : (contents : List ℕ) (token : Token) (a : Act) → contents ≡ body sent → IsSigned desk.keys desktop.token token → act_of own_ask.op contents ≡ Some a →
+      host.call_of own_ask token a ≡ call_of client sent
+  own_call contents token a is signed e =
+      let tokens : token ≡ client.token = one_token token client.token signed at.token in
+      let acts = own_act contents a is e in
+      let files : desktop.file ≡ client.token.file = at.file in
+      λ i. record { name = files i; token = tokens i; act = sym acts i }
+
+  by_ruled : (contents : List ℕ) (moment : ℕ) (deeds : List Deed) (a : Answer) → contents ≡ body sent → Ruled desk own_ask contents moment deeds a → Did client sent moment deeds a
+  by_ruled contents moment deeds a is (unauthorized unsigned none told_is) = absurd (unsigned client.token at.token)
+  by_ruled contents moment deeds a is (ruled token wanted entry signed e of one told_is) =
+      let call : entry.call ≡ call_of client sent = of.0 ∙ own_call contents token wanted is signed e in
+      let looks : LooksSame (operation sent) (told entry) (ruling_told entry.ruling) =
+      subst (λ (c : Call). LooksSame (operation sent) (told_of c entry.ruling) (ruling_told entry.ruling)) (sym call) (sees client sent entry.ruling) in
+      subst (λ (d : List Deed). Did client sent moment d a) (sym one)
+      (entered entry a call of.1 (subst (λ (x : Answer). LooksSame (operation sent) x (ruling_told entry.ruling)) (sym told_is) looks))
+  by_ruled contents moment deeds a is (full token wanted before later signed e is_full one told_is) =
+      let status : a.status ≡ 500 = ap (λ (x : Answer). x.status) told_is in
+      subst (λ (d : List Deed). Did client sent moment d a) (sym one)
+      (blocked (host.call_of own_ask token wanted) moment before later a (fault_ok a.status status) (fault_conflict a.status status))
+  by_ruled contents moment deeds a is (copied token target signed e copies) = absurd (no_copy client.nonce sent target e)
+
+  by_answered : (q : Request) (moment : ℕ) (deeds : List Deed) (a : Answer) → AsksFor q own_ask → q.body ≡ body sent →
+      ((other : Ask) → AsksFor q other → other ≡ own_ask) → ((s : ℕ) → IsRefusal q s → ⊥) →
+      Answered desk q moment deeds a → Did client sent moment deeds a
+  by_answered q moment deeds a asks is one never (refused s refusal none told_is) = absurd (never s refusal)
+  by_answered q moment deeds a asks is one never (asked other asks_other rules) =
+      by_ruled q.body moment deeds a is (subst (λ (x : Ask). Ruled desk x q.body moment deeds a) (one other asks_other) rules)
+
+  by_did : (t : Turn) (deeds : List Deed) (a : Answer) → Did client sent t.moment deeds a → t.part ≡ deeds → t.said ≡ answer a → IsOwnTurn client sent t
+  by_did t deeds a (nothing _ ok conflict) part said = unmade (ap made part) (subst TellsNone (sym said) (ok, conflict))
+  by_did t deeds a (blocked call m before later _ ok conflict) part said = unmade (ap made part) (subst TellsNone (sym said) (ok, conflict))
+  by_did t deeds a (entered entry _ call moment looks) part said = makes entry (ap made part) call moment (subst (TellsEntry sent entry) (sym said) looks)
+
+  one_of : (part others : List Deed) (deed : Deed) → part ++ others ≡ deed ∷ [] → (part ≡ []) ⊎ (part ≡ deed ∷ [])
+  one_of [] others deed e = inl refl
+  one_of (first ∷ []) others deed e = let same : first ≡ deed = cc in inr (ap (λ (d : Deed). d ∷ []) same)
+  one_of (first ∷ (second ∷ part)) others deed e = cc
+
+  none_of : (part others : List Deed) → part ++ others ≡ [] → part ≡ []
+  none_of [] others e = refl
+  none_of (first ∷ part) others e = cc
+
+  by_begun : (t : Turn) (others deeds : List Deed) (a : Answer) → Did client sent t.moment deeds a → t.part ++ others ≡ deeds → t.said ≡ no_memory → IsOwnTurn client sent t
+  by_begun t others deeds a (nothing _ ok conflict) part said = unmade (ap made (none_of t.part others part)) (subst TellsNone (sym said) tt)
+  by_begun t others deeds a (blocked call m before later _ ok conflict) part said = elim (one_of t.part others (Blocked call m before later) part) [
+    | inl none ↦ unmade (ap made none) (subst TellsNone (sym said) tt)
+    | inr one ↦ unmade (ap made one) (subst TellsNone (sym said) tt)
+  ]
+  by_begun t others deeds a (entered entry _ call moment looks) part said = elim (one_of t.part others (Made entry) part) [
+    | inl none ↦ unmade (ap made none) (subst TellsNone (sym said) tt)
+    | inr one ↦ makes entry (ap made one) call moment (subst (TellsEntry sent entry) (sym said) tt)
+  ]
+
+  pub own_turn : (t : Turn) → AsksFor t.request own_ask → t.request.body ≡ body sent →
+      ((other : Ask) → AsksFor t.request other → other ≡ own_ask) → ((s : ℕ) → IsRefusal t.request s → ⊥) →
+      IsSaid desk t.request t.moment t.part t.said → IsOwnTurn client sent t
+  own_turn t asks is one never said = go t.said refl said
+    where
+      go : (s : Said) → t.said ≡ s → IsSaid desk t.request t.moment t.part s → IsOwnTurn client sent t
+      go (answer a) e h = by_did t t.part a (by_answered t.request t.moment t.part a asks is one never h) refl e
+      go no_memory e (inl none) = unmade (ap made none) (subst TellsNone (sym e) tt)
+      go no_memory e (inr more) = by_begun t more.0 (t.part ++ more.0) more.1 (by_answered t.request t.moment (t.part ++ more.0) more.1 asks is one never more.2) refl e

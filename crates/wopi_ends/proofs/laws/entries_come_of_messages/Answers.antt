@@ -1,0 +1,5 @@
+use Rattle.wopi_ends.proofs.Sourcing.{sources}
+use Rattle.wopi_ends.proofs.laws.entries_come_of_messages.Goals as goal
+
+pub returns : goal.returns
+returns c desk end input left moments deeds output h = sources desk input end left moments deeds output h

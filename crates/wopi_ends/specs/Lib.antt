@@ -1,0 +1,4 @@
+pub mod Messages
+pub mod Hearing
+pub mod Crossing
+pub mod Sources
