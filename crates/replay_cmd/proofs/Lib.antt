@@ -1,6 +1,5 @@
 pub mod LastRun
 pub mod Hosting
-pub mod Machines
 pub mod Watching
 pub mod Faults
 pub mod AskLemmas
@@ -34,7 +33,6 @@ pub mod EndedHosts
 pub mod WorkedRows
 pub mod Generated
 mod CarriedLemmas
-mod Splits
 mod Endings
 mod WordValues
 mod RowForms
@@ -49,3 +47,4 @@ mod InputLemmas
 mod OneSchedule
 mod SessionRows
 mod Latest
+mod Carryings

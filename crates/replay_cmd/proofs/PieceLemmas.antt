@@ -9,9 +9,12 @@ use Rattle.replay_cmd.specs.declared.reading.ScheduleFault.TheVariants.{BadLine,
 use Rattle.replay_cmd.specs.declared.pieces.PieceReader.{PieceReader}
 use Rattle.replay_cmd.specs.Schedules.{IsSchedule, Lines}
 use Rattle.replay_cmd.specs.Grammar.{IsBadLine, IsText, most_bytes, most_rows, rows_of}
+use Rattle.replay_cmd.specs.Inputs.{IsUndecided}
 use Rattle.replay_cmd.specs.Readings.{IsKept, IsRefused, IsSoFar, TakesLine, lines_in}
-use Rattle.replay_cmd.specs.Pieces.{HasCome, IsFault, IsOver, IsRead, MayTakeLine, IsRowFault, IsTakenIn, LacksFeed, Lengthens, room_of}
-use Rattle.replay_cmd.proofs.Endings.{begins, fed, is_feed, lone}
+use Rattle.replay_cmd.specs.Pieces.{HasCome, IsFault, IsOver, IsRead, MayTakeLine, IsRowFault, IsTakenIn, Lengthens, room_of}
+use Rattle.line_text.specs.Words.{IsRow}
+use Rattle.line_text.proofs.Endings.{is_feed}
+use Rattle.replay_cmd.proofs.Endings.{begins, fed, lone}
 use Rattle.replay_cmd.proofs.ReadSteps.{begun, ended, refused, taken}
 
 -- ---- the reader's steps
@@ -23,7 +26,9 @@ pub come_begun : (pieces : PieceReader) → (pieces.reader.files.items ≡ []) �
     → IsKept pieces.reader → pieces.reader.rows ≡ 0 → row_in pieces ≡ [] → HasCome [] [] pieces
 come_begun pieces none kept rows empty = record {
   lines = λ more. subst (λ (l : List ℕ). IsSoFar more (l ++ more) pieces.reader) (sym empty) (begun more pieces.reader none kept rows);
-  row_is = subst LacksFeed (sym empty) (λ i d below. absurd (omega (arith, below)));
+  row_is = subst IsRow (sym empty) (λ i d below. absurd (omega (arith, below)));
+  short = let none : length (row_in pieces) ≡ 0 = ap length empty in omega (arith, none);
+  room = λ some. let none : length (row_in pieces) ≡ 0 = ap length empty in absurd (omega (arith, none, some));
 }
 
 -- what has come is a text so far
@@ -55,10 +60,25 @@ pub piece_ahead : (text piece : List ℕ) (pieces : PieceReader) → HasCome tex
 piece_ahead text piece pieces come = record {
   lines = λ more. subst (λ (l : List ℕ). IsSoFar l (row_in pieces ++ (piece ++ more)) pieces.reader) (sym (append_assoc text piece more)) (come.lines (piece ++ more));
   row_is = come.row_is;
+  short = come.short;
+  room = come.room;
 }
 
+longer_short : (row part line : List ℕ) (most : ℕ) → length row ≤ most → line ≡ row ++ part → (0 < length part → length line ≤ most) → length line ≤ most
+longer_short row [] line most short is fits = let n = ap length is in let m = length-append row [] in omega (arith, n, m, short)
+longer_short row (byte ∷ part) line most short is fits = fits (omega arith)
+
+longer_room : (row part line : List ℕ) (most rows rows' : ℕ) → (0 < length row → rows < most) → line ≡ row ++ part → rows' ≡ rows
+    → (0 < length part → rows < most) → 0 < length line → rows' < most
+longer_room row [] line most rows rows' room is same fits some =
+    let n = ap length is in
+    let m = length-append row [] in
+    let few = room (omega (arith, n, m, some)) in
+    omega (arith, few, same)
+longer_room row (byte ∷ part) line most rows rows' room is same fits some = let few = fits (omega arith) in omega (arith, few, same)
+
 -- the next line is longer
-pub come_longer : (text part behind : List ℕ) (old new : PieceReader) → LacksFeed part → HasCome text (part ++ behind) old → Lengthens part old new → HasCome text behind new
+pub come_longer : (text part behind : List ℕ) (old new : PieceReader) → IsRow part → HasCome text (part ++ behind) old → Lengthens part old new → HasCome text behind new
 come_longer text part behind old new lacks come more = record {
   lines = λ end.
       let same : row_in old ++ ((part ++ behind) ++ end) ≡ row_in new ++ (behind ++ end) =
@@ -66,10 +86,12 @@ come_longer text part behind old new lacks come more = record {
       ∙ ap (λ (l : List ℕ). l ++ (behind ++ end)) (sym more.row) in
       subst (λ (r : Reader). IsSoFar (text ++ end) (row_in new ++ (behind ++ end)) r) (sym more.reader)
       (subst (λ (l : List ℕ). IsSoFar (text ++ end) l old.reader) same (come.lines end));
-  row_is = subst LacksFeed (sym more.row) (All-append (λ byte. is_feed byte ≡ false) (row_in old) part come.row_is lacks);
+  row_is = subst IsRow (sym more.row) (All-append (λ byte. is_feed byte ≡ false) (row_in old) part come.row_is lacks);
+  short = longer_short (row_in old) part (row_in new) most_bytes come.short more.row (λ some. (more.fits some).1);
+  room = λ some. longer_room (row_in old) part (row_in new) most_rows old.reader.rows new.reader.rows come.room more.row (ap (λ (r : Reader). r.rows) more.reader) (λ few. (more.fits few).0) some;
 }
 
-pub come_longest : (text part : List ℕ) (old new : PieceReader) → LacksFeed part → HasCome text part old → Lengthens part old new → HasCome text [] new
+pub come_longest : (text part : List ℕ) (old new : PieceReader) → IsRow part → HasCome text part old → Lengthens part old new → HasCome text [] new
 come_longest text part old new lacks come more =
     come_longer text part [] old new lacks (subst (λ (l : List ℕ). HasCome text l old) (sym (append-nil part)) come) more
 
@@ -81,7 +103,9 @@ come_taken text behind old new come step empty = record {
       subst (λ (l : List ℕ). IsSoFar (text ++ more) (l ++ (behind ++ more)) new.reader) (sym empty)
       (taken (text ++ more) (row_in old ++ 10 ∷ (behind ++ more)) (behind ++ more) (row_in old) old.reader new.reader (come.lines more)
       (fed (row_in old) (behind ++ more) come.row_is) step);
-  row_is = subst LacksFeed (sym empty) (λ i d below. absurd (omega (arith, below)));
+  row_is = subst IsRow (sym empty) (λ i d below. absurd (omega (arith, below)));
+  short = let none : length (row_in new) ≡ 0 = ap length empty in omega (arith, none);
+  room = λ some. let none : length (row_in new) ≡ 0 = ap length empty in absurd (omega (arith, none, some));
 }
 
 -- or a bad one
@@ -97,13 +121,13 @@ refused_over row rest reader (inl many) = inl many
 refused_over row rest reader (inr long) = let n = length-append row rest in inr (inl (omega (arith, n, long)))
 
 -- it is past a limit before it ends
-pub come_over : (text part behind : List ℕ) (old : PieceReader) (fault : ScheduleFault) → LacksFeed part → HasCome text (part ++ behind) old → IsOver part old fault
+pub come_over : (text part behind : List ℕ) (old : PieceReader) (fault : ScheduleFault) → IsRow part → HasCome text (part ++ behind) old → IsOver part old fault
     → IsFault text fault
 come_over text part behind old Memory lacks come over = tt
 come_over text part behind old (BadLine number) lacks come (is, some, past) = λ more.
     let line : List ℕ = row_in old ++ part in
     let n = length-append (row_in old) part in
-    let none : LacksFeed line = All-append (λ byte. is_feed byte ≡ false) (row_in old) part come.row_is lacks in
+    let none : IsRow line = All-append (λ byte. is_feed byte ≡ false) (row_in old) part come.row_is lacks in
     let first = begins line (behind ++ more) none (omega (arith, n, some)) in
     let same : row_in old ++ ((part ++ behind) ++ more) ≡ line ++ (behind ++ more) =
     ap (λ (l : List ℕ). row_in old ++ l) (append_assoc part behind more) ∙ sym (append_assoc (row_in old) part (behind ++ more)) in
@@ -111,26 +135,26 @@ come_over text part behind old (BadLine number) lacks come (is, some, past) = λ
     (refused (text ++ more) (line ++ (behind ++ more)) (line ++ first.rest) first.after old.reader
     (subst (λ (l : List ℕ). IsSoFar (text ++ more) l old.reader) same (come.lines more)) first.rows (refused_over line first.rest old.reader past))
 
-pub last_over : (text part : List ℕ) (old : PieceReader) (fault : ScheduleFault) → LacksFeed part → HasCome text part old → IsOver part old fault → IsFault text fault
+pub last_over : (text part : List ℕ) (old : PieceReader) (fault : ScheduleFault) → IsRow part → HasCome text part old → IsOver part old fault → IsFault text fault
 last_over text part old fault lacks come over =
     come_over text part [] old fault lacks (subst (λ (l : List ℕ). HasCome text l old) (sym (append-nil part)) come) over
 
 -- ---- results
 
-pub row_taken : (part : List ℕ) (old mid new : PieceReader) (r : Result (Unit {0}) ScheduleFault) → LacksFeed part → Lengthens part old mid
+pub row_taken : (part : List ℕ) (old mid new : PieceReader) (r : Result (Unit {0}) ScheduleFault) → IsRow part → Lengthens part old mid
     → OnOk r (TakesLine (row_in mid) mid.reader new.reader × (row_in new ≡ []))
     → OnOk r ((text behind : List ℕ) → HasCome text (part ++ 10 ∷ behind) old → HasCome text behind new)
 row_taken part old mid new (Err fault) lacks more step = tt
 row_taken part old mid new (Ok u) lacks more step = λ text behind come.
     come_taken text behind mid new (come_longer text part (10 ∷ behind) old mid lacks come more) step.0 step.1
 
-pub row_refused : (part : List ℕ) (old mid : PieceReader) (r : Result (Unit {0}) ScheduleFault) → LacksFeed part → Lengthens part old mid → IfErr r (IsRowFault mid)
+pub row_refused : (part : List ℕ) (old mid : PieceReader) (r : Result (Unit {0}) ScheduleFault) → IsRow part → Lengthens part old mid → IfErr r (IsRowFault mid)
     → IfErr r (λ fault. (text behind : List ℕ) → HasCome text (part ++ 10 ∷ behind) old → IsFault text fault)
 row_refused part old mid (Ok u) lacks more bad = tt
 row_refused part old mid (Err fault) lacks more bad = λ text behind come.
     come_refused text behind mid fault (come_longer text part (10 ∷ behind) old mid lacks come more) bad
 
-pub rest_taken : (text part : List ℕ) (old new : PieceReader) (r : Result (Unit {0}) ScheduleFault) → LacksFeed part → HasCome text part old
+pub rest_taken : (text part : List ℕ) (old new : PieceReader) (r : Result (Unit {0}) ScheduleFault) → IsRow part → HasCome text part old
     → OnOk r (Lengthens part old new) → IfErr r (IsOver part old) → IsTakenIn text new r
 rest_taken text part old new (Ok u) lacks come more over = come_longest text part old new lacks come more
 rest_taken text part old new (Err fault) lacks come more over = last_over text part old fault lacks come over
@@ -189,3 +213,28 @@ read_good text (Err fault) read = tt
 
 pub read_bad : (text : List ℕ) (r : Result Lines ScheduleFault) → IsRead text r → (number : ℕ) → r ≡ Err (BadLine number) → IsBadLine text number
 read_bad text r read number is = subst (λ (x : Result Lines ScheduleFault). IsRead text x) is read
+
+-- what has come may still be a schedule
+pub undecided : (text : List ℕ) (pieces : PieceReader) → HasCome text [] pieces → IsUndecided text
+undecided text pieces come =
+    let so = come.lines (10 ∷ []) in
+    let count : pieces.reader.rows ≡ length so.done = so.count in
+    record {
+      whole = so.done;
+      part = row_in pieces;
+      rows = so.splits ∙ ap (λ (l : List (List ℕ)). so.done ++ l) (fed (row_in pieces) [] come.row_is);
+      lines = lines_in pieces.reader;
+      good = so.good;
+      short = come.short;
+      room = λ some. let few = come.room some in omega (arith, few, count);
+    }
+
+pub comes_taken : (old new : PieceReader) (piece : List ℕ) (r : Result (Unit {0}) ScheduleFault) → ((text : List ℕ) → HasCome text [] old → IsTakenIn (text ++ piece) new r)
+    → OnOk r ((text : List ℕ) → HasCome text [] old → HasCome (text ++ piece) [] new)
+comes_taken old new piece (Ok u) took = took
+comes_taken old new piece (Err fault) took = tt
+
+pub refuses_taken : (old new : PieceReader) (piece : List ℕ) (r : Result (Unit {0}) ScheduleFault) → ((text : List ℕ) → HasCome text [] old → IsTakenIn (text ++ piece) new r)
+    → IfErr r (λ fault. (text : List ℕ) → HasCome text [] old → IsFault (text ++ piece) fault)
+refuses_taken old new piece (Ok u) took = tt
+refuses_taken old new piece (Err fault) took = took

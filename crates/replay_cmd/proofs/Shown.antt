@@ -14,7 +14,7 @@ use Rattle.wopi_world.specs.Requests.{Client}
 use Rattle.wopi_world.specs.World.{World}
 use Rattle.replay_cmd.specs.declared.member.Request.{Request}
 use Rattle.replay_cmd.specs.declared.member.Member.{Member}
-use Rattle.replay_cmd.specs.Sessions.{IsSameTurn, IsSameEffect}
+use Rattle.wopi_world.proofs.Seeing.{IsSameTurn, IsSameEffect}
 use Rattle.replay_cmd.specs.Members.{StepsTo, StepsIn, IsMember, ShowsSessions, request_kept}
 use Rattle.replay_cmd.specs.Words.{operation_shown, outcome_shown, output_shown}
 use Rattle.replay_cmd.specs.Trace.{turn_shown, client_shown}

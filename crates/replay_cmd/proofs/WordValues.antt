@@ -1,66 +1,56 @@
 -- What the words of a line say.
-use Rattle.std.proofs.Common.{All, ◌≡◌, ◌≢◌, ◌↔◌, ◌==◌, ℕ, Bool, true, ◌<◌, ◌≤◌, ◌+◌, ◌-◌, List, [], ◌∷◌, length, get_or, drop, Ok, Option, None, Some, sym, ap, ◌∙◌, subst, arith}
-use Rattle.std.specs.Prelude.{codes, decimal}
+use Rattle.std.proofs.Common.{All, ◌≡◌, ◌≢◌, ◌↔◌, ◌==◌, ℕ, Bool, true, ◌<◌, ◌≤◌, ◌+◌, ◌-◌, ◌^◌, List, [], ◌∷◌, length, get_or, drop, Option, None, Some, sym, ap, ◌∙◌, subst, arith}
+use Rattle.std.specs.Prelude.{IfSome, codes, decimal}
 use Rattle.std.proofs.lemmas.Bool.{eqb-true}
-use Rattle.hex.specs.Hex.{decode_of, encode_lower, lower_digits}
-use Rattle.hex.proofs.HexLemmas.{decode_of-encode_lower, decode_of-ok, length-encode_with}
-use Rattle.wopi_text.specs.Decimals.{decimal_of}
+use Rattle.hex.specs.Hex.{IsBytes, lower_digits}
+use Rattle.hex.proofs.HexLemmas.{length-encode_with}
 use Rattle.wopi_text.specs.LockId.{IsLockId}
-use Rattle.wopi_text.proofs.Decimals.{decimal_of-some, decimal_of-decimal}
 use Rattle.replay_cmd.specs.Grammar.{IsContents, IsCounted, IsLockWord}
-use Rattle.replay_cmd.specs.Words.{hex_text}
+use Rattle.line_text.specs.Words.{hex_text}
 
 -- ---- contents
 
--- what an encoded word says
-pub hex_back : (word contents : List ℕ) → 0 < length word → length word ≤ 16384 → decode_of word ≡ Ok contents → encode_lower contents ≡ word
-    → IsContents contents × (word ≡ hex_text contents)
-hex_back word [] some few back same = absurd (omega (arith, ap length same, length-encode_with lower_digits []))
-hex_back word (byte ∷ bytes) some few back same =
-    let read = decode_of-ok word (byte ∷ bytes) back in
-    (record { bytes = read.3; short = omega (arith, read.2, few) }, sym same)
+-- a word of so many digits writes contents that a line can have, and none other does
+pub few_digits : (word contents : List ℕ) → length word ≤ 16384 → IsBytes contents → word ≡ hex_text contents → IsContents contents
+few_digits word [] few form says = record { bytes = form; short = omega arith }
+few_digits word (byte ∷ bytes) few form says =
+    let len = ap length says ∙ length-encode_with lower_digits (byte ∷ bytes) in
+    record { bytes = form; short = omega (arith, len, few) }
 
-pub record IsHex (word contents : List ℕ) : Type 0 where
-  pub some : 0 < length word
-  pub few : length word ≤ 16384
-  pub reads : decode_of word ≡ Ok contents
-  pub writes : encode_lower contents ≡ word
+pub few_found : (word : List ℕ) (read : Option (List ℕ)) → length word ≤ 16384 → IfSome read (λ contents. IsBytes contents × (word ≡ hex_text contents))
+    → IfSome read (λ contents. IsContents contents × (word ≡ hex_text contents))
+few_found word None few says = tt
+few_found word (Some contents) few says = (few_digits word contents few says.0 says.1, says.1)
 
--- a word but for the dash is read as just what it says
-pub hex_said : (word contents : List ℕ) → word ≢ codes "-" → IsContents contents → word ≡ hex_text contents → IsHex word contents
-hex_said word [] dash form says = absurd (dash says)
-hex_said word (byte ∷ bytes) dash form says =
+pub many_digits : (word contents : List ℕ) → 16384 < length word → IsContents contents → word ≡ hex_text contents → ⊥
+many_digits word [] many form says = let len = ap length says in omega (arith, len, many)
+many_digits word (byte ∷ bytes) many form says =
     let len = ap length says ∙ length-encode_with lower_digits (byte ∷ bytes) in
     let short = form.short in
-    record {
-      some = omega (arith, len);
-      few = omega (arith, len, short);
-      reads = ap decode_of says ∙ decode_of-encode_lower (byte ∷ bytes) form.bytes;
-      writes = sym says;
-    }
-
-pub empty_not : (b : Bool) (word : List ℕ) → b ≡ (length word == 0) → b ≡ true → 0 < length word → ⊥
-empty_not b word h k some = let none = eqb-true (length word) 0 (sym h ∙ k) in omega (arith, none)
+    omega (arith, len, many, short)
 
 -- ---- numbers
 
 -- a word that is a number from 1 is just that number
-pub counted : (word : List ℕ) (number : ℕ) → decimal_of word ≡ Some number → 0 < number
+pub counted : (word : List ℕ) (number : ℕ) → 0 < number → ((n : ℕ) → (Some number ≡ Some n) ↔ ((n < 2 ^ 64) × (word ≡ decimal n)))
     → (n : ℕ) → (Some number ≡ Some n) ↔ (IsCounted n × (word ≡ decimal n))
-counted word number read some n =
-    let found = decimal_of-some word number read in (
-      λ e. let same : number ≡ n = cc e in subst (λ (m : ℕ). IsCounted m × (word ≡ decimal m)) same (record { counted = some; fits = found.0 }, found.1),
-      λ says. sym read ∙ ap decimal_of says.1 ∙ decimal_of-decimal n says.0.fits,
-    )
+counted word number some each n = (
+  λ e.
+      let same : number ≡ n = cc e in
+      let said = (each n).0 e in
+      (record { counted = omega (arith, same, some); fits = said.0 }, said.1),
+  λ says. (each n).1 (says.0.fits, says.1),
+)
 
-pub not_counted : (word : List ℕ) → decimal_of word ≡ None → (n : ℕ) → (None ≡ Some n) ↔ (IsCounted n × (word ≡ decimal n))
-not_counted word none n = (λ e. cc e, λ says. absurd (cc (sym none ∙ ap decimal_of says.1 ∙ decimal_of-decimal n says.0.fits)))
+pub not_counted : (word : List ℕ) → ((n : ℕ) → (None ≡ Some n) ↔ ((n < 2 ^ 64) × (word ≡ decimal n))) → (n : ℕ) → (None ≡ Some n) ↔ (IsCounted n × (word ≡ decimal n))
+not_counted word each n = (λ e. cc e, λ says. (each n).1 (says.0.fits, says.1))
 
-pub none_counted : (word : List ℕ) (number : ℕ) → decimal_of word ≡ Some number → number ≡ 0 → (n : ℕ) → (None ≡ Some n) ↔ (IsCounted n × (word ≡ decimal n))
-none_counted word number read zero n = (
+pub none_counted : (word : List ℕ) (number : ℕ) → number ≡ 0 → ((n : ℕ) → (Some number ≡ Some n) ↔ ((n < 2 ^ 64) × (word ≡ decimal n)))
+    → (n : ℕ) → (None ≡ Some n) ↔ (IsCounted n × (word ≡ decimal n))
+none_counted word number zero each n = (
   λ e. cc e,
   λ says.
-      let both : Some number ≡ Some n = sym read ∙ ap decimal_of says.1 ∙ decimal_of-decimal n says.0.fits in
+      let both : Some number ≡ Some n = (each n).1 (says.0.fits, says.1) in
       let same : number ≡ n = cc both in
       let some = says.0.counted in
       absurd (omega (arith, same, zero, some)),

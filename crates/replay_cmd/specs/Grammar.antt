@@ -1,6 +1,6 @@
 -- How a schedule is written: each line has one spelling, but that 0 needn't be written as the moment at which a token was issued. (Own.)
-use Rattle.std.specs.Prelude.{◌≡◌, All, ⊤, ℕ, ◌+◌, ◌-◌, ◌<◌, ◌≤◌, ◌^◌, Bool, false, not, List, [], ◌∷◌, ◌++◌, length, filter, take, codes, decimal, Option, None, Some, ◌==◌, if◌then◌else◌}
-use Rattle.std.specs.List.{AllByRecursion, slice_split}
+use Rattle.std.specs.Prelude.{◌≡◌, All, ⊤, ℕ, ◌+◌, ◌-◌, ◌<◌, ◌≤◌, ◌^◌, Bool, false, not, List, [], ◌∷◌, ◌++◌, length, filter, take, codes, decimal, Option, None, Some, ◌==◌}
+use Rattle.std.specs.List.{AllByRecursion}
 use Rattle.hex.specs.Hex.{IsBytes}
 use Rattle.wopi_text.specs.Ids.{id_of}
 use Rattle.wopi_text.specs.FileName.{IsFileName}
@@ -19,11 +19,8 @@ use Rattle.replay_cmd.specs.declared.schedule.ForeignAsk.{ForeignAsk}
 use Rattle.replay_cmd.specs.declared.schedule.EventLine.{EventLine}
 use Rattle.replay_cmd.specs.declared.schedule.EventLine.TheVariants as line
 use Rattle.replay_cmd.specs.Schedules.{HasBody, HasTarget, Lines, IsSchedule, carried, most_contents}
-use Rattle.replay_cmd.specs.Words.{hex_text}
-
--- the words of a line, which single spaces separate
-abbrev pub words_of : List ℕ → List (List ℕ)
-words_of row = slice_split (λ byte. byte == 32) row
+pub use Rattle.line_text.specs.Words.{words_of, yes_or_no}
+use Rattle.line_text.specs.Words.{hex_text, parts_at}
 
 -- contents that a line can have
 pub record IsContents (contents : List ℕ) : Type 0 where
@@ -91,9 +88,6 @@ lock_word (Some id) = id
 abbrev pub IsLockOrNone : Option (List ℕ) → Type 0
 IsLockOrNone None = ⊤
 IsLockOrNone (Some id) = IsLockWord id
-
-abbrev pub yes_or_no : Bool → List ℕ
-yes_or_no test = if test then codes "yes" else codes "no"
 
 -- The words that ask for an operation on a file, with this body. The name of a copy is carried without the spaces at its front.
 abbrev pub AreAsked : List (List ℕ) → List ℕ → List ℕ → Op → Type 0
@@ -176,7 +170,7 @@ without_empty_end ([] ∷ []) = []
 without_empty_end (row ∷ rows) = row ∷ without_empty_end rows
 
 abbrev pub rows_of : List ℕ → List (List ℕ)
-rows_of text = without_empty_end (slice_split (λ byte. byte == 10) text)
+rows_of text = without_empty_end (parts_at 10 text)
 
 -- the whole text is these lines
 abbrev pub IsText : List ℕ → Lines → Type 0

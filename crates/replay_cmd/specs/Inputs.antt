@@ -1,15 +1,12 @@
 -- A schedule that is the whole of an input. (Own.)
-use Rattle.std.specs.Prelude.{ℕ, [], List, Option, Result, Ok, Err, ⊤}
-use Rattle.std.specs.Io.KnownBytes.{Consumes}
+use Rattle.std.specs.Prelude.{◌≡◌, ◌<◌, ◌≤◌, ℕ, List, [], ◌∷◌, ◌++◌, length, Option, Result, Ok, Err, ⊤}
 use Rattle.outside.specs.Stream.{Are}
-use Rattle.replay_cmd.specs.declared.input.InputFault.{InputFault}
-use Rattle.replay_cmd.specs.declared.input.InputFault.TheVariants.{BadLine, Read, Memory}
-use Rattle.replay_cmd.specs.declared.pieces.PieceReader.{PieceReader}
+use Rattle.line_text.specs.declared.input.InputFault.{InputFault}
+use Rattle.line_text.specs.declared.input.InputFault.TheVariants.{Read, Text}
 use Rattle.replay_cmd.specs.declared.reading.ScheduleFault.{ScheduleFault}
-use Rattle.replay_cmd.specs.declared.reading.ScheduleFault.TheVariants as schedule
+use Rattle.replay_cmd.specs.declared.reading.ScheduleFault.TheVariants.{BadLine, Memory}
 use Rattle.replay_cmd.specs.Schedules.{Lines}
-use Rattle.replay_cmd.specs.Grammar.{IsBadLine, IsText}
-use Rattle.replay_cmd.specs.Pieces.{HasCome}
+use Rattle.replay_cmd.specs.Grammar.{AreRows, IsBadLine, IsText, most_bytes, most_rows, rows_of}
 
 -- the bytes that were left are these lines
 pub record IsWholeInput (left : Option (List ℕ)) (lines : Lines) : Type 0 where
@@ -24,23 +21,19 @@ pub record IsBadInput (left : Option (List ℕ)) (number : ℕ) : Type 0 where
   pub bad : IsBadLine text number
 
 -- an input read as a schedule
-abbrev pub IsInputRead : Option (List ℕ) → Result Lines InputFault → Type 0
+abbrev pub IsInputRead : Option (List ℕ) → Result Lines (InputFault ScheduleFault) → Type 0
 IsInputRead left (Ok lines) = IsWholeInput left lines
-IsInputRead left (Err (BadLine number)) = IsBadInput left number
+IsInputRead left (Err (Text (BadLine number))) = IsBadInput left number
+IsInputRead left (Err (Text Memory)) = ⊤
 IsInputRead left (Err Read) = ⊤
-IsInputRead left (Err Memory) = ⊤
 
--- so much of an input was taken
-pub record HasTaken (left left' : Option (List ℕ)) (pieces : PieceReader) : Type 0 where
-  pub front : List ℕ
-  pub consumed : Consumes left left' front
-  pub come : HasCome front [] pieces
-
--- the fault of a schedule that an input is
-abbrev pub fault_of : ScheduleFault → InputFault
-fault_of (schedule.BadLine number) = BadLine number
-fault_of schedule.Memory = Memory
-
-abbrev pub input_result : Result Lines ScheduleFault → Result Lines InputFault
-input_result (Ok lines) = Ok lines
-input_result (Err fault) = Err (fault_of fault)
+-- Whether these bytes are the front of a schedule rests on what follows: with a line feed behind them, all their lines but the last
+-- are good, and the last, which is not whole yet, is past no limit.
+pub record IsUndecided (text : List ℕ) : Type 0 where
+  pub whole : List (List ℕ)
+  pub part : List ℕ
+  pub rows : rows_of (text ++ 10 ∷ []) ≡ whole ++ part ∷ []
+  pub lines : Lines
+  pub good : AreRows whole lines
+  pub short : length part ≤ most_bytes
+  pub room : 0 < length part → length whole < most_rows

@@ -24,3 +24,4 @@ pub mod RowKinds
 pub mod Readings
 pub mod Pieces
 pub mod Inputs
+pub mod Carryings

@@ -1,5 +1,6 @@
 -- A schedule as far as its text has come, piece by piece. (Own.)
-use Rattle.std.specs.Prelude.{◌≡◌, ◌⊎◌, All, ⊤, ℕ, ◌+◌, ◌-◌, ◌*◌, ◌<◌, ◌≤◌, ◌==◌, false, List, [], ◌++◌, Result, Ok, Err, length}
+use Rattle.std.specs.Prelude.{◌≡◌, ◌⊎◌, ⊤, ℕ, ◌+◌, ◌-◌, ◌*◌, ◌<◌, ◌≤◌, List, [], ◌++◌, Result, Ok, Err, length}
+use Rattle.line_text.specs.Words.{IsRow}
 use Rattle.replay_cmd.specs.declared.reading.Reader.{Reader}
 use Rattle.replay_cmd.specs.declared.reading.ScheduleFault.{ScheduleFault}
 use Rattle.replay_cmd.specs.declared.reading.ScheduleFault.TheVariants.{BadLine, Memory}
@@ -8,14 +9,13 @@ use Rattle.replay_cmd.specs.Schedules.{Lines}
 use Rattle.replay_cmd.specs.Grammar.{IsBadLine, IsText, most_bytes, most_rows}
 use Rattle.replay_cmd.specs.Readings.{IsKept, IsRefused, IsSoFar}
 
--- no byte ends a line
-abbrev pub LacksFeed : List ℕ → Type 0
-LacksFeed bytes = All (λ byte. (byte == 10) ≡ false) bytes
-
--- The text has come to here, but for the bytes ahead: it is the lines that were taken and what there is of the next, however it goes on.
+-- The text has come to here, but for the bytes ahead: it is the lines that were taken and what there is of the next, which is past no limit,
+-- however it goes on.
 pub record HasCome (text ahead : List ℕ) (pieces : PieceReader) : Type 0 where
   pub lines : (more : List ℕ) → IsSoFar (text ++ more) (pieces.row.items ++ (ahead ++ more)) pieces.reader
-  pub row_is : LacksFeed pieces.row.items
+  pub row_is : IsRow pieces.row.items
+  pub short : length pieces.row.items ≤ most_bytes
+  pub room : 0 < length pieces.row.items → pieces.reader.rows < most_rows
 
 -- a line can be taken
 pub record MayTakeLine (reader : Reader) : Type 0 where
@@ -36,6 +36,7 @@ IsTakenIn text pieces (Err fault) = IsFault text fault
 pub record Lengthens (part : List ℕ) (old new : PieceReader) : Type 0 where
   pub row : new.row.items ≡ old.row.items ++ part
   pub reader : new.reader ≡ old.reader
+  pub fits : 0 < length part → (old.reader.rows < most_rows) × (length new.row.items ≤ most_bytes)
 
 -- with these bytes more the next line is past a limit
 abbrev pub IsOver : List ℕ → PieceReader → ScheduleFault → Type 0

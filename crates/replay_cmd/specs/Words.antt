@@ -1,6 +1,6 @@
 -- The words of a trace's lines. (Own.)
 use Rattle.std.specs.Prelude.{ℕ, ◌+◌, List, [], ◌∷◌, ◌++◌, codes, decimal, Option, None, Some, unwrap_or, ◌==◌, if◌then◌else◌}
-use Rattle.hex.specs.Hex.{encode_lower}
+pub use Rattle.line_text.specs.Words.{hex_text}
 use Rattle.wopi_text.specs.Ids.{id_of}
 use Rattle.wopi_text.specs.Reasons.{reason_text}
 use Rattle.wopi_text.specs.declared.reason.Reason.{Reason}
@@ -17,11 +17,6 @@ use Rattle.save_session.specs.declared.output.Output.{Output}
 use Rattle.save_session.specs.declared.output.Output.TheVariants as output
 use Rattle.save_session.specs.declared.output.Outcome.{Outcome}
 use Rattle.save_session.specs.declared.output.Outcome.TheVariants as outcome
-
--- contents in hex, or a dash
-abbrev pub hex_text : List ℕ → List ℕ
-hex_text [] = codes "-"
-hex_text (byte ∷ bytes) = encode_lower (byte ∷ bytes)
 
 abbrev pub version_shown : Option ℕ → List ℕ
 version_shown None = codes "-"

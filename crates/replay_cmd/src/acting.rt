@@ -4,6 +4,7 @@ ghost use Rattle.save_session.specs.declared.input.Input.TheVariants.{NoAnswer};
 ghost use Rattle.wopi_model.specs.Moment.{IsMoment};
 ghost use Rattle.wopi_world.specs.Requests.{input_of};
 ghost use Rattle.wopi_world.specs.World as event;
+ghost use Rattle.replay_cmd.specs.Carryings.{CarriesOver, GoesOn, HandsOver, TakesInput};
 ghost use Rattle.replay_cmd.specs.Runs.{wish_of};
 ghost use Rattle.replay_cmd.specs.Sessions.{given_as};
 ghost use Rattle.replay_cmd.specs.Steps.{ShowsEvent};
@@ -67,7 +68,8 @@ fn now_words(alloc: Global, now: u64) -> Result<Vec<Bytes>, Memory>
 impl Stage {
     /// Asks a session for something. The words of its line say what it did, or that it isn't there.
     pub(crate) fn ask(&mut self, session: u64, wish: &Wish) -> Result<Vec<Bytes>, Memory>
-        ensures { IfOk result (λ words. ShowsEvent (event.Asks session (wish_of wish.now)) (session_shown session (input_of (wish_of wish.now))) self.old self.new words.items) }
+        ensures takes { IfOk result (λ words. TakesInput session (input_of (wish_of wish.now)) self.old self.new) }
+        ensures follows { IfOk result (λ words. ShowsEvent (event.Asks session (wish_of wish.now)) (session_shown session (input_of (wish_of wish.now))) self.old self.new words.items) }
     {
         let Some(_) = member_at(&self.members, session) else {
             let absent = absent_words(self.alloc)?;
@@ -86,7 +88,8 @@ impl Stage {
 
     /// No answer comes to a session. The words of its line say what it did, or that it isn't there.
     pub(crate) fn lose(&mut self, session: u64) -> Result<Vec<Bytes>, Memory>
-        ensures { IfOk result (λ words. ShowsEvent (event.Lose session) (session_shown session NoAnswer) self.old self.new words.items) }
+        ensures takes { IfOk result (λ words. TakesInput session NoAnswer self.old self.new) }
+        ensures follows { IfOk result (λ words. ShowsEvent (event.Lose session) (session_shown session NoAnswer) self.old self.new words.items) }
     {
         let Some(_) = member_at(&self.members, session) else {
             let absent = absent_words(self.alloc)?;
@@ -105,6 +108,7 @@ impl Stage {
     /// Hands the reply at a place to the session that waits for it. The words of its line say what the
     /// session did, that nobody waits for the reply, or that there is none.
     pub(crate) fn answer<W: Wire>(&mut self, wire: &mut W, place: u64) -> Result<Vec<Bytes>, Memory>
+        ensures carries { IfOk result (λ words. CarriesOver (W.carried wire.old) (W.carried wire.new) (HandsOver place self.old self.new)) }
         ensures follows { W.is_straight wire.old ≡ true → IfOk result (λ words. ShowsEvent (event.Answer place) (answer_shown place) self.old self.new words.items) }
         ensures straight { W.is_straight wire.old ≡ true → W.is_straight wire.new ≡ true }
     {
@@ -143,7 +147,8 @@ impl Stage {
     /// Time goes on to a moment. The words of its line tell the time then.
     pub(crate) fn tick(&mut self, moment: u64) -> Result<Vec<Bytes>, Memory>
         requires { IsMoment moment }
-        ensures { IfOk result (λ words. ShowsEvent (event.Ticks moment) (now_shown moment) self.old self.new words.items) }
+        ensures on { IfOk result (λ words. GoesOn moment self.old self.new) }
+        ensures follows { IfOk result (λ words. ShowsEvent (event.Ticks moment) (now_shown moment) self.old self.new words.items) }
     {
         let now = self.host.settle_to(moment);
         self.history.push(Item::Tick { moment })?;

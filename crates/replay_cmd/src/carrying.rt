@@ -1,8 +1,10 @@
 //! Requests and replies, written, carried over a wire and read.
-ghost use Rattle.std.specs.Prelude.{◌≡◌, ◌≢◌, ◌<◌, ◌≤◌, ◌+◌, [], true, false, length, IfOk, IfSome, IfNone, All};
+ghost use Rattle.std.specs.Prelude.{◌≡◌, ◌≢◌, ◌<◌, ◌≤◌, ◌+◌, ℕ, [], true, false, length, IfOk, IfSome, IfNone, All};
 ghost use Rattle.wopi_http.specs.Answers.{FindsEach};
 ghost use Rattle.wopi_http.specs.declared.message.Method.{Method};
 ghost use Rattle.wopi_http.specs.declared.message.Reply.{Reply};
+ghost use Rattle.wopi_http.specs.declared.message.Request.{Request};
+ghost use Rattle.wopi_http.specs.declared.reading.Got.TheVariants.{Message, End, Refused};
 ghost use Rattle.wopi_http.specs.ReplyReads.{ReadsReply};
 ghost use Rattle.wopi_http.specs.Replies.{phrase_of, reply_text};
 ghost use Rattle.wopi_http.specs.RequestTexts.{request_text};
@@ -10,7 +12,8 @@ ghost use Rattle.wopi_headers.specs.AnswerReads.{HasLockId, IsVersion};
 ghost use Rattle.wopi_headers.specs.declared.answer.BodyKind.{BodyKind};
 ghost use Rattle.wopi_headers.specs.Requests.{method_of, request_of, IsByte, IsReadable, IsWritableOp, IsWritableName};
 ghost use Rattle.replay_cmd.specs.Sessions.{IsGivenBack};
-ghost use Rattle.replay_cmd.specs.Wires.{localhost, is_get, Arrives, IsTellable};
+ghost use Rattle.wopi_headers.specs.Replies.{reply_of};
+ghost use Rattle.replay_cmd.specs.Wires.{localhost, is_get, AreRefused, Arrives, BeginWith, IsAnswerIn, IsFoundIn, IsTellable, WentOver};
 
 use crate::wire::Wire;
 use outside::{MemSink, MemSource, Pair};
@@ -42,7 +45,10 @@ const ROOM: usize = 4_096;
 
 /// What the host reads of these bytes, which are the whole input.
 fn read_bytes(alloc: Global, bytes: Bytes) -> Result<Got, Memory>
-    ensures { IfOk result (FindsEach bytes) }
+    ensures found { IfOk result (FindsEach bytes) }
+    ensures there { IfOk result (λ got. (q : Request) → got ≡ Message q → BeginWith bytes q) }
+    ensures ended { IfOk result (λ got. got ≡ End → bytes ≡ []) }
+    ensures refused { IfOk result (λ got. (status at : ℕ) → got ≡ Refused status at → AreRefused bytes status) }
 {
     let source = MemSource::new(bytes, BODY_LIMIT, Vec::new(alloc));
     let sink = MemSink::new(alloc, ROOM, Vec::new(alloc))?;
@@ -171,6 +177,7 @@ pub fn carry_request<W: Wire>(
     body: &Bytes,
 ) -> Result<Result<Request, u16>, Memory>
     ensures arrives { W.is_straight wire.old ≡ true → IfOk result (Arrives ask.now body.now) }
+    ensures went { IfOk result (λ found. WentOver (W.carried wire.old) (W.carried wire.new) (request_text (request_of ask.now localhost body.now)) (λ got. IsFoundIn got found)) }
     ensures straight { W.is_straight wire.old ≡ true → W.is_straight wire.new ≡ true }
 {
     what_is_asked_is_read();
@@ -179,7 +186,8 @@ pub fn carry_request<W: Wire>(
     if !is_readable(ask, contents, text.as_slice()) {
         return Err(Memory);
     }
-    match read_bytes(alloc, wire.carry(text))? {
+    let arrived = wire.carry(text)?;
+    match read_bytes(alloc, arrived)? {
         Got::Message(request) => return Ok(Ok(request)),
         Got::End => return Ok(Err(400)),
         Got::Refused { status, at: _ } => return Ok(Err(status)),
@@ -311,6 +319,7 @@ pub fn carry_answer<W: Wire>(
     answer: &Answer,
 ) -> Result<Option<Answer>, Memory>
     ensures back { W.is_straight wire.old ≡ true → IfOk result (IsGivenBack answer.now) }
+    ensures went { IfOk result (λ found. WentOver (W.carried wire.old) (W.carried wire.new) (reply_text (reply_of answer.now true)) (λ got. IsAnswerIn got found)) }
     ensures straight { W.is_straight wire.old ≡ true → W.is_straight wire.new ≡ true }
 {
     an_answer_comes_back();
@@ -321,7 +330,7 @@ pub fn carry_answer<W: Wire>(
     }
     let reply = reply_of(alloc, copy_answer(alloc, answer)?, true)?;
     let text = reply_text(alloc, &reply)?;
-    let came = wire.carry(text);
+    let came = wire.carry(text)?;
     let Some(reply) = read_back(alloc, came.as_slice())? else {
         return Ok(None);
     };

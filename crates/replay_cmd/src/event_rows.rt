@@ -10,9 +10,8 @@ ghost use Rattle.replay_cmd.specs.RowKinds.{IsNamed, IsTimed};
 
 use crate::foreign_rows::foreign_read;
 use crate::schedule::{EventLine, Reference, Wish};
-use crate::splitting::{three_words, two_words};
-use crate::values::{hex_read, is_word, place_read, reference_read};
-use access_tokens::moment_read;
+use crate::values::{contents_read, place_read, reference_read};
+use line_text::{is_word, moment_read, three_words, two_words};
 use std::alloc::Global;
 use wopi_text::Memory;
 
@@ -91,7 +90,7 @@ fn save_read(alloc: Global, row: &[u8]) -> Result<Option<EventLine>, Memory>
     let Some(session) = place_read(second) else {
         return Ok(None);
     };
-    let Some(contents) = hex_read(alloc, third)? else {
+    let Some(contents) = contents_read(alloc, third)? else {
         return Ok(None);
     };
     Ok(Some(EventLine::Asks {

@@ -9,9 +9,11 @@ ghost use Rattle.replay_cmd.specs.RowKinds.{IsBare, IsBareOp, IsCopy, IsLocked, 
 ghost use Rattle.replay_cmd.specs.Schedules.{carried};
 
 use crate::schedule::ForeignAsk;
-use crate::splitting::{five_words, four_words, split_word, three_words, two_words};
-use crate::values::{hex_read, is_word, lock_or_none_read, lock_read, overwrite_read};
-use access_tokens::moment_read;
+use crate::values::{contents_read, lock_or_none_read, lock_read};
+use line_text::{
+    five_words, four_words, is_word, moment_read, split_word, three_words, two_words,
+    yes_or_no_read,
+};
 use std::alloc::Global;
 use wopi_headers::{Op, Target};
 use wopi_text::{Bytes, FileName, LockId, Memory, id_read};
@@ -201,7 +203,7 @@ fn put_read(alloc: Global, text: &[u8], expires: u64) -> Result<Option<ForeignAs
     let Some(lock) = lock_or_none_read(lock) else {
         return Ok(None);
     };
-    let Some(body) = hex_read(alloc, digits)? else {
+    let Some(body) = contents_read(alloc, digits)? else {
         return Ok(None);
     };
     Ok(Some(ForeignAsk {
@@ -230,10 +232,10 @@ fn copy_read(alloc: Global, text: &[u8], expires: u64) -> Result<Option<ForeignA
     let Ok(name) = id_read(target) else {
         return Ok(None);
     };
-    let Some(overwrite) = overwrite_read(overwrite) else {
+    let Some(overwrite) = yes_or_no_read(overwrite) else {
         return Ok(None);
     };
-    let Some(body) = hex_read(alloc, digits)? else {
+    let Some(body) = contents_read(alloc, digits)? else {
         return Ok(None);
     };
     let carried = carried(name.as_slice());

@@ -1,89 +1,65 @@
 //! A schedule, read from an input piece by piece.
-ghost use Rattle.std.specs.Prelude.{◌≡◌, ◌≤◌, ◌<◌, ◌+◌, ℕ, List, Option, Err, IfErr, IfOk, OnOk, vec_len};
+ghost use Rattle.std.specs.Prelude.{◌≡◌, ◌≢◌, ◌≤◌, Err, OnOk};
 ghost use Rattle.std.specs.Io.KnownBytes.{IsAtEnd};
 ghost use Rattle.outside.specs.Faults.{Rose};
-ghost use Rattle.replay_cmd.specs.Inputs.{HasTaken, IsInputRead, fault_of, input_result};
-ghost use Rattle.replay_cmd.specs.Pieces.{MayTakeLine, room_of};
+ghost use Rattle.line_text.specs.Inputs.{HasRead};
+ghost use Rattle.line_text.specs.declared.input.InputFault.TheVariants.{Read};
+ghost use Rattle.replay_cmd.specs.Inputs.{IsInputRead, IsUndecided};
 
 use crate::pieces::PieceReader;
 use crate::reading::ScheduleFault;
 use crate::schedule::Schedule;
-use outside::{Failed, Source, piece_room, read_piece};
+use line_text::{InputFault, TakesText, read_text};
+use outside::{Source, piece_room};
 use std::alloc::Global;
 
-/// Why an input gave no schedule.
-#[derive(Clone, Copy, Debug, PartialEq, Eq)]
-pub enum InputFault {
-    /// The line with this number, counted from 1, is the first that can't stand where it does.
-    BadLine { line: u64 },
-    /// The input could not be read.
-    Read,
-    Memory,
+impl TakesText for PieceReader {
+    ghost use Rattle.std.specs.Prelude.{ℕ, List, []};
+    ghost use Rattle.replay_cmd.specs.Pieces.{HasCome, IsFault, room_of};
+
+    type Fault = ScheduleFault;
+
+    ghost has_come = { λ pieces text. HasCome text [] pieces };
+
+    ghost refuses = { IsFault };
+
+    ghost portion = { λ _. 65536 };
+
+    ghost room = { room_of };
+
+    fn portion(&self) -> usize {
+        65_536
+    }
+
+    fn take(&mut self, piece: &[u8]) -> Result<(), ScheduleFault> {
+        self.take_all(piece)
+    }
 }
 
 /// The schedule that all the bytes of an input are. It is read to its end, or to the piece in which
-/// its first bad line shows; that no more is read than that piece is meant, and in no clause.
-pub fn read_schedule<S: Source>(alloc: Global, source: &mut S) -> Result<Schedule, InputFault>
+/// its first bad line shows.
+pub fn read_schedule<S: Source>(
+    alloc: Global,
+    source: &mut S,
+) -> Result<Schedule, InputFault<ScheduleFault>>
     ensures read { IsInputRead (S.left source.old) result }
     ensures whole { OnOk result (IsAtEnd (S.left source.new)) }
+    ensures prompt { result ≡ Err Read → HasRead (S.left source.old) (S.left source.new) IsUndecided }
     ensures beside { S.beside_reads source.new ≡ S.beside_reads source.old }
     ensures never_falls { S.read_faults source.old ≤ S.read_faults source.new }
-    ensures failed { result ≡ Err InputFault.Read → Rose (S.read_faults source.old) (S.read_faults source.new) }
+    ensures fine { result ≢ Err Read → S.read_faults source.new ≡ S.read_faults source.old }
+    ensures failed { result ≡ Err Read → Rose (S.read_faults source.old) (S.read_faults source.new) }
 {
     let Ok(mut piece) = piece_room(alloc) else {
-        return Err(InputFault::Memory);
+        return Err(InputFault::Text(ScheduleFault::Memory));
     };
     let mut pieces = PieceReader::new(alloc);
-    'pieces: loop {
-        match take_piece(source, &mut pieces, &mut piece) {
-            Ok(0) => return input_result(pieces.finish()),
-            Ok(_) => {}
-            Err(fault) => return Err(fault),
-        }
+    match read_text(source, &mut piece[0..], &mut pieces) {
+        Ok(()) => {}
+        Err(fault) => return Err(fault),
     }
-}
-
-/// Reads once, and takes what came; 0 says that the input ended.
-fn take_piece<S: Source>(
-    source: &mut S,
-    pieces: &mut PieceReader,
-    piece: &mut Vec<u8>,
-) -> Result<usize, InputFault>
-    requires ready { MayTakeLine pieces.old.reader }
-    requires room { 0 < vec_len piece.old }
-    ensures on { IfOk result (λ count. (left : Option (List ℕ)) → HasTaken left (S.left source.old) pieces.old → HasTaken left (S.left source.new) pieces.new) }
-    ensures end { IfOk result (λ count. count ≡ 0 → IsAtEnd (S.left source.new)) }
-    ensures refused { IfErr result (λ fault. (left : Option (List ℕ)) → HasTaken left (S.left source.old) pieces.old → IsInputRead left (Err fault)) }
-    ensures ready { OnOk result (MayTakeLine pieces.new.reader) }
-    ensures smaller { IfOk result (λ count. room_of pieces.new + count ≤ room_of pieces.old) }
-    ensures room { vec_len piece.new ≡ vec_len piece.old }
-    ensures beside { S.beside_reads source.new ≡ S.beside_reads source.old }
-    ensures never_falls { S.read_faults source.old ≤ S.read_faults source.new }
-    ensures failed { result ≡ Err InputFault.Read → Rose (S.read_faults source.old) (S.read_faults source.new) }
-{
-    match read_piece(source, piece) {
-        Ok(count) => match pieces.take_all(&piece[..count]) {
-            Ok(()) => return Ok(count),
-            Err(fault) => return Err(fault_of(fault)),
-        },
-        Err(Failed) => return Err(InputFault::Read),
-    }
-}
-
-fn fault_of(fault: ScheduleFault) -> InputFault
-    ensures { result ≡ fault_of fault }
-{
-    match fault {
-        ScheduleFault::BadLine { line } => InputFault::BadLine { line },
-        ScheduleFault::Memory => InputFault::Memory,
-    }
-}
-
-fn input_result(read: Result<Schedule, ScheduleFault>) -> Result<Schedule, InputFault>
-    ensures { result ≡ input_result read }
-{
-    match read {
-        Ok(schedule) => Ok(schedule),
-        Err(fault) => Err(fault_of(fault)),
+    match pieces.finish() {
+        Ok(schedule) => return Ok(schedule),
+        Err(fault) => return Err(InputFault::Text(fault)),
     }
 }

@@ -38,7 +38,6 @@ mod running;
 mod schedule;
 mod sessions;
 mod showing;
-mod splitting;
 mod stage;
 mod starting;
 mod tracing;
@@ -51,7 +50,7 @@ mod world;
 pub use faultless::FaultlessFolder;
 pub use generating::generate;
 pub use history::Item;
-pub use input::{InputFault, read_schedule};
+pub use input::read_schedule;
 pub use member::{Member, Request, Told};
 pub use reading::ScheduleFault;
 pub use reading_laws::{
@@ -62,7 +61,7 @@ pub use schedule::{EventLine, FileLine, ForeignAsk, Reference, Schedule, Session
 pub use stage::Stage;
 pub use tracing::{summary_text, trace_text};
 pub use watched::Watched;
-pub use wire::{ScriptWire, Straight, Wire};
+pub use wire::{Carried, ScriptWire, Straight, Wire};
 pub use world::World;
 
 #[cfg(test)]

@@ -6,9 +6,8 @@ ghost use Rattle.replay_cmd.specs.Grammar.{IsFileRow, IsSessionRow, words_of};
 ghost use Rattle.replay_cmd.specs.RowKinds.{AreSessionWords};
 
 use crate::schedule::{FileLine, SessionLine};
-use crate::splitting::{five_words, four_words, three_words};
-use crate::values::{hex_read, is_word};
-use access_tokens::moment_read;
+use crate::values::contents_read;
+use line_text::{five_words, four_words, is_word, moment_read, three_words};
 use save_session::Nonce;
 use std::alloc::Global;
 use wopi_text::{Memory, id_read};
@@ -27,7 +26,7 @@ pub(crate) fn file_read(alloc: Global, row: &[u8]) -> Result<Option<FileLine>, M
     let Ok(name) = id_read(id) else {
         return Ok(None);
     };
-    let Some(contents) = hex_read(alloc, digits)? else {
+    let Some(contents) = contents_read(alloc, digits)? else {
         return Ok(None);
     };
     Ok(Some(FileLine { name, contents }))

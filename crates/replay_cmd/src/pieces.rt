@@ -2,12 +2,13 @@
 ghost use Rattle.std.specs.Prelude.{◌≡◌, ◌+◌, ◌≤◌, ◌++◌, ◌∷◌, [], ℕ, List, OnOk, IfErr, length};
 ghost use Rattle.replay_cmd.specs.declared.reading.ScheduleFault.TheVariants.{BadLine};
 ghost use Rattle.replay_cmd.specs.Grammar.{most_rows};
-ghost use Rattle.replay_cmd.specs.Pieces.{HasCome, IsFault, IsOver, IsRead, MayTakeLine, IsRowFault, IsTakenIn, LacksFeed, Lengthens, room_of};
+ghost use Rattle.replay_cmd.specs.Pieces.{HasCome, IsFault, IsOver, IsRead, MayTakeLine, IsRowFault, IsTakenIn, Lengthens, room_of};
+ghost use Rattle.line_text.specs.Words.{IsRow};
 ghost use Rattle.replay_cmd.specs.Readings.{TakesLine};
 
 use crate::reading::{MOST_BYTES, Reader, ScheduleFault};
 use crate::schedule::Schedule;
-use crate::splitting::split_row;
+use line_text::split_row;
 use std::alloc::Global;
 use wopi_text::Memory;
 
@@ -50,7 +51,7 @@ impl PieceReader {
     /// Takes what there was of the next line, and the rest of it up to its line feed.
     fn take_row(&mut self, part: &[u8]) -> Result<(), ScheduleFault>
         requires ready { MayTakeLine self.old.reader }
-        requires line { LacksFeed part.now }
+        requires line { IsRow part.now }
         ensures taken { OnOk result ((text behind : List ℕ) → HasCome text (part.now ++ 10 ∷ behind) self.old → HasCome text behind self.new) }
         ensures refused { IfErr result (λ fault. (text behind : List ℕ) → HasCome text (part.now ++ 10 ∷ behind) self.old → IsFault text fault) }
         ensures ready { OnOk result (MayTakeLine self.new.reader) }

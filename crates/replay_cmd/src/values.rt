@@ -1,13 +1,13 @@
 //! What the words of a schedule's lines say.
-ghost use Rattle.std.specs.Prelude.{◌≡◌, ◌≢◌, ◌↔◌, ◌≤◌, ◌+◌, All, Bool, Option, ℕ, List, ◌∷◌, decimal, Some, Ok, IsTrue, IfOk, IfSome, IfNone, IsSome};
-ghost use Rattle.hex.specs.Hex.{decode_of};
-ghost use Rattle.replay_cmd.specs.Grammar.{IsContents, IsCounted, IsLockOrNone, IsLockWord, IsReference, lock_word, reference_word, yes_or_no};
+ghost use Rattle.std.specs.Prelude.{◌≡◌, ◌≢◌, ◌↔◌, ◌≤◌, ◌+◌, All, Option, ℕ, List, ◌∷◌, decimal, Some, Ok, IsTrue, IfOk, IfSome, IfNone, IsSome};
+ghost use Rattle.replay_cmd.specs.Grammar.{IsContents, IsCounted, IsLockOrNone, IsLockWord, IsReference, lock_word, reference_word};
 ghost use Rattle.replay_cmd.specs.declared.schedule.Reference.{Reference};
 ghost use Rattle.replay_cmd.specs.Words.{hex_text};
 
 use crate::Reference;
+use line_text::{hex_read, is_word, number_read};
 use std::alloc::Global;
-use wopi_text::{Bytes, LockId, Memory, decimal_read, hex_decoded};
+use wopi_text::{Bytes, LockId, Memory};
 
 /// Twice the most bytes that a word writes.
 const MOST_DIGITS: usize = 16_384;
@@ -15,43 +15,22 @@ const MOST_DIGITS: usize = 16_384;
 /// The most bytes of a lock id in a schedule.
 const MOST_LOCK: usize = 256;
 
-/// Whether the words are the same.
-pub(crate) fn is_word(word: &[u8], other: &[u8]) -> bool
-    ensures { IsTrue result ↔ (word.now ≡ other.now) }
-{
-    word == other
-}
-
-/// The contents that a word writes in lower-case hex, `-` for none.
-pub(crate) fn hex_read(alloc: Global, word: &[u8]) -> Result<Option<Bytes>, Memory>
+/// The contents that a word writes in lower-case hex, `-` for none: no more than a line can have.
+pub(crate) fn contents_read(alloc: Global, word: &[u8]) -> Result<Option<Bytes>, Memory>
     ensures some { IfOk result (λ read. IfSome read (λ contents. IsContents contents × (word.now ≡ hex_text contents))) }
     ensures none { IfOk result (λ read. IfNone read ((contents : List ℕ) → IsContents contents → word.now ≢ hex_text contents)) }
 {
-    if is_word(word, b"-".as_slice()) {
-        return Ok(Some(Bytes::from_vec(Vec::new(alloc))));
-    }
-    if word.is_empty() {
-        return Ok(None);
-    }
     if word.len() > MOST_DIGITS {
         return Ok(None);
     }
-    let Some(contents) = hex_decoded(alloc, word)? else {
-        return Ok(None);
-    };
-    let text = hex::encode(alloc, contents.as_slice())?;
-    if is_word(text.as_bytes(), word) {
-        Ok(Some(Bytes::from_vec(contents)))
-    } else {
-        Ok(None)
-    }
+    hex_read(alloc, word)
 }
 
 /// The number from 1 that a word is.
 pub(crate) fn counted_read(word: &[u8]) -> Option<u64>
     ensures { (n : ℕ) → (result ≡ Some n) ↔ (IsCounted n × (word.now ≡ decimal n)) }
 {
-    let Some(number) = decimal_read(word) else {
+    let Some(number) = number_read(word) else {
         return None;
     };
     if number == 0 {
@@ -133,18 +112,4 @@ pub(crate) fn lock_or_none_read(word: &[u8]) -> Option<Option<LockId>>
         return None;
     };
     Some(Some(id))
-}
-
-/// Whether a copy may replace a file.
-pub(crate) fn overwrite_read(word: &[u8]) -> Option<bool>
-    ensures some { IfSome result (λ overwrite. word.now ≡ yes_or_no overwrite) }
-    ensures none { IfNone result ((overwrite : Bool) → word.now ≢ yes_or_no overwrite) }
-{
-    if is_word(word, b"yes".as_slice()) {
-        return Some(true);
-    }
-    if is_word(word, b"no".as_slice()) {
-        return Some(false);
-    }
-    None
 }

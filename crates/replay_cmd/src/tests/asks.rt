@@ -1,11 +1,8 @@
 //! All that sessions and somebody else may ask, as it is written, read and answered over a wire.
-ghost use Rattle.std.specs.Prelude.{◌≡◌, true};
-
 use super::traces::expect_over;
-use crate::{Schedule, Straight, Wire, World};
+use crate::{Schedule, ScriptWire, Straight, World};
 use std::alloc::Global;
 use std::test::Fail;
-use wopi_text::Bytes;
 
 /// Each operation once, a file of another name, and a token that has expired.
 const EACH: &[u8] = b"file 612e637376 312c320a\n\
@@ -70,44 +67,6 @@ fn the_longest_contents_are_saved(rt: HostRuntime) -> Result<(), Fail> {
     expect_over(&rt, alloc, &mut Straight, &text, &shown)
 }
 
-/// A wire that carries each message as it is, and counts those that aren't the ones it waits for.
-struct Waiting {
-    messages: &'static [&'static [u8]],
-    carried: usize,
-    others: usize,
-}
-
-impl Drop for Waiting {
-    fn drop(self) {
-        let Waiting {
-            messages: _messages,
-            carried: _carried,
-            others: _others,
-        } = self;
-    }
-}
-
-impl Wire for Waiting {
-    ghost use Rattle.std.specs.Prelude.{false};
-
-    ghost is_straight = { λ _. false };
-
-    fn carry(&mut self, message: Bytes) -> Bytes
-        ensures same { false ≡ true → result ≡ message }
-        ensures stays { false ≡ true → false ≡ true }
-    {
-        let is_next = match self.messages.get(self.carried) {
-            Some(next) => message.as_slice() == *next,
-            None => false,
-        };
-        if !is_next {
-            self.others = self.others.saturating_add(1);
-        }
-        self.carried = self.carried.saturating_add(1);
-        message
-    }
-}
-
 /// What opens a file, as it goes over the wire.
 const MESSAGES: [&[u8]; 4] = [
     b"GET /wopi/files/612e637376?access_token=v2.0.s1.612e637376.w.1.0.9000000.d22f2c646844607e2483fa9850ccefee5aec7564acc745c4a7ddaa6ab44d2583 HTTP/1.1\r\nHost: localhost\r\n\
@@ -125,13 +84,12 @@ fn what_goes_over_the_wire_is_the_request_and_the_reply(rt: HostRuntime) -> Resu
         b"file 612e637376 312c320a\nsession 612e637376 n 9000000\nopen 1\ndeliver 1 0\nanswer 1\n\
 deliver 2 0\nanswer 2\n",
     )?;
-    let mut wire = Waiting {
-        messages: &MESSAGES,
-        carried: 0,
-        others: 0,
-    };
+    let mut wire = ScriptWire::new(alloc, Vec::new(alloc));
     let _world = World::run(alloc, &schedule, &mut wire)?;
-    assert_eq!(rt; wire.carried, 4);
-    assert_eq!(rt; wire.others, 0);
+    assert_eq!(rt; wire.carried().len(), 4);
+    for (carried, message) in wire.carried().iter().zip(MESSAGES) {
+        assert!(rt; carried.given.as_slice() == message);
+        assert!(rt; carried.got.as_slice() == message);
+    }
     Ok(())
 }

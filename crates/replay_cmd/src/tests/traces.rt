@@ -128,7 +128,7 @@ fn the_trace_shows_the_request_that_came(rt: HostRuntime) -> Result<(), Fail> {
     let mut instead = Vec::new(alloc);
     let request = Bytes::from_slice(alloc, b"GET /wopi/folders HTTP/1.1\r\nHost: x\r\n\r\n")?;
     instead.push(Some(request))?;
-    let mut wire = ScriptWire::new(instead);
+    let mut wire = ScriptWire::new(alloc, instead);
     let shown = b"send 1 info\nreply 1 404\ntell 1 gone\nend 612e637376 v1 - 312c320a\n";
     expect_over(&rt, alloc, &mut wire, BEGUN, shown)
 }
@@ -140,7 +140,7 @@ fn the_trace_shows_the_reply_that_came(rt: HostRuntime) -> Result<(), Fail> {
     instead.push(None)?;
     let reply = Bytes::from_slice(alloc, b"HTTP/1.1 500 E\r\nContent-Length: 0\r\n\r\n")?;
     instead.push(Some(reply))?;
-    let mut wire = ScriptWire::new(instead);
+    let mut wire = ScriptWire::new(alloc, instead);
     let shown =
         b"send 1 info\nreply 1 200 v1 4\ntell 1 host fault 500\nend 612e637376 v1 - 312c320a\n";
     expect_over(&rt, alloc, &mut wire, BEGUN, shown)
@@ -190,7 +190,7 @@ fn wire_of(alloc: Global, instead: &[Option<&[u8]>]) -> Result<ScriptWire, Fail>
             None => messages.push(None)?,
         }
     }
-    Ok(ScriptWire::new(messages))
+    Ok(ScriptWire::new(alloc, messages))
 }
 
 #[test]

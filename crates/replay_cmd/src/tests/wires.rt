@@ -7,7 +7,7 @@ use wopi_text::Bytes;
 fn instead(alloc: Global, message: &[u8]) -> Result<ScriptWire, Fail> {
     let mut given = Vec::new(alloc);
     given.push(Some(Bytes::from_slice(alloc, message)?))?;
-    Ok(ScriptWire::new(given))
+    Ok(ScriptWire::new(alloc, given))
 }
 
 /// The status of the first reply.

@@ -8,8 +8,8 @@ use Rattle.replay_cmd.specs.declared.faultless.FaultlessFolder.{FaultlessFolder}
 use Rattle.replay_cmd.proofs.AskLemmas.{asked_ruled, exchanged}
 use Rattle.replay_cmd.proofs.exchanging.answer_request.Goals as goal
 
-pub returns : goal.returns
-returns c =
+pub returns-clause-asked : goal.returns-clause-asked
+returns-clause-asked c =
     let new = c.answer.new.caller in
     let a = c.in_ok-answer.answer in
     let answers = subst (λ (b : Book FaultlessFolder). Answers c.args.desk.now c.args.request c.args.moment SeesItsOwn (sight_of b) (sight_of new.shard) (Ok a))
@@ -23,3 +23,9 @@ returns c =
     ) in
     exchanged c.args.desk.now ask body c.args.moment c.args.host.now.shard new.start new.shard a
     (c.answer.ensures.basis ∙ c.begin.ensures.start) tells c.now-time.ensures.grown c.now-time.ensures.legal c.now-time.ensures.stored
+
+pub returns-clause-answers : goal.returns-clause-answers
+returns-clause-answers c =
+    let new = c.answer.new.caller in
+    subst (λ (b : Book FaultlessFolder). Answers c.args.desk.now c.args.request c.args.moment SeesItsOwn (sight_of b) (sight_of new.shard) (Ok c.in_ok-answer.answer))
+    c.begin.ensures.shard c.in_ok-answer.ensures.answers

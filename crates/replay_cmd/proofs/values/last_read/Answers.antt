@@ -1,5 +1,5 @@
 use Rattle.std.proofs.lemmas.List.{take_rest}
-use Rattle.replay_cmd.proofs.Endings.{not_empty}
+use Rattle.line_text.proofs.Endings.{not_empty}
 use Rattle.replay_cmd.proofs.WordValues.{behind, put_back}
 use Rattle.replay_cmd.proofs.values.last_read.Goals as goal
 

@@ -1,5 +1,6 @@
 use Rattle.std.proofs.Common.{◌++◌, ℕ, List, subst}
-use Rattle.replay_cmd.specs.Pieces.{HasCome, LacksFeed}
+use Rattle.line_text.specs.Words.{IsRow}
+use Rattle.replay_cmd.specs.Pieces.{HasCome}
 use Rattle.replay_cmd.proofs.PieceLemmas.{one_room, rest_taken}
 use Rattle.replay_cmd.proofs.pieces.PieceReader.take_all.Goals as goal
 
@@ -23,6 +24,6 @@ rows-preserved c =
 
 pub returns-clause-taken : goal.returns-clause-taken
 returns-clause-taken c = λ text come.
-    let none : LacksFeed c.rows.rest.now = c.in_default.ensures.none in
+    let none : IsRow c.rows.rest.now = c.in_default.ensures.none in
     rest_taken (text ++ c.args.piece.now) c.rows.rest.now c.rows.self c.lengthen.new.self c.lengthen.result none (c.rows.invariant.come text come)
     c.lengthen.ensures.ok c.lengthen.ensures.refused

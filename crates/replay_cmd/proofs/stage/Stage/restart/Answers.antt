@@ -1,4 +1,4 @@
-use Rattle.std.proofs.Common.{◌≡◌, ◌∷◌, ◌++◌, [], codes, decimal, ℕ, sym, ap, ◌∙◌, subst}
+use Rattle.std.proofs.Common.{◌≡◌, ◌∷◌, ◌++◌, [], codes, decimal, ℕ, refl, sym, ap, ◌∙◌, subst}
 use Rattle.wopi_world.specs.History.{IsNextFirst, after}
 use Rattle.wopi_world.specs.World.{Restarts, comes, first_shard, next_first}
 use Rattle.replay_cmd.specs.Pasts.{ShowsHosts}
@@ -43,3 +43,11 @@ returns-clause-follows c =
       c.in_ok-words.ensures ∙ ap (λ (n : ℕ). codes "restarted" ∷ decimal n ∷ [])
           (same_first setting stage.desk stage.host.shard host.shard stage.history.items stage.requests.items stage.replies.items stage.members.items world shows moment first told.0 next reopens),
     )
+
+pub returns-clause-anew : goal.returns-clause-anew
+returns-clause-anew c = record {
+  talk = record { requests = refl; replies = refl; members = refl; keys = c.open_at.ensures.keys; base = c.open_at.ensures.base };
+  opened = c.open_at.ensures.opened;
+  first = c.in-Some.first;
+  reopens = of_some c.in_ok-reopened.field-0 _ c.in_ok-reopened.ensures.reopens c.in-Some-2.reopened c.in-Some-2.is;
+}
