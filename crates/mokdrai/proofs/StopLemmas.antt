@@ -64,3 +64,8 @@ pub held_each_ok : {V S N E : Type 0} (items : V → List S) (listener : S → O
     → IfOk r (λ all. map listener (items all) ≡ map Some those) → IfOk r (λ all. AllByRecursion (λ one. IsSome (listener one)) (items all))
 held_each_ok items listener (Ok all) those held = held_each listener (items all) those held
 held_each_ok items listener (Err e) those held = tt
+
+-- what each of these has, each of those says of itself
+pub all_weaker : {X : Type 0} (P Q : X → Type 0) → ((x : X) → P x → Q x) → (xs : List X) → AllByRecursion P xs → AllByRecursion Q xs
+all_weaker P Q weaker [] each = tt
+all_weaker P Q weaker (x ∷ xs) each = (weaker x each.0, all_weaker P Q weaker xs each.1)

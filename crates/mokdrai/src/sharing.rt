@@ -165,6 +165,7 @@ impl<N: Listener> Listener for SharedListener<N> {
     ghost in_hand = { λ l. N.in_hand l.listener };
 
     fn accept(&mut self) -> Result<Accepted<N::Link>, OutFault>
+        requires { N.finished self.old.listener ≡ N.accepted self.old.listener }
         ensures number { AcceptsNumber (N.accepted self.old.listener) (N.accepted self.new.listener) result }
         ensures finished { N.finished self.new.listener ≡ N.finished self.old.listener }
         ensures never_falls { self.old.faults ≤ self.new.faults }
@@ -208,7 +209,7 @@ pub(crate) fn share(
     most: u64,
 ) -> Result<Vec<SharedListener<TcpListen>>, Memory>
     ensures count { IfOk result (λ all. vec_len all ≡ workers) }
-    ensures each { IfOk result (λ all. AllByRecursion (λ one. (one.listener.most ≡ most) × (one.listener.accepted ≡ 0)) all.items) }
+    ensures each { IfOk result (λ all. AllByRecursion (λ one. (one.listener.most ≡ most) × (one.listener.accepted ≡ 0) × (one.listener.finished ≡ 0)) all.items) }
 {
     let mut all = Vec::with_capacity(alloc, workers)?;
     for _ in 0..workers {

@@ -67,7 +67,8 @@ pub(crate) trait CloseAll {
 ///
 /// It looks for the file once when it is made and once after each link that it takes. That link is
 /// then turned away, and every later accept answers `Closed` and asks nothing. It tells no links,
-/// since what it takes is up to the file. A file that can't be looked for isn't there.
+/// since what it takes is up to the file. A file that can't be looked for isn't there. The other listener has
+/// every link back that it gave.
 ///
 /// As soon as it sees the file it closes its listener for all that share with it, also for those
 /// that wait in an accept or serve a link. As soon as it gives no more links it lets its listener go.
@@ -81,16 +82,18 @@ pub(crate) struct StopListener<'a, R, N: Listener> {
     finished: u64,
     faults: u64,
     ghost in_hand: { finished ≤ accepted },
-    ghost lent: { ForSome listener (λ one. N.finished one + accepted ≤ N.accepted one + finished) },
+    ghost lent: { ForSome listener (λ one. N.finished one + accepted ≡ N.accepted one + finished) },
 }
 
 impl<'a, R: Files, N: Listener + CloseAll> StopListener<'a, R, N> {
     /// `path` is that of the stop file; with none only the listener's own end ends it.
     pub(crate) fn new(rt: &'a R, path: Option<&'a str>, listener: N) -> StopListener<'a, R, N>
+        requires { N.finished listener ≡ N.accepted listener }
         ensures listener { IfSome result.listener (λ one. one ≡ listener) }
         ensures untold { path.entry ≡ None → result.listener ≡ Some listener }
         ensures path { result.path ≡ path.entry }
         ensures accepted { result.accepted ≡ 0 }
+        ensures finished { result.finished ≡ 0 }
     {
         let listener = if is_there(rt, path) {
             listener.close_all();
@@ -131,6 +134,7 @@ where
     ghost in_hand = { λ l. l.in_hand };
 
     fn accept(&mut self) -> Result<Accepted<N::Link>, OutFault>
+        requires { self.old.finished ≡ self.old.accepted }
         ensures number { AcceptsNumber self.old.accepted self.new.accepted result }
         ensures finished { self.new.finished ≡ self.old.finished }
         ensures never_falls { self.old.faults ≤ self.new.faults }
@@ -209,9 +213,10 @@ pub(crate) fn until_stopped<'a, R: Files, N: Listener + CloseAll>(
     path: Option<&'a str>,
     listeners: Vec<N>,
 ) -> Result<Vec<StopListener<'a, R, N>>, Memory>
+    requires { AllByRecursion (λ one. N.finished one ≡ N.accepted one) listeners.items }
     ensures count { IfOk result (λ all. vec_len all ≡ vec_len listeners) }
     ensures over { IfOk result (λ all. AreOver (λ one. one.listener) all.items listeners.items) }
-    ensures begins { IfOk result (λ all. AllByRecursion (λ one. (one.path ≡ path.entry) × (one.accepted ≡ 0)) all.items) }
+    ensures begins { IfOk result (λ all. AllByRecursion (λ one. (one.path ≡ path.entry) × (one.accepted ≡ 0) × (one.finished ≡ 0)) all.items) }
     ensures untold { path.entry ≡ None → IfOk result (λ all. map (λ one. one.listener) all.items ≡ map Some listeners.items) }
 {
     let mut all = Vec::with_capacity(alloc, listeners.len())?;

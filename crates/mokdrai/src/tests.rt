@@ -1,3 +1,8 @@
+ghost use Rattle.std.specs.Prelude.{◌≡◌, length, IfOk};
+ghost use Rattle.outside.specs.MemListener.{put_back};
+
+mod real;
+
 use crate::sharing::{SharedListener, SharedSocket, bind, close_at_byte, close_later, share};
 use crate::stopping::{StopListener, no_path, until_stopped};
 use crate::unread;
@@ -34,7 +39,9 @@ fn want_of_memory_for_the_stop_file_is_no_missing_path(rt: HostRuntime) -> Resul
 }
 
 // A listener in memory with so many empty links, some of whose accepts fail.
-fn links(alloc: Global, count: usize, failing: &[u64]) -> Result<MemListener<Wire>, Fail> {
+fn links(alloc: Global, count: usize, failing: &[u64]) -> Result<MemListener<Wire>, Fail>
+    ensures { IfOk result (λ l. length (put_back l) ≡ l.accepted) }
+{
     let mut links = Vec::new(alloc);
     for _ in 0..count {
         let input = MemSource::new(Bytes::from_vec(Vec::new(alloc)), 1, Vec::new(alloc));
@@ -45,12 +52,17 @@ fn links(alloc: Global, count: usize, failing: &[u64]) -> Result<MemListener<Wir
 }
 
 // One that shares no socket, and whose third accept fails.
-fn wires(alloc: Global, count: usize) -> Result<SharedListener<MemListener<Wire>>, Fail> {
+fn wires(alloc: Global, count: usize) -> Result<SharedListener<MemListener<Wire>>, Fail>
+    ensures { IfOk result (λ l. length (put_back l.listener) ≡ l.listener.accepted) }
+{
     Ok(SharedListener::new(links(alloc, count, &[3])?, None))
 }
 
 // Whether a link was accepted; it is finished at once.
-fn takes_one<N: Listener>(listener: &mut N) -> Result<bool, OutFault> {
+fn takes_one<N: Listener>(listener: &mut N) -> Result<bool, OutFault>
+    requires { N.finished listener.old ≡ N.accepted listener.old }
+    ensures { N.finished listener.new ≡ N.accepted listener.new }
+{
     match listener.accept() {
         Ok(Accepted::Link(link)) => {
             listener.finish(link);
@@ -118,19 +130,13 @@ fn socket(rt: &HostRuntime) -> Result<Socket, Fail> {
     }
 }
 
-// Two listeners over the socket, until the stop file is there.
-fn two<'a>(
-    rt: &'a HostRuntime,
-    path: &'a str,
-    socket: &Socket,
-) -> Result<(Taken<'a>, Taken<'a>), Fail> {
-    let alloc = rt.alloc();
-    let bound = share(alloc, &Some(socket.clone()?), 2, 9)?;
-    let mut all = until_stopped(alloc, rt, Some(path), bound)?;
-    match (all.pop(), all.pop()) {
-        (Some(first), Some(second)) => Ok((first, second)),
-        _ => Err(Fail::from(io::Error::from(ErrorKind::NotFound))),
-    }
+// A listener over the socket, until the stop file is there.
+fn one<'a>(rt: &'a HostRuntime, path: &'a str, socket: &Socket) -> Result<Taken<'a>, Fail>
+    ensures { IfOk result (λ one. one.finished ≡ one.accepted) }
+{
+    let own = TcpListen::new(Some(socket.listening.clone()?), 9);
+    let shared = SharedListener::new(own, Some(socket.clone()?));
+    Ok(StopListener::new(rt, Some(path), shared))
 }
 
 fn connect(rt: &HostRuntime, socket: &Socket) -> io::Result<TcpStream> {
@@ -150,7 +156,8 @@ fn a_stop_that_one_listener_sees_closes_the_socket_of_all(rt: HostRuntime) -> Re
     const PATH: &str = "mokdrai_test_stop_of_all";
     no_file(&rt, PATH)?;
     let socket = socket(&rt)?;
-    let (mut busy, mut idle) = two(&rt, PATH, &socket)?;
+    let mut busy = one(&rt, PATH, &socket)?;
+    let mut idle = one(&rt, PATH, &socket)?;
     let mut client = connect(&rt, &socket)?;
     let Ok(Accepted::Link(mut link)) = busy.accept() else {
         return Err(Fail::from(io::Error::from(ErrorKind::NotConnected)));
@@ -176,7 +183,8 @@ fn a_byte_closes_the_socket_with_nobody_in_an_accept(rt: HostRuntime) -> Result<
     const PATH: &str = "mokdrai_test_no_stop";
     no_file(&rt, PATH)?;
     let socket = socket(&rt)?;
-    let (mut first, mut second) = two(&rt, PATH, &socket)?;
+    let mut first = one(&rt, PATH, &socket)?;
+    let mut second = one(&rt, PATH, &socket)?;
     close_at_byte(b"".as_slice(), &socket);
     let _client = connect(&rt, &socket)?;
     assert_eq!(rt; takes_one(&mut first), Ok(true));
@@ -191,7 +199,8 @@ fn a_byte_closes_the_socket_with_nobody_in_an_accept(rt: HostRuntime) -> Result<
 fn a_byte_at_a_path_ends_an_accept_that_waits(rt: HostRuntime) -> Result<(), Fail> {
     const PATH: &str = "mokdrai_test_byte";
     let socket = socket(&rt)?;
-    let (mut first, mut second) = two(&rt, "mokdrai_test_none", &socket)?;
+    let mut first = one(&rt, "mokdrai_test_none", &socket)?;
+    let mut second = one(&rt, "mokdrai_test_none", &socket)?;
     fs::write(&rt, PATH, b"\n".as_slice())?;
     close_later(&rt, Some(PATH), &Some(socket.clone()?))?;
     assert_eq!(rt; takes_one(&mut first), Ok(false));
@@ -201,18 +210,35 @@ fn a_byte_at_a_path_ends_an_accept_that_waits(rt: HostRuntime) -> Result<(), Fai
     Ok(())
 }
 
+// Whether both take a link where two are made.
+fn each_takes_one(
+    rt: &HostRuntime,
+    socket: &Socket,
+    first: &mut Taken<'_>,
+    second: &mut Taken<'_>,
+) -> Result<bool, Fail>
+    requires first { first.old.finished ≡ first.old.accepted }
+    requires second { second.old.finished ≡ second.old.accepted }
+    ensures first { IfOk result (λ _. first.new.finished ≡ first.new.accepted) }
+    ensures second { IfOk result (λ _. second.new.finished ≡ second.new.accepted) }
+{
+    let _one = connect(rt, socket)?;
+    let _other = connect(rt, socket)?;
+    let by_first = takes_one(first);
+    let by_second = takes_one(second);
+    Ok(by_first == Ok(true) && by_second == Ok(true))
+}
+
 #[test]
 fn a_socket_stays_open_from_link_to_link(rt: HostRuntime) -> Result<(), Fail> {
     const PATH: &str = "mokdrai_test_stays_open";
     no_file(&rt, PATH)?;
     let socket = socket(&rt)?;
-    let (mut first, mut second) = two(&rt, PATH, &socket)?;
-    for _ in 0..3 {
-        let _one = connect(&rt, &socket)?;
-        let _other = connect(&rt, &socket)?;
-        assert_eq!(rt; takes_one(&mut first), Ok(true));
-        assert_eq!(rt; takes_one(&mut second), Ok(true));
-    }
+    let mut first = one(&rt, PATH, &socket)?;
+    let mut second = one(&rt, PATH, &socket)?;
+    assert!(rt; each_takes_one(&rt, &socket, &mut first, &mut second)?);
+    assert!(rt; each_takes_one(&rt, &socket, &mut first, &mut second)?);
+    assert!(rt; each_takes_one(&rt, &socket, &mut first, &mut second)?);
     assert!(rt; connect(&rt, &socket).is_ok());
     Ok(())
 }
@@ -236,7 +262,8 @@ fn the_last_listener_that_is_let_go_closes_the_socket(rt: HostRuntime) -> Result
     const PATH: &str = "mokdrai_test_never_stopped";
     no_file(&rt, PATH)?;
     let socket = socket(&rt)?;
-    let (first, second) = two(&rt, PATH, &socket)?;
+    let first = one(&rt, PATH, &socket)?;
+    let second = one(&rt, PATH, &socket)?;
     drop(first);
     assert!(rt; connect(&rt, &socket).is_ok());
     drop(second);
@@ -249,8 +276,9 @@ fn an_address_that_can_not_be_bound_makes_each_accept_fail(rt: HostRuntime) -> R
     let alloc = rt.alloc();
     let none = bind(alloc, &rt, "no address")?;
     assert!(rt; none.is_none());
-    for mut one in share(alloc, &none, 2, 9)? {
-        assert_eq!(rt; takes_one(&mut one), Err(OutFault::Failed));
-    }
+    let mut all = share(alloc, &none, 2, 9)?;
+    assert_eq!(rt; all.len(), 2);
+    assert_eq!(rt; takes_one(&mut all[0]), Err(OutFault::Failed));
+    assert_eq!(rt; takes_one(&mut all[1]), Err(OutFault::Failed));
     Ok(())
 }

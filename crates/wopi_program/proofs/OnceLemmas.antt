@@ -22,12 +22,12 @@ use Rattle.access_tokens.specs.declared.keys.Keys.{Keys}
 module _ {S K F N D C L : Type 0} (m : Meanings S K F N D C L) where
   pub shard_serves : (desk : Desk) (end : ConnEnd) (first began ended last : Book F) (folder : F) (clock clock' : C) (old new : Outside S K F N D C)
       → began ≡ first → last ≡ ended
-      → Serves desk SeesItsOwn end (m.left old.input) (m.moments clock) (m.moments clock') (sight_of began) (sight_of ended) (m.held old.output) (m.held new.output)
+      → Serves desk SeesItsOwn end (m.left old.input) (m.left new.input) (m.work.moments clock) (m.work.moments clock') (sight_of began) (sight_of ended) (m.held old.output) (m.held new.output)
       → ended.start ≡ began.start → last.only ≡ None
       → IsLawful last (m.files last.start) (m.files last.folder) (m.folder_faults last.start) (m.folder_faults last.folder) → folder ≡ last.folder
       → ServesShard m desk end first folder clock clock' old new
   shard_serves desk end first began ended last folder clock clock' old new begins ends serves start only lawful folder_is =
-      let Served : Book F → Book F → Type 0 = λ a b. Serves desk SeesItsOwn end (m.left old.input) (m.moments clock) (m.moments clock') (sight_of a) (sight_of b)
+      let Served : Book F → Book F → Type 0 = λ a b. Serves desk SeesItsOwn end (m.left old.input) (m.left new.input) (m.work.moments clock) (m.work.moments clock') (sight_of a) (sight_of b)
       (m.held old.output) (m.held new.output)
       in
       record {
@@ -59,7 +59,7 @@ module _ {S K F N D C L : Type 0} (m : Meanings S K F N D C L) where
       (subst (λ (l : List Item). Legal last.opening last.opened last.first l) items (s.lawful.alone calm))))
 
   pub opens_and_serves : (desk : Desk) (keys : Keys) (base : List ℕ) (opened : ℕ) (end : ConnEnd) (folder folder' : F) (clock mid clock' : C) (old new : Outside S K F N D C)
-      (first : Book F) → desk.keys ≡ keys → desk.base ≡ base → desk.opened ≡ opened → Gives (m.moments clock) (m.moments mid) opened
+      (first : Book F) → desk.keys ≡ keys → desk.base ≡ base → desk.opened ≡ opened → Gives (m.work.moments clock) (m.work.moments mid) opened
       → first ≡ record {
         only = None;
         opening = first.opening;
@@ -81,7 +81,7 @@ module _ {S K F N D C L : Type 0} (m : Meanings S K F N D C L) where
     first = first;
     keys_are = keys_are;
     base_is = base_is;
-    times = subst (Gives (m.moments clock) (m.moments mid)) (sym opened_is) times;
+    times = subst (Gives (m.work.moments clock) (m.work.moments mid)) (sym opened_is) times;
     opens = subst (λ n. IsFresh m folder n first) (sym opened_is) (record { book = book; opening = opening; fits = fits });
     serves = serves;
     legal = subst (λ (n : ℕ). Legal first.opening n 1 (map Step (made serves.serves.deeds))) (ap (λ (b : Book F). b.opened) book ∙ sym opened_is)
@@ -91,13 +91,15 @@ module _ {S K F N D C L : Type 0} (m : Meanings S K F N D C L) where
 
   -- a run speaks of the streams alone, and of the folder and the clock that it was given
   module _ (keys : Keys) (base : List ℕ) (folder folder' : F) (clock clock' : C) (old new old' new' : Outside S K F N D C)
-      (input_is : old.input ≡ old'.input) (output_is : old.output ≡ old'.output) (output_then : new.output ≡ new'.output) where
+      (input_is : old.input ≡ old'.input) (input_then : new.input ≡ new'.input) (output_is : old.output ≡ old'.output) (output_then : new.output ≡ new'.output) where
     moved : (end : ConnEnd) → OpensAndServes m keys base end folder folder' clock clock' old new → OpensAndServes m keys base end folder folder' clock clock' old' new'
     moved end served =
         let one = served.serves in
-        let At : S × K × K → Type 0 = λ z. OpensAndServes m keys base end folder folder' clock clock' (record old' { input = z.0; output = z.1 }) (record new' { output = z.2 }) in
-        let streams : (old.input, old.output, new.output) ≡ (old'.input, old'.output, new'.output) = λ i. (input_is i, output_is i, output_then i) in
-        let here : At (old.input, old.output, new.output) = record {
+        let At : S × S × K × K → Type 0 = λ z. OpensAndServes m keys base end folder folder' clock clock' (record old' { input = z.0; output = z.2 }) (record new' { input = z.1; output = z.3 }) in
+        let streams : (old.input, new.input, old.output, new.output) ≡ (old'.input, new'.input, old'.output, new'.output) =
+        λ i. (input_is i, input_then i, output_is i, output_then i)
+        in
+        let here : At (old.input, new.input, old.output, new.output) = record {
           desk = served.desk;
           mid = served.mid;
           first = served.first;
@@ -131,7 +133,7 @@ module _ {S K F N D C L : Type 0} (m : Meanings S K F N D C L) where
         clock' = ran.clock';
         clocks_are = ran.clocks_are;
         clocks_then = ran.clocks_then;
-        runs = runs_moved keys base ran.folder ran.folder' ran.clock ran.clock' old new old new' refl refl refl end ran.runs;
+        runs = runs_moved keys base ran.folder ran.folder' ran.clock ran.clock' old new old new' refl refl refl refl end ran.runs;
       }
       in
       subst (λ b. OnceRunsIn m keys b end old new') is noted
@@ -154,6 +156,17 @@ by_read_fault R held count status old new FolderFault is cause s = absurd (omega
 by_read_fault R held count status old new (TooLarge name) (inl told) cause s = absurd (omega (arith, told.0, s))
 by_read_fault R held count status old new (TooLarge name) (inr want) cause s = absurd (omega (arith, want.0, s))
 by_read_fault R held count status old new Memory is cause s = absurd (omega (arith, is.0, s))
+
+-- with any other status the end is no fault of reading
+pub by_no_read_fault : {K : Type 0} (R : Type 0) (held : K → Option (List ℕ)) (count : K → ℕ) (status : ℕ) (old new : K) (end : OnceEnd)
+    → Finishes held count status old new end → (end ≢ Served conn.ReadFault → R) → status ≢ 3 → R
+by_no_read_fault R held count status old new (Served conn.Done) is fine s = fine (λ e. absurd (cc e))
+by_no_read_fault R held count status old new (Served conn.ReadFault) is fine s = absurd (s is.0)
+by_no_read_fault R held count status old new (Served conn.WriteFault) is fine s = fine (λ e. absurd (cc e))
+by_no_read_fault R held count status old new (Served conn.Memory) is fine s = fine (λ e. absurd (cc e))
+by_no_read_fault R held count status old new FolderFault is fine s = fine (λ e. absurd (cc e))
+by_no_read_fault R held count status old new (TooLarge name) is fine s = fine (λ e. absurd (cc e))
+by_no_read_fault R held count status old new Memory is fine s = fine (λ e. absurd (cc e))
 
 -- status 4 comes only with a fault of writing
 pub by_write_fault : {K : Type 0} (R : Type 0) (held : K → Option (List ℕ)) (count : K → ℕ) (status : ℕ) (old new : K) (end : OnceEnd)

@@ -12,7 +12,7 @@ use Rattle.wopi_program.specs.declared.outside_world.Outside.{Outside}
 use Rattle.wopi_program.specs.declared.replay_words.ReplayAsk.{ReplayAsk}
 use Rattle.wopi_program.specs.declared.replay_words.ReplayAsk.TheVariants.{Input, Generated}
 use Rattle.wopi_program.specs.Meanings.{Meanings}
-use Rattle.wopi_program.specs.Edit.{Tells, bad_line}
+use Rattle.wopi_program.specs.Edit.{Tells}
 use Rattle.wopi_program.specs.Replay.{AskReplays, InputReplays, IsTold, ReplayEnds, Replays}
 
 -- ---- statuses
@@ -95,10 +95,6 @@ told_of text_of lines text shown status held held' safe (names, are, is) same (i
 pub replays_not_3 : {K : Type 0} (held : K → Option (List ℕ)) (lines : Lines) (status : ℕ) (output output' : K)
     → Replays held trace_text lines status output output' → status ≢ 3
 replays_not_3 held lines status output output' replays is = replays-not 3 three_is_other held trace_text lines status output output' replays is
-
--- and neither has a bad one
-pub bad_not_3 : (held held' : Option (List ℕ)) (status number : ℕ) → Tells held held' status 7 [] (bad_line number) → status ≢ 3
-bad_not_3 held held' status number told is = bad-not 3 three_is_other held held' status (bad_line number) told is
 
 -- the trace of an input that was read
 pub traced_of : {S K F N D C L : Type 0} (m : Meanings S K F N D C L) (lines : Lines) (status : ℕ) (old new : Outside S K F N D C)

@@ -1,5 +1,5 @@
 -- What a run of `edit` promises. (Own.)
-use Rattle.std.specs.Prelude.{◌≡◌, ◌<◌, ◌⊎◌, ℕ, Bool, true, false, ◌==◌, ◌||◌, List, [], ◌++◌, length, Option, None, Result, Ok, Err, codes, decimal}
+use Rattle.std.specs.Prelude.{◌≡◌, ◌≢◌, ◌<◌, ◌⊎◌, ℕ, Bool, true, false, ◌==◌, ◌||◌, List, [], ◌++◌, length, Option, None, Result, Ok, Err, codes, decimal}
 use Rattle.std.specs.Io.KnownBytes.{Appends, IsAtEnd}
 use Rattle.outside.specs.Faults.{Rose, RoseBy}
 use Rattle.outside.specs.declared.dialer.Exchange.{Exchange}
@@ -13,7 +13,8 @@ use Rattle.grid_editor.specs.declared.turns.EditFault.{EditFault}
 use Rattle.grid_editor.specs.declared.turns.EditFault.TheVariants as fault
 use Rattle.grid_editor.specs.declared.turns.Went.{Went}
 use Rattle.grid_editor.specs.declared.turns.Went.TheVariants.{On, Ended}
-use Rattle.grid_editor.specs.Inputs.{IsScript, IsBadScript}
+use Rattle.line_text.specs.Inputs.{HasRead}
+use Rattle.grid_editor.specs.Inputs.{IsScript, IsBadScript, IsUndecided}
 use Rattle.grid_editor.specs.Runs.{Runs}
 use Rattle.grid_editor.specs.Views.{desktop_of, session_of, sheet_of}
 use Rattle.wopi_program.specs.declared.outside_world.Outside.{Outside}
@@ -111,7 +112,8 @@ module _ {S K F N D C L : Type 0} (m : Meanings S K F N D C L) where
   abbrev pub Edits : Editor → ℕ → Outside S K F N D C → Outside S K F N D C → Type 0
   Edits first status old new = IsUnread status old new ⊎ (IsRefused status old new ⊎ IsRun first status old new)
 
-  -- A run of the words: what it did, the causes of the faults, the notes; and all else stays.
+  -- A run of the words: what it did, the causes of the faults, the notes; and all else stays. A read of the input failed at status 3
+  -- alone, and there all that was read may still be the front of a script.
   pub record EditRan (words : List (List ℕ)) (status : ℕ) (old new : Outside S K F N D C) : Type 0 where
     pub asked : EditRow
     pub first : Editor
@@ -119,6 +121,8 @@ module _ {S K F N D C L : Type 0} (m : Meanings S K F N D C L) where
     pub editor : IsNewEditor first asked
     pub edits : Edits first status old new
     pub read_cause : status ≡ 3 → Rose (m.read_faults old.input) (m.read_faults new.input)
+    pub read_cut : status ≡ 3 → HasRead (m.left old.input) (m.left new.input) IsUndecided
+    pub read_fine : status ≢ 3 → m.read_faults new.input ≡ m.read_faults old.input
     pub write_cause : status ≡ 4 → Rose (m.write_faults old.output) (m.write_faults new.output)
     pub notes : NotesForEdit m.held m.write_faults status old.notes new.notes
     pub others : new ≡ record old { input = new.input; output = new.output; notes = new.notes; dialer = new.dialer }

@@ -16,3 +16,5 @@ pub mod Edit
 pub mod ReplayWords
 pub mod Replay
 pub mod Upgrade
+pub mod Asking
+pub mod BothEnds

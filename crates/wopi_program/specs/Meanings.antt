@@ -2,9 +2,10 @@
 use Rattle.std.specs.Prelude.{ℕ, List, Option}
 use Rattle.outside.specs.Folder.{Files}
 use Rattle.outside.specs.declared.dialer.Exchange.{Exchange}
+use Rattle.host_server.specs.WorkMeanings.{WorkMeanings}
 
 -- The meanings of a source S, a sink K, a folder F, a listener N with its links L, a dialer D and a clock C: what each tells of
--- itself, and the counts of its faults.
+-- itself, and the counts of its faults. A worker's are those of a listener, its links and a clock.
 pub record Meanings (S K F N D C L : Type 0) : Type 0 where
   pub left : S → Option (List ℕ)
   pub read_faults : S → ℕ
@@ -12,15 +13,6 @@ pub record Meanings (S K F N D C L : Type 0) : Type 0 where
   pub write_faults : K → ℕ
   pub files : F → Option Files
   pub folder_faults : F → ℕ
-  pub links_left : N → Option (List L)
-  pub finished_links : N → Option (List L)
-  pub accepted : N → ℕ
-  pub finished : N → ℕ
-  pub listener_faults : N → ℕ
-  pub link_left : L → Option (List ℕ)
-  pub link_held : L → Option (List ℕ)
-  pub link_read_faults : L → ℕ
-  pub link_write_faults : L → ℕ
+  pub work : WorkMeanings N L C
   pub exchanges : D → Option (List Exchange)
   pub dialer_faults : D → ℕ
-  pub moments : C → Option (List ℕ)

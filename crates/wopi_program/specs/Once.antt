@@ -1,5 +1,5 @@
 -- What a run of `once` promises.
-use Rattle.std.specs.Prelude.{◌≡◌, ◌⊎◌, ◌≤◌, ⊤, ℕ, false, List, [], ◌∷◌, ◌++◌, map, Option, None, codes}
+use Rattle.std.specs.Prelude.{◌≡◌, ◌≢◌, ◌⊎◌, ◌≤◌, ⊤, ℕ, false, List, [], ◌∷◌, ◌++◌, map, Option, None, codes}
 use Rattle.outside.specs.Faults.{Rose}
 use Rattle.outside.specs.Clock.{Gives}
 use Rattle.outside.specs.Folder.{Keeps}
@@ -79,7 +79,7 @@ module _ {S K F N D C L : Type 0} (m : Meanings S K F N D C L) where
   -- agrees with it, and each answer of a store fault has raised the folder's count.
   pub record ServesShard (desk : Desk) (end : ConnEnd) (first : Book F) (folder : F) (clock clock' : C) (old new : Outside S K F N D C) : Type 0 where
     pub last : Book F
-    pub serves : Serves desk SeesItsOwn end (m.left old.input) (m.moments clock) (m.moments clock') (sight_of first) (sight_of last) (m.held old.output) (m.held new.output)
+    pub serves : Serves desk SeesItsOwn end (m.left old.input) (m.left new.input) (m.work.moments clock) (m.work.moments clock') (sight_of first) (sight_of last) (m.held old.output) (m.held new.output)
     pub start : last.start ≡ first.start
     pub only : last.only ≡ None
     pub lawful : IsLawful last (m.files last.start) (m.files last.folder) (m.folder_faults last.start) (m.folder_faults last.folder)
@@ -93,7 +93,7 @@ module _ {S K F N D C L : Type 0} (m : Meanings S K F N D C L) where
     pub first : Book F
     pub keys_are : desk.keys ≡ keys
     pub base_is : desk.base ≡ base
-    pub times : Gives (m.moments clock) (m.moments mid) desk.opened
+    pub times : Gives (m.work.moments clock) (m.work.moments mid) desk.opened
     pub opens : IsFresh folder desk.opened first
     pub serves : ServesShard desk end first folder' mid clock' old new
     pub legal : Legal first.opening desk.opened 1 (map Step (made serves.serves.deeds))
@@ -101,7 +101,7 @@ module _ {S K F N D C L : Type 0} (m : Meanings S K F N D C L) where
   -- No shard was opened at the moment that the clock gave: the folder holds what it held, and its count hasn't fallen.
   pub record OpensNone (folder folder' : F) (clock clock' : C) : Type 0 where
     pub opened : ℕ
-    pub gives : Gives (m.moments clock) (m.moments clock') opened
+    pub gives : Gives (m.work.moments clock) (m.work.moments clock') opened
     pub keeps : Keeps (m.files folder) (m.files folder')
     pub counts : m.folder_faults folder ≤ m.folder_faults folder'
 
@@ -125,7 +125,8 @@ module _ {S K F N D C L : Type 0} (m : Meanings S K F N D C L) where
     pub clocks_then : new.clocks.items ≡ clock' ∷ []
     pub runs : OnceRuns keys base end folder folder' clock clock' old new
 
-  -- A run under the keys and the base of the words: what it did, the causes of the faults, the status's line on the notes; and all else stays.
+  -- A run under the keys and the base of the words: what it did, the causes of the faults, the status's line on the notes; and all else
+  -- stays. No read that failed is passed over.
   pub record OnceRan (words : List (List ℕ)) (status : ℕ) (old new : Outside S K F N D C) : Type 0 where
     pub end : OnceEnd
     pub keys : Keys
@@ -134,6 +135,7 @@ module _ {S K F N D C L : Type 0} (m : Meanings S K F N D C L) where
     pub runs : OnceRunsIn keys base end old new
     pub untouched : Untouched end old new
     pub nothing_read : end ≡ Served conn.Memory → m.left new.input ≡ m.left old.input
+    pub fine : status ≢ 3 → m.read_faults new.input ≡ m.read_faults old.input
     pub read_cause : status ≡ 3 → Rose (m.read_faults old.input) (m.read_faults new.input)
     pub write_cause : status ≡ 4 → Rose (m.write_faults old.output) (m.write_faults new.output)
     pub finishes : Finishes m.held m.write_faults status old.notes new.notes end

@@ -1,5 +1,5 @@
 -- What a run of `replay` promises. (Own.)
-use Rattle.std.specs.Prelude.{◌≡◌, ◌⊎◌, ℕ, List, [], Option}
+use Rattle.std.specs.Prelude.{◌≡◌, ◌≢◌, ◌⊎◌, ℕ, List, [], Option}
 use Rattle.std.specs.Io.KnownBytes.{Appends, IsAtEnd}
 use Rattle.outside.specs.Faults.{Rose}
 use Rattle.outside.specs.Stream.{GrewByPrefix}
@@ -8,7 +8,8 @@ use Rattle.wopi_world.specs.Safe.{IsSafe}
 use Rattle.replay_cmd.specs.Schedules.{Lines}
 use Rattle.replay_cmd.specs.Runs.{setting_of, world_of}
 use Rattle.replay_cmd.specs.Generator.{generated}
-use Rattle.replay_cmd.specs.Inputs.{IsBadInput, IsWholeInput}
+use Rattle.line_text.specs.Inputs.{HasRead}
+use Rattle.replay_cmd.specs.Inputs.{IsBadInput, IsUndecided, IsWholeInput}
 use Rattle.replay_cmd.specs.Trace.{summary_text, trace_text}
 use Rattle.wopi_program.specs.declared.outside_world.Outside.{Outside}
 use Rattle.wopi_program.specs.declared.replay_words.ReplayAsk.{ReplayAsk}
@@ -58,12 +59,15 @@ module _ {S K F N D C L : Type 0} (m : Meanings S K F N D C L) where
   AskReplays (Generated seed count) status old new =
       (new.input ≡ old.input) × Replays m.held summary_text (generated seed count) status old.output new.output
 
-  -- A run of the words: what it did, the causes of the faults, the notes; and all else stays.
+  -- A run of the words: what it did, the causes of the faults, the notes; and all else stays. A read of the input failed at status 3
+  -- alone, and there all that was read may still be the front of a schedule.
   pub record ReplayEnds (words : List (List ℕ)) (status : ℕ) (old new : Outside S K F N D C) : Type 0 where
     pub asked : ReplayAsk
     pub row : IsReplayRow words asked
     pub replays : AskReplays asked status old new
     pub read_cause : status ≡ 3 → Rose (m.read_faults old.input) (m.read_faults new.input)
+    pub read_cut : status ≡ 3 → HasRead (m.left old.input) (m.left new.input) IsUndecided
+    pub read_fine : status ≢ 3 → m.read_faults new.input ≡ m.read_faults old.input
     pub write_cause : status ≡ 4 → Rose (m.write_faults old.output) (m.write_faults new.output)
     pub notes : NotesForEdit m.held m.write_faults status old.notes new.notes
     pub others : new ≡ record old { input = new.input; output = new.output; notes = new.notes }

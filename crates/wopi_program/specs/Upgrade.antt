@@ -1,11 +1,12 @@
 -- What a run of `upgrade` promises. (Own.)
-use Rattle.std.specs.Prelude.{◌≡◌, ◌⊎◌, ℕ, Bool, true, false, ◌==◌, ◌||◌, List, [], Option}
+use Rattle.std.specs.Prelude.{◌≡◌, ◌≢◌, ◌⊎◌, ℕ, Bool, true, false, ◌==◌, ◌||◌, List, [], Option}
 use Rattle.std.specs.Io.KnownBytes.{Appends}
 use Rattle.outside.specs.Faults.{Rose}
 use Rattle.outside.specs.Stream.{GrewByPrefix}
 use Rattle.journal_text.specs.declared.text.Format.TheVariants.{Second}
 use Rattle.journal_text.specs.declared.text.JournalText.{JournalText}
-use Rattle.journal_text.specs.Inputs.{IsBadInput, IsLong, IsWholeInput}
+use Rattle.line_text.specs.Inputs.{HasRead}
+use Rattle.journal_text.specs.Inputs.{IsBadInput, IsLong, AreFew, IsWholeInput}
 use Rattle.journal_text.specs.Journals.{IsBadLine, IsReading, rows_of, text_of}
 use Rattle.wopi_program.specs.declared.outside_world.Outside.{Outside}
 use Rattle.wopi_program.specs.Meanings.{Meanings}
@@ -56,10 +57,13 @@ module _ {S K F N D C L : Type 0} (m : Meanings S K F N D C L) where
   abbrev pub Upgrades : ℕ → Outside S K F N D C → Outside S K F N D C → Type 0
   Upgrades status old new = IsNotRun status old new ⊎ (IsTooLong status old new ⊎ (IsBadJournal status old new ⊎ IsUpgraded status old new))
 
-  -- A run: what it did, the causes of the faults, the notes; and all else stays.
+  -- A run: what it did, the causes of the faults, the notes; and all else stays. A read of the input failed at status 3 alone, and there
+  -- no more was read than a journal may have.
   pub record UpgradeEnds (status : ℕ) (old new : Outside S K F N D C) : Type 0 where
     pub upgrades : Upgrades status old new
     pub read_cause : status ≡ 3 → Rose (m.read_faults old.input) (m.read_faults new.input)
+    pub read_cut : status ≡ 3 → HasRead (m.left old.input) (m.left new.input) AreFew
+    pub read_fine : status ≢ 3 → m.read_faults new.input ≡ m.read_faults old.input
     pub write_cause : status ≡ 4 → Rose (m.write_faults old.output) (m.write_faults new.output)
     pub notes : NotesForUpgrade m.held m.write_faults status old.notes new.notes
     pub others : new ≡ record old { input = new.input; output = new.output; notes = new.notes }

@@ -39,7 +39,7 @@ pub(crate) fn is_word(words: &[String], wanted: &str) -> bool
     }
 }
 
-fn is_once(words: &[String]) -> bool
+pub(crate) fn is_once(words: &[String]) -> bool
     ensures { IsTrue result ↔ IsRow (map string_bytes words.now) Command.Once }
 {
     match once_words(words) {
@@ -57,7 +57,7 @@ fn is_serve(words: &[String]) -> bool
     }
 }
 
-fn is_edit(words: &[String]) -> bool
+pub(crate) fn is_edit(words: &[String]) -> bool
     ensures { IsTrue result ↔ IsRow (map string_bytes words.now) Command.Edit }
 {
     match edit_words(words) {

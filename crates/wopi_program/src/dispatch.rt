@@ -1,5 +1,6 @@
 //! The top call.
 ghost use Rattle.std.specs.Prelude.{◌≡◌, ◌↔◌, ℕ, List, length, map, string_bytes};
+ghost use Rattle.std.specs.List.{AllByRecursion};
 ghost use Rattle.wopi_program.specs.Words.{IsCommand, IsRow};
 ghost use Rattle.wopi_program.specs.ServeWords.{IsServeRow};
 ghost use Rattle.wopi_program.specs.Telling.{UsageEnds};
@@ -31,6 +32,10 @@ pub fn run<
         → (length outside.old.folders.items ≡ 1) × (length outside.old.clocks.items ≡ 1) }
     requires serve { (keys : Keys) (base : List ℕ) (ask : ServeAsk) → IsServeRow (map string_bytes words.now) keys base ask
         → (length outside.old.folders.items ≡ 16) × (length outside.old.listeners.items ≡ ask.workers) × (length outside.old.clocks.items ≡ ask.workers) }
+
+    // Each link that a listener gave before was handed back, as with listeners that gave none.
+    requires has_all_back { IsRow (map string_bytes words.now) Command.Serve
+        → AllByRecursion (λ listener. N.finished listener ≡ N.accepted listener) outside.old.listeners.items }
 
     ensures usage { result ≡ 2 ↔ (¬ IsCommand (map string_bytes words.now)) }
     ensures usage_leaves { ¬ IsCommand (map string_bytes words.now) → UsageEnds ⟦<Outside<S, K, F, N, D, C> as Meant<S, K, F, N, D, C, N::Link>>⟧.meanings result outside.old outside.new }

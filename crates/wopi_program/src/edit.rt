@@ -1,15 +1,18 @@
 //! The command `edit`: the script that the input is, run over a sheet at a host.
-ghost use Rattle.std.specs.Prelude.{◌≡◌, ◌⊎◌, ◌<◌, ◌≤◌, Err, List, length, Option, ℕ, [], map, string_bytes, IfOk};
+ghost use Rattle.std.specs.Prelude.{◌≡◌, ◌≢◌, ◌⊎◌, ◌<◌, ◌≤◌, Err, List, length, Option, ℕ, [], map, string_bytes, IfOk};
 ghost use Rattle.std.specs.Io.KnownBytes.{Appends};
 ghost use Rattle.outside.specs.Faults.{Rose};
+ghost use Rattle.line_text.specs.Inputs.{HasRead};
+ghost use Rattle.grid_editor.specs.Inputs.{IsUndecided};
 ghost use Rattle.wopi_program.specs.Words.{IsRow};
 ghost use Rattle.wopi_program.specs.Edit.{EditEnds, Edits, HasRun, IsNewEditor, NotesForEdit, Tells, bad_line, last_line, status_of};
 
 use crate::edit_words::edit_words;
 use crate::telling::want;
 use crate::{Command, Meant, Outside, note};
-use grid_editor::{EditFault, Editor, InputFault, Script, Went, read_script};
+use grid_editor::{EditFault, Editor, Script, ScriptFault, Went, read_script};
 use itoa::Buffer;
+use line_text::InputFault;
 use outside::{Clock, Dialer, Failed, Folder, Listener, Sink, Source, write_whole};
 use save_session::{Nonce, Outcome};
 use std::alloc::Global;
@@ -136,16 +139,18 @@ fn edit<S: Source, K: Sink, F: Folder, N: Listener, D: Dialer, C: Clock>(
 ) -> u8
     ensures edits { Edits ⟦<Outside<S, K, F, N, D, C> as Meant<S, K, F, N, D, C, N::Link>>⟧.meanings editor result outside.old outside.new }
     ensures read_cause { result ≡ 3 → Rose (S.read_faults outside.old.input) (S.read_faults outside.new.input) }
+    ensures read_cut { result ≡ 3 → HasRead (S.left outside.old.input) (S.left outside.new.input) IsUndecided }
+    ensures read_fine { result ≢ 3 → S.read_faults outside.new.input ≡ S.read_faults outside.old.input }
     ensures write_cause { result ≡ 4 → Rose (K.write_faults outside.old.output) (K.write_faults outside.new.output) }
     ensures others { outside.new ≡ record outside.old { input = outside.new.input; output = outside.new.output; dialer = outside.new.dialer } }
 {
     match read_script(alloc, &mut outside.input) {
         Ok(script) => return run_script(alloc, editor, &script, outside),
-        Err(InputFault::BadCommand { line }) => {
+        Err(InputFault::Text(ScriptFault::BadCommand { line })) => {
             return refuse_script(alloc, &mut outside.output, line);
         }
+        Err(InputFault::Text(ScriptFault::Memory)) => return 6,
         Err(InputFault::Read) => return 3,
-        Err(InputFault::Memory) => return 6,
     }
 }
 

@@ -1,5 +1,5 @@
 //! The words of the command `edit`.
-ghost use Rattle.std.specs.Prelude.{◌≡◌, ◌↔◌, ◌<◌, ℕ, List, map, string_bytes, IfSome, IfNone, IsTrue, length};
+ghost use Rattle.std.specs.Prelude.{◌≡◌, ◌↔◌, ◌<◌, map, string_bytes, IfSome, IfNone, IsTrue, length};
 ghost use Rattle.wopi_program.specs.EditWords.{HasPort, IsAuthority, IsEditRow, IsPort, IsTokenWord, SplitsAt};
 ghost use Rattle.wopi_program.specs.Words.{IsRow};
 
@@ -98,16 +98,5 @@ fn is_port(digits: &[u8]) -> bool
     match decimal_read(digits) {
         Some(port) => return 0 < port && port < 65536,
         None => return false,
-    }
-}
-
-/// The host of the words, where they are those of `edit`.
-pub fn edit_authority(words: &[String]) -> Option<&str>
-    ensures some { IfSome result (λ authority. (file : List ℕ) × (token : List ℕ) × (nonce : List ℕ) × IsEditRow (map string_bytes words.now) authority.now file token nonce) }
-    ensures none { IfNone result (¬ IsRow (map string_bytes words.now) Command.Edit) }
-{
-    match edit_words(words) {
-        Some(ask) => Some(ask.authority),
-        None => None,
     }
 }

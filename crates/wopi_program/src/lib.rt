@@ -9,10 +9,12 @@
 //! token; `upgrade` reads a journal from its input and writes it in the second form.
 #![tactic(auto)]
 
+mod asking;
 mod command;
 mod dispatch;
 mod edit;
 mod edit_words;
+pub mod laws;
 mod notes;
 mod once;
 mod once_words;
@@ -27,10 +29,10 @@ mod token;
 mod token_words;
 mod upgrade;
 
+pub use asking::{Asked, asked_by};
 pub use command::{Command, read_words};
 pub use dispatch::run;
 pub use edit::run_edit;
-pub use edit_words::edit_authority;
 pub use notes::note;
 pub use once::{OnceEnd, run_once};
 pub use outside_world::{Meant, Outside};

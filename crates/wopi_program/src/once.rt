@@ -1,5 +1,5 @@
 //! The command `once`: one connection over the input and the output, and one shard over the folder.
-ghost use Rattle.std.specs.Prelude.{◌≡◌, ◌≤◌, length, map, string_bytes, true, IfOk, None};
+ghost use Rattle.std.specs.Prelude.{◌≡◌, ◌≢◌, ◌≤◌, length, map, string_bytes, true, IfOk, None};
 ghost use Rattle.outside.specs.Faults.{Rose};
 ghost use Rattle.host_core.specs.Single.{sight_of, SeesItsOwn};
 ghost use Rattle.host_server.specs.Bases.{is_base};
@@ -42,8 +42,9 @@ fn serve<S: Source, K: Sink, F: Folder, C: Clock>(
     sink: &mut K,
     clock: &mut C,
 ) -> ConnEnd
-    ensures serves { Serves desk.now SeesItsOwn result (S.left source.old) (C.moments clock.old) (C.moments clock.new)
+    ensures serves { Serves desk.now SeesItsOwn result (S.left source.old) (S.left source.new) (C.moments clock.old) (C.moments clock.new)
         (sight_of single.old.shard) (sight_of single.new.shard) (K.held sink.old) (K.held sink.new) }
+    ensures fine { result ≢ ConnEnd.ReadFault → S.read_faults source.new ≡ S.read_faults source.old }
     ensures start { single.new.shard.start ≡ single.old.shard.start }
     ensures read_fault { result ≡ ConnEnd.ReadFault → Rose (S.read_faults source.old) (S.read_faults source.new) }
     ensures write_fault { result ≡ ConnEnd.WriteFault → Rose (K.write_faults sink.old) (K.write_faults sink.new) }
@@ -64,6 +65,7 @@ fn serve_over<S: Source, K: Sink, F: Folder, N: Listener, D: Dialer, C: Clock>(
     requires { shard.only ≡ None }
     ensures serves { ServesShard ⟦<Outside<S, K, F, N, D, C> as Meant<S, K, F, N, D, C, N::Link>>⟧.meanings desk.now result.1 shard result.0 clock.old clock.new outside.old outside.new }
     ensures others { outside.new ≡ record outside.old { input = outside.new.input; output = outside.new.output } }
+    ensures fine { result.1 ≢ ConnEnd.ReadFault → S.read_faults outside.new.input ≡ S.read_faults outside.old.input }
     ensures read_fault { result.1 ≡ ConnEnd.ReadFault → Rose (S.read_faults outside.old.input) (S.read_faults outside.new.input) }
     ensures write_fault { result.1 ≡ ConnEnd.WriteFault → Rose (K.write_faults outside.old.output) (K.write_faults outside.new.output) }
     ensures nothing_read { result.1 ≡ ConnEnd.Memory → S.left outside.new.input ≡ S.left outside.old.input }
@@ -106,6 +108,7 @@ fn once_over<S: Source, K: Sink, F: Folder, N: Listener, D: Dialer, C: Clock>(
     ensures runs { OnceRuns ⟦<Outside<S, K, F, N, D, C> as Meant<S, K, F, N, D, C, N::Link>>⟧.meanings keys base result.1 folder result.0 clock.old clock.new outside.old outside.new }
     ensures others { outside.new ≡ record outside.old { input = outside.new.input; output = outside.new.output } }
     ensures untouched { Untouched result.1 outside.old outside.new }
+    ensures fine { result.1 ≢ OnceEnd.Served ConnEnd.ReadFault → S.read_faults outside.new.input ≡ S.read_faults outside.old.input }
     ensures read_fault { result.1 ≡ OnceEnd.Served ConnEnd.ReadFault → Rose (S.read_faults outside.old.input) (S.read_faults outside.new.input) }
     ensures write_fault { result.1 ≡ OnceEnd.Served ConnEnd.WriteFault → Rose (K.write_faults outside.old.output) (K.write_faults outside.new.output) }
     ensures nothing_read { result.1 ≡ OnceEnd.Served ConnEnd.Memory → S.left outside.new.input ≡ S.left outside.old.input }
@@ -138,6 +141,7 @@ fn once_in<S: Source, K: Sink, F: Folder, N: Listener, D: Dialer, C: Clock>(
     ensures others { outside.new
         ≡ record outside.old { input = outside.new.input; output = outside.new.output; folders = outside.new.folders; clocks = outside.new.clocks } }
     ensures untouched { Untouched result outside.old outside.new }
+    ensures fine { result ≢ OnceEnd.Served ConnEnd.ReadFault → S.read_faults outside.new.input ≡ S.read_faults outside.old.input }
     ensures read_fault { result ≡ OnceEnd.Served ConnEnd.ReadFault → Rose (S.read_faults outside.old.input) (S.read_faults outside.new.input) }
     ensures write_fault { result ≡ OnceEnd.Served ConnEnd.WriteFault → Rose (K.write_faults outside.old.output) (K.write_faults outside.new.output) }
     ensures nothing_read { result ≡ OnceEnd.Served ConnEnd.Memory → S.left outside.new.input ≡ S.left outside.old.input }

@@ -1,6 +1,7 @@
 //! What the program meets.
 ghost use Rattle.wopi_program.specs.Meanings.{Meanings};
 
+use host_server::{WorkMeant, Worker};
 use outside::{Clock, Dialer, Folder, Listener, Sink, Source};
 
 /// What the program meets: its streams, and the folders, listeners, dialer and clocks that its
@@ -40,17 +41,8 @@ impl<S: Source, K: Sink, F: Folder, N: Listener, D: Dialer, C: Clock> Meant<
       write_faults = K.write_faults;
       files = F.files;
       folder_faults = F.faults;
-      links_left = N.links_left;
-      finished_links = N.finished_links;
-      accepted = N.accepted;
-      finished = N.finished;
-      listener_faults = N.faults;
-      link_left = N.Link.left;
-      link_held = N.Link.held;
-      link_read_faults = N.Link.read_faults;
-      link_write_faults = N.Link.write_faults;
+      work = ⟦<Worker<N, C, F> as WorkMeant<N, N::Link, C>>⟧.meanings;
       exchanges = D.exchanges;
       dialer_faults = D.faults;
-      moments = C.moments;
     } };
 }

@@ -1,7 +1,9 @@
 //! The command `replay`: a schedule of sessions over a host, run in memory, and what it shows.
-ghost use Rattle.std.specs.Prelude.{◌≡◌, ◌≤◌, ℕ, List, map, string_bytes};
+ghost use Rattle.std.specs.Prelude.{◌≡◌, ◌≢◌, ◌≤◌, ℕ, List, map, string_bytes};
 ghost use Rattle.outside.specs.Faults.{Rose};
+ghost use Rattle.line_text.specs.Inputs.{HasRead};
 ghost use Rattle.replay_cmd.specs.Generator.{generated};
+ghost use Rattle.replay_cmd.specs.Inputs.{IsUndecided};
 ghost use Rattle.replay_cmd.specs.Trace.{summary_text, trace_text};
 ghost use Rattle.wopi_program.specs.Replay.{AskReplays, InputReplays, ReplayEnds, Replays};
 ghost use Rattle.wopi_program.specs.Words.{IsRow};
@@ -10,9 +12,10 @@ use crate::edit::{note_edit, refuse_script};
 use crate::replay_words::{ReplayAsk, replay_words};
 use crate::telling::say;
 use crate::{Command, Meant, Outside};
+use line_text::InputFault;
 use outside::{Clock, Dialer, Folder, Listener, Sink, Source};
 use replay_cmd::{
-    InputFault, Schedule, Straight, World, generate, read_schedule, summary_text, trace_text,
+    Schedule, ScheduleFault, Straight, World, generate, read_schedule, summary_text, trace_text,
 };
 use std::alloc::Global;
 
@@ -53,16 +56,18 @@ fn replay_input<S: Source, K: Sink, F: Folder, N: Listener, D: Dialer, C: Clock>
 ) -> u8
     ensures replays { InputReplays ⟦<Outside<S, K, F, N, D, C> as Meant<S, K, F, N, D, C, N::Link>>⟧.meanings result outside.old outside.new }
     ensures read_cause { result ≡ 3 → Rose (S.read_faults outside.old.input) (S.read_faults outside.new.input) }
+    ensures read_cut { result ≡ 3 → HasRead (S.left outside.old.input) (S.left outside.new.input) IsUndecided }
+    ensures read_fine { result ≢ 3 → S.read_faults outside.new.input ≡ S.read_faults outside.old.input }
     ensures write_cause { result ≡ 4 → Rose (K.write_faults outside.old.output) (K.write_faults outside.new.output) }
     ensures others { outside.new ≡ record outside.old { input = outside.new.input; output = outside.new.output } }
 {
     match read_schedule(alloc, &mut outside.input) {
         Ok(schedule) => return write_trace(alloc, &schedule, &mut outside.output),
-        Err(InputFault::BadLine { line }) => {
+        Err(InputFault::Text(ScheduleFault::BadLine { line })) => {
             return refuse_script(alloc, &mut outside.output, line);
         }
+        Err(InputFault::Text(ScheduleFault::Memory)) => return 6,
         Err(InputFault::Read) => return 3,
-        Err(InputFault::Memory) => return 6,
     }
 }
 
@@ -87,6 +92,8 @@ fn replay<S: Source, K: Sink, F: Folder, N: Listener, D: Dialer, C: Clock>(
     requires { (seed : ℕ) (count : ℕ) → ask ≡ ReplayAsk.Generated seed count → count ≤ 10000 }
     ensures replays { AskReplays ⟦<Outside<S, K, F, N, D, C> as Meant<S, K, F, N, D, C, N::Link>>⟧.meanings ask result outside.old outside.new }
     ensures read_cause { result ≡ 3 → Rose (S.read_faults outside.old.input) (S.read_faults outside.new.input) }
+    ensures read_cut { result ≡ 3 → HasRead (S.left outside.old.input) (S.left outside.new.input) IsUndecided }
+    ensures read_fine { result ≢ 3 → S.read_faults outside.new.input ≡ S.read_faults outside.old.input }
     ensures write_cause { result ≡ 4 → Rose (K.write_faults outside.old.output) (K.write_faults outside.new.output) }
     ensures others { outside.new ≡ record outside.old { input = outside.new.input; output = outside.new.output } }
 {

@@ -1,5 +1,6 @@
 //! The command `serve`: a host over the folders, and a worker for each listener.
 ghost use Rattle.std.specs.Prelude.{◌≡◌, ℕ, List, length, map, string_bytes};
+ghost use Rattle.std.specs.List.{AllByRecursion};
 ghost use Rattle.wopi_program.specs.ServeEnds.{ServeEnds, ServeFinishes};
 ghost use Rattle.wopi_program.specs.ServeWords.{IsServeRow};
 ghost use Rattle.wopi_program.specs.Words.{IsRow};
@@ -56,6 +57,7 @@ pub fn run_serve<
     requires folders { length outside.old.folders.items ≡ 16 }
     requires workers { (keys : Keys) (base : List ℕ) (ask : ServeAsk) → IsServeRow (map string_bytes words.now) keys base ask
         → (length outside.old.listeners.items ≡ ask.workers) × (length outside.old.clocks.items ≡ ask.workers) }
+    requires has_all_back { AllByRecursion (λ listener. N.finished listener ≡ N.accepted listener) outside.old.listeners.items }
     ensures { ServeEnds ⟦<Outside<S, K, F, N, D, C> as Meant<S, K, F, N, D, C, N::Link>>⟧.meanings (map string_bytes words.now) result outside.old outside.new }
 {
     let Some((keys, base, ask)) = serve_words(words) else {

@@ -1,6 +1,8 @@
 //! The command `upgrade`: the journal that the input is, in the second form.
-ghost use Rattle.std.specs.Prelude.{◌≡◌, ◌≤◌, ℕ, [], length, map, string_bytes};
+ghost use Rattle.std.specs.Prelude.{◌≡◌, ◌≢◌, ◌≤◌, ℕ, [], length, map, string_bytes};
 ghost use Rattle.outside.specs.Faults.{Rose};
+ghost use Rattle.line_text.specs.Inputs.{HasRead};
+ghost use Rattle.journal_text.specs.Inputs.{AreFew};
 ghost use Rattle.journal_text.specs.declared.journal.JournalFault.TheVariants.{BadLine, Memory, TooLong};
 ghost use Rattle.journal_text.specs.Journals.{most_bytes};
 ghost use Rattle.wopi_program.specs.Edit.{Tells, bad_line};
@@ -9,7 +11,8 @@ ghost use Rattle.wopi_program.specs.Words.{IsRow};
 
 use crate::edit::{note_edit, refuse_script};
 use crate::{Command, Meant, Outside, note};
-use journal_text::{InputFault, JournalFault, RewriteFault, read_bytes, rewrite};
+use journal_text::{JournalFault, RewriteFault, SizeFault, read_bytes, rewrite};
+use line_text::InputFault;
 use outside::{Clock, Dialer, Folder, Listener, Sink, Source};
 use std::alloc::Global;
 
@@ -47,14 +50,16 @@ fn upgrade<S: Source, K: Sink, F: Folder, N: Listener, D: Dialer, C: Clock>(
 ) -> u8
     ensures upgrades { Upgrades ⟦<Outside<S, K, F, N, D, C> as Meant<S, K, F, N, D, C, N::Link>>⟧.meanings result outside.old outside.new }
     ensures read_cause { result ≡ 3 → Rose (S.read_faults outside.old.input) (S.read_faults outside.new.input) }
+    ensures read_cut { result ≡ 3 → HasRead (S.left outside.old.input) (S.left outside.new.input) AreFew }
+    ensures read_fine { result ≢ 3 → S.read_faults outside.new.input ≡ S.read_faults outside.old.input }
     ensures write_cause { result ≡ 4 → Rose (K.write_faults outside.old.output) (K.write_faults outside.new.output) }
     ensures others { outside.new ≡ record outside.old { input = outside.new.input; output = outside.new.output } }
 {
     match read_bytes(alloc, &mut outside.input) {
         Ok(bytes) => return upgrade_bytes(alloc, &bytes, &mut outside.output),
-        Err(InputFault::TooLong) => return 13,
+        Err(InputFault::Text(SizeFault::TooLong)) => return 13,
+        Err(InputFault::Text(SizeFault::Memory)) => return 6,
         Err(InputFault::Read) => return 3,
-        Err(InputFault::Memory) => return 6,
     }
 }
 

@@ -25,6 +25,12 @@ pub const VERSION_2: &[u8] =
 pub const VERSION_3: &[u8] =
     b"HTTP/1.1 200 OK\r\nContent-Length: 0\r\nX-WOPI-ItemVersion: v3\r\n\r\n";
 
+const SUMS: &[u8] = b"HTTP/1.1 200 OK\r\nContent-Length: 32\r\nX-WOPI-ItemVersion: v1\r\n\r\n\
+1,2,=A1+B1\n=SUM(A1:C1),=A2*2,x\n";
+
+const CYCLE: &[u8] =
+    b"HTTP/1.1 200 OK\r\nContent-Length: 16\r\nX-WOPI-ItemVersion: v1\r\n\r\n=B1,=A1,=A1,=1+\n";
+
 const LOCKED: &[u8] =
     b"HTTP/1.1 409 Conflict\r\nContent-Length: 0\r\nX-WOPI-Lock: other\r\nX-WOPI-LockFailureReason: locked\r\n\r\n";
 
@@ -40,7 +46,7 @@ struct Row {
     requests: usize,
 }
 
-const ROWS: [Row; 9] = [
+const ROWS: [Row; 11] = [
     Row {
         script: b"open\nset 1 2 9\nsave\nset 1 1 7\nsave\nclose",
         replies: &[
@@ -64,6 +70,22 @@ const ROWS: [Row; 9] = [
         replies: &[INFO, VERSION_1, CONTENTS, VERSION_1],
         status: 0,
         output: b"not open\nopened v1 1\nnothing to undo\n1,2\nclosed\n",
+        requests: 4,
+    },
+    Row {
+        script: b"values\nopen\nvalues\nset 1 1 5\nvalues\ninsrow 1\nvalues\nundo\nvalues\nclose\n",
+        replies: &[INFO, VERSION_1, SUMS, VERSION_1],
+        status: 0,
+        output: b"not open\nopened v1 2\n1,2,3\n6,12,x\n5,2,7\n14,28,x\n\"\"\n5,2,0\n0,10,x\n\
+5,2,7\n14,28,x\nclosed\n",
+        requests: 4,
+    },
+    Row {
+        script: b"open\nvalues\nset 1 2 4\nvalues\n\
+set 1 1 =170141183460469231731687303715884105727+1\nvalues\nclose\n",
+        replies: &[INFO, VERSION_1, CYCLE, VERSION_1],
+        status: 0,
+        output: b"opened v1 1\n#CYCLE,#CYCLE,#CYCLE,#NAME\n4,4,4,#NAME\n#NUM,4,#NUM,#NAME\nclosed\n",
         requests: 4,
     },
     Row {

@@ -1,5 +1,7 @@
 //! `serve` over fakes in memory: its replies, its journal and its ends.
 ghost use Rattle.std.specs.Prelude.{◌≡◌, IsTrue, length};
+ghost use Rattle.std.specs.List.{list_all};
+ghost use Rattle.outside.specs.MemListener.{has_all_back};
 
 use crate::tests::gates::{Flag, FlagLink, GateFolder};
 use crate::tests::words_of;
@@ -48,6 +50,13 @@ pub type MemLink = Pair<MemSource, MemSink>;
 /// What `serve` meets in these tests.
 pub type Served<F, L> = Outside<MemSource, MemSink, F, MemListener<L>, ScriptDialer, ScriptClock>;
 
+/// Whether each listener has every link back that it gave.
+fn have_all_back<L: Drop>(listeners: &[MemListener<L>]) -> bool
+    ensures { result ≡ list_all has_all_back listeners.now }
+{
+    listeners.iter().all(|listener| listener.has_all_back())
+}
+
 /// Whether there are 16 folders, and a listener and a clock for each worker.
 fn fits<F, L>(outside: &Served<F, L>, workers: u32) -> bool
     ensures { IsTrue result → (length outside.now.folders.items ≡ 16) × (length outside.now.listeners.items ≡ workers) × (length outside.now.clocks.items ≡ workers) }
@@ -76,6 +85,9 @@ fn serve_over<R: Threads + Wait + Sync, F: Folder + Send, L: Link + Send + Drop>
     };
     if !fits(outside, ask.workers) {
         return Err("16 folders, and a listener and a clock for each worker".into());
+    }
+    if !have_all_back(&outside.listeners) {
+        return Err("listeners that have every link back".into());
     }
     Ok(run(rt, alloc, words, outside))
 }

@@ -14,5 +14,5 @@ loop-listener-preserved g c =
       count = omega (arith, longer, before, one_more);
       untold = λ none. rw grown (held-more (λ one. one.listener) c.loop-listener.all.items c.new.result c.loop-listener.yielded c.in-Some.listener (old.untold none) (made.untold none));
       over = rw grown (AreOver-more (λ one. one.listener) c.loop-listener.all.items c.new.result c.loop-listener.yielded c.in-Some.listener old.over made.listener);
-      begins = rw grown (AllByRecursion-more (λ one. (one.path ≡ c.args.path) × (one.accepted ≡ 0)) c.loop-listener.all.items c.new.result old.begins (made.path, made.accepted));
+      begins = rw grown (AllByRecursion-more (λ one. (one.path ≡ c.args.path) × (one.accepted ≡ 0) × (one.finished ≡ 0)) c.loop-listener.all.items c.new.result old.begins (made.path, made.accepted, made.finished));
     }

@@ -8,5 +8,5 @@ invariant-loop-listener g l = record {
   count : vec_len l.all ≡ length l.yielded;
   untold : l.fn.path ≡ None → map (λ one. one.listener) l.all.items ≡ map Some l.yielded;
   over : AreOver (λ one. one.listener) l.all.items l.yielded;
-  begins : AllByRecursion (λ one. (one.path ≡ l.fn.path) × (one.accepted ≡ 0)) l.all.items;
+  begins : AllByRecursion (λ one. (one.path ≡ l.fn.path) × (one.accepted ≡ 0) × (one.finished ≡ 0)) l.all.items;
 }

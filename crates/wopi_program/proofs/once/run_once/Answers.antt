@@ -1,7 +1,7 @@
 use Rattle.std.proofs.Common.{◌∙◌, inr, subst}
 use Rattle.wopi_program.specs.Once.{Finishes}
 use Rattle.wopi_program.proofs.EndLemmas.{noted, same_notes}
-use Rattle.wopi_program.proofs.OnceLemmas.{by_read_fault, by_write_fault, once_noted, untouched_noted}
+use Rattle.wopi_program.proofs.OnceLemmas.{by_no_read_fault, by_read_fault, by_write_fault, once_noted, untouched_noted}
 use Rattle.wopi_program.proofs.once.run_once.Goals as goal
 
 pub returns : goal.returns
@@ -21,6 +21,7 @@ returns g c =
       runs = once_noted _ c.in-Some.keys _ c.in-Some.base.now ran.result _ _ notes' (c.in-Ok.ensures ∙ c.as_bytes.ensures.value) ran.ensures.runs;
       untouched = untouched_noted ran.result _ _ notes' ran.ensures.untouched;
       nothing_read = ran.ensures.nothing_read;
+      fine = by_no_read_fault _ g.K.Sink.held g.K.Sink.write_faults status notes notes' ran.result finishes ran.ensures.fine;
       read_cause = by_read_fault _ g.K.Sink.held g.K.Sink.write_faults status notes notes' ran.result finishes ran.ensures.read_fault;
       write_cause = by_write_fault _ g.K.Sink.held g.K.Sink.write_faults status notes notes' ran.result finishes ran.ensures.write_fault;
       finishes = finishes;

@@ -1,5 +1,5 @@
 use Rattle.std.proofs.Common.{◌≡◌, vec_len}
-use Rattle.mokdrai.proofs.clocks.Given as goal
+use Rattle.mokdrai.proofs.making.clocks.Given as goal
 
 abbrev pub invariant-loop : goal.invariant-loop
 invariant-loop g l = vec_len l.all ≡ l.counter

@@ -1,0 +1,204 @@
+//! The real folders, listeners, dialer and clocks that a command asks for.
+ghost use Rattle.std.specs.Prelude.{◌≡◌, ◌++◌, ℕ, List, None, IfOk, IfSome, IsSome, codes, decimal, length, string_bytes, vec_len};
+ghost use Rattle.std.specs.List.{AllByRecursion};
+ghost use Rattle.wopi_program.specs.Asking.{IsEditAt, IsOnceOver, IsServeOver};
+
+use crate::sharing::{SharedListener, bind, close_later, share};
+use crate::stopping::{StopListener, until_stopped};
+use outside::{DirFolder, SystemClock, TcpDialer, TcpListen};
+use std::alloc::Global;
+use std::fs::{File, Files};
+use std::net::{Net, TcpListener, TcpStream};
+use std::thread::Threads;
+use std::time;
+use wopi_http::ReplyLength;
+use wopi_program::{Asked, Outside, ServeAsk};
+use wopi_text::Memory;
+
+/// The outside world of a program over these streams.
+pub(crate) type World<'a, R, S, K> = Outside<
+    S,
+    K,
+    DirFolder<'a, R>,
+    StopListener<'a, R, SharedListener<TcpListen>>,
+    TcpDialer<'a, R, ReplyLength>,
+    SystemClock<'a, R>,
+>;
+
+/// The streams that a program is begun with.
+#[derive(Drop)]
+pub(crate) struct Streams<S, K> {
+    pub(crate) input: S,
+    pub(crate) output: K,
+    pub(crate) notes: K,
+}
+
+/// The folder that a command works over, how often it takes it, and with how many clocks.
+#[derive(Clone, Copy, Debug, PartialEq, Eq)]
+struct Parts<'a> {
+    folder: &'a str,
+    folders: usize,
+    clocks: usize,
+}
+
+const NO_PARTS: Parts<'static> = Parts {
+    folder: "",
+    folders: 0,
+    clocks: 0,
+};
+
+fn parts_of(asked: Asked<'_>) -> Parts<'_>
+    ensures once { (name : List ℕ) → IsOnceOver name asked.entry → (result.folder.now ≡ name) × (result.folders ≡ 1) × (result.clocks ≡ 1) }
+    ensures serve { (name : List ℕ) (ask : ServeAsk) → IsServeOver name ask asked.entry
+        → (result.folder.now ≡ name) × (result.folders ≡ 16) × (result.clocks ≡ ask.workers) }
+{
+    match asked {
+        Asked::Once { folder } => Parts {
+            folder,
+            folders: 1,
+            clocks: 1,
+        },
+        Asked::Serve { folder, numbers } => Parts {
+            folder,
+            folders: 16,
+            clocks: numbers.workers as usize,
+        },
+        Asked::Edit { .. } => NO_PARTS,
+        Asked::Nothing => NO_PARTS,
+    }
+}
+
+/// So many times the folder of this name.
+fn folders<'a, R: Files>(
+    alloc: Global,
+    rt: &'a R,
+    name: &str,
+    count: usize,
+) -> Result<Vec<DirFolder<'a, R>>, Memory>
+    ensures { IfOk result (λ all. vec_len all ≡ count) }
+{
+    let mut all = Vec::with_capacity(alloc, count)?;
+    for _ in 0..count {
+        all.push(DirFolder::new(alloc, rt, name)?)?;
+    }
+    Ok(all)
+}
+
+/// So many clocks.
+fn clocks<'a, T: time::Clock>(
+    alloc: Global,
+    clock: &'a T,
+    count: usize,
+) -> Result<Vec<SystemClock<'a, T>>, Memory>
+    ensures { IfOk result (λ all. vec_len all ≡ count) }
+{
+    let mut all = Vec::with_capacity(alloc, count)?;
+    for _ in 0..count {
+        all.push(SystemClock::new(clock))?;
+    }
+    Ok(all)
+}
+
+/// The address of a port, as only this machine reaches it.
+fn address_of(alloc: Global, port: u32) -> Result<String, Memory>
+    ensures { IfOk result (λ address. string_bytes address ≡ codes "127.0.0.1:" ++ decimal port) }
+{
+    let address = format!(in alloc; "127.0.0.1:{port}")?;
+    Ok(address)
+}
+
+/// So many listeners over one socket at the port, which a byte over the pipe at `wake` closes.
+pub(crate) fn listen<
+    'a,
+    R: Net<Stream = TcpStream, Listener = TcpListener> + Files<File = File> + Threads,
+>(
+    alloc: Global,
+    rt: &'a R,
+    ask: ServeAsk,
+    stop: Option<&'a str>,
+    wake: Option<&str>,
+) -> Result<Vec<StopListener<'a, R, SharedListener<TcpListen>>>, Memory>
+    ensures count { IfOk result (λ all. vec_len all ≡ ask.workers) }
+    ensures each { IfOk result (λ all. AllByRecursion (λ one. IfSome one.listener (λ own. (own.listener.most ≡ ask.each) × (own.listener.accepted ≡ 0) × (own.listener.finished ≡ 0))) all.items) }
+    ensures begins { IfOk result (λ all. AllByRecursion (λ one. (one.path ≡ stop.entry) × (one.accepted ≡ 0) × (one.finished ≡ 0)) all.items) }
+    ensures untold { stop.entry ≡ None → IfOk result (λ all. AllByRecursion (λ one. IsSome one.listener) all.items) }
+{
+    let address = address_of(alloc, ask.port)?;
+    let socket = bind(alloc, rt, address.as_str())?;
+    close_later(rt, wake, &socket)?;
+    let bound = share(alloc, &socket, ask.workers as usize, ask.each as u64)?;
+    until_stopped(alloc, rt, stop, bound)
+}
+
+/// The listeners of the workers of a `serve`; they are closed once the stop file is there.
+fn listeners<'a, R: Net<Stream = TcpStream, Listener = TcpListener> + Files<File = File> + Threads>(
+    alloc: Global,
+    rt: &'a R,
+    asked: Asked<'_>,
+    stop: Option<&'a str>,
+    wake: Option<&str>,
+) -> Result<Vec<StopListener<'a, R, SharedListener<TcpListen>>>, Memory>
+    ensures count { (name : List ℕ) (ask : ServeAsk) → IsServeOver name ask asked.entry → IfOk result (λ all. vec_len all ≡ ask.workers) }
+    ensures each { (name : List ℕ) (ask : ServeAsk) → IsServeOver name ask asked.entry
+        → IfOk result (λ all. AllByRecursion (λ one. IfSome one.listener (λ own. (own.listener.most ≡ ask.each) × (own.listener.accepted ≡ 0) × (own.listener.finished ≡ 0))) all.items) }
+    ensures begins { IfOk result (λ all. AllByRecursion (λ one. (one.path ≡ stop.entry) × (one.accepted ≡ 0) × (one.finished ≡ 0)) all.items) }
+    ensures untold { stop.entry ≡ None → IfOk result (λ all. AllByRecursion (λ one. IsSome one.listener) all.items) }
+{
+    match asked {
+        Asked::Serve { numbers, .. } => listen(alloc, rt, numbers, stop, wake),
+        Asked::Once { .. } => Ok(Vec::new(alloc)),
+        Asked::Edit { .. } => Ok(Vec::new(alloc)),
+        Asked::Nothing => Ok(Vec::new(alloc)),
+    }
+}
+
+/// The host that an `edit` speaks with.
+fn authority(alloc: Global, asked: Asked<'_>) -> Result<String, Memory>
+    ensures { (name : List ℕ) → IsEditAt name asked.entry → IfOk result (λ host. string_bytes host ≡ name) }
+{
+    match asked {
+        Asked::Edit { authority } => {
+            let host = String::from_str(alloc, authority)?;
+            Ok(host)
+        }
+        Asked::Once { .. } => Ok(String::new(alloc)),
+        Asked::Serve { .. } => Ok(String::new(alloc)),
+        Asked::Nothing => Ok(String::new(alloc)),
+    }
+}
+
+/// The streams, and all else that is asked for.
+pub(crate) fn world<
+    'a,
+    R: Net<Stream = TcpStream, Listener = TcpListener> + Files<File = File> + Threads + time::Clock,
+    S: Drop,
+    K: Drop,
+>(
+    alloc: Global,
+    rt: &'a R,
+    asked: Asked<'_>,
+    stop: Option<&'a str>,
+    wake: Option<&str>,
+    streams: Streams<S, K>,
+) -> Result<World<'a, R, S, K>, Memory>
+    ensures once { (name : List ℕ) → IsOnceOver name asked.entry
+        → IfOk result (λ world. (length world.folders.items ≡ 1) × (length world.clocks.items ≡ 1)) }
+    ensures serve { (name : List ℕ) (ask : ServeAsk) → IsServeOver name ask asked.entry
+        → IfOk result (λ world. (length world.folders.items ≡ 16) × (length world.listeners.items ≡ ask.workers) × (length world.clocks.items ≡ ask.workers)) }
+    ensures has_all_back { IfOk result (λ world. AllByRecursion (λ one. one.finished ≡ one.accepted) world.listeners.items) }
+{
+    let parts = parts_of(asked);
+    let folders = folders(alloc, rt, parts.folder, parts.folders)?;
+    let listeners = listeners(alloc, rt, asked, stop, wake)?;
+    let clocks = clocks(alloc, rt, parts.clocks)?;
+    let authority = authority(alloc, asked)?;
+    Ok(Outside {
+        input: streams.input,
+        output: streams.output,
+        notes: streams.notes,
+        folders,
+        listeners,
+        dialer: TcpDialer::new(alloc, rt, authority, ReplyLength::new(alloc)),
+        clocks,
+    })
+}

@@ -1,0 +1,102 @@
+-- Each entry of a journal comes of a message of a link that a worker served.
+use Rattle.std.proofs.Common.{◌≡◌, ℕ, zero, suc, ◌+◌, ◌<◌, ◌≤◌, ◌==◌, Bool, true, false, cond, List, [], ◌∷◌, ◌++◌, length, Option, refl, sym, ap, subst, ◌∙◌, inl, inr, arith}
+use Rattle.std.proofs.lemmas.Bool.{cases_eq, eq-eqb}
+use Rattle.std.proofs.lemmas.List.Elements.{Contains-append_right}
+use Rattle.std.specs.Prelude.{filter}
+use Rattle.std.specs.List.{AllByRecursion, Contains}
+use Rattle.outside.specs.Stream.{Are}
+use Rattle.wopi_model.specs.Shard.{Entry}
+use Rattle.host_core.specs.Entries.{Made}
+use Rattle.host_core.specs.Times.{steps_of}
+use Rattle.host_server.specs.declared.connection.ConnEnd.{ConnEnd}
+use Rattle.host_server.specs.declared.desk.Desk.{Desk}
+use Rattle.host_server.specs.declared.working.WorkEnd.{WorkEnd}
+use Rattle.host_server.specs.Connection.{IsConnEnd}
+use Rattle.host_server.specs.Deeds.{Deed, made}
+use Rattle.host_server.specs.Visits.{Visit, IsVisit, deeds_of}
+use Rattle.host_table.specs.Journal.{JournalView}
+use Rattle.wopi_ends.specs.Sources.{IsOfMessage}
+use Rattle.wopi_ends.proofs.Sourcing.{all_append, made-append}
+use Rattle.wopi_program.specs.BothEnds.{CameOnLink}
+use Rattle.wopi_program.specs.Journal.{IsWorker, AreWorkers}
+use Rattle.wopi_program.specs.Meanings.{Meanings}
+
+-- what holds of the entries of each pass holds of all
+of_passes : (P : Entry → Type 0) (count : ℕ) (merge : List Made) → ((pass : ℕ) → pass < count → AllByRecursion P (filter (λ entry. entry.pass == pass) (steps_of merge))) →
+    AllByRecursion (λ one. one.step.pass < count) merge → AllByRecursion (λ one. P one.step) merge
+of_passes P count [] each whose = tt
+of_passes P count (one ∷ merge) each whose = (first, of_passes P count merge rest whose.1)
+  where
+    rest_of : List Entry
+    rest_of = filter (λ entry. entry.pass == one.step.pass) (steps_of merge)
+
+    first : P one.step
+    first =
+        let own : AllByRecursion P (cond (one.step.pass == one.step.pass) (one.step ∷ rest_of) rest_of) = each one.step.pass whose.0 in
+        (subst (λ b. AllByRecursion P (cond b (one.step ∷ rest_of) rest_of)) (eq-eqb one.step.pass one.step.pass refl) own).0
+
+    rest : (pass : ℕ) → pass < count → AllByRecursion P (filter (λ entry. entry.pass == pass) (steps_of merge))
+    rest pass within =
+        let others = filter (λ entry. entry.pass == pass) (steps_of merge) in
+        (elim (one.step.pass == pass) as (λ b. AllByRecursion P (cond b (one.step ∷ others) others) → AllByRecursion P others) [ true ↦ λ h. h.1 | false ↦ λ h. h ]) (each pass within)
+
+module _ {S K F N D C L : Type 0} (m : Meanings S K F N D C L) (desk : Desk)
+    (come : (end : ConnEnd) (input : List ℕ) (left : Option (List ℕ)) (moments : List ℕ) (deeds : List Deed) (output : List ℕ) → IsConnEnd desk end input left moments deeds output →
+    AllByRecursion (IsOfMessage desk input) (made deeds))
+    (all : List (List (Visit L))) where
+  abbrev Came : Entry → Type 0
+  Came entry = CameOnLink m desk all entry
+
+  of_visit : (worker : List (Visit L)) (visit : Visit L) (input : List ℕ) → Contains all worker → Contains worker visit → Are (m.work.left visit.came) input →
+      (entries : List Entry) → AllByRecursion (IsOfMessage desk input) entries → AllByRecursion Came entries
+  of_visit worker visit input known there reads [] h = tt
+  of_visit worker visit input known there reads (entry ∷ entries) h = (
+    record { worker = worker; is_worker = known; visit = visit; is_visit = there; input = input; reads = reads; message = h.0 },
+    of_visit worker visit input known there reads entries h.1,
+  )
+
+  of_visits : (worker front visits : List (Visit L)) → Contains all worker → front ++ visits ≡ worker →
+      AllByRecursion (IsVisit m.work desk) visits → AllByRecursion Came (made (deeds_of visits))
+  of_visits worker front [] known whole h = tt
+  of_visits worker front (visit ∷ visits) known whole h =
+      let v = h.0 in
+      let there : Contains worker visit = subst (λ (l : List (Visit L)). Contains l visit) whole (Contains-append_right front (visit ∷ visits) visit (0, omega arith, refl)) in
+      subst (AllByRecursion Came) (sym (made-append visit.deeds (deeds_of visits)))
+      (all_append Came (made visit.deeds) (made (deeds_of visits))
+      (of_visit worker visit v.input known there v.reads (made visit.deeds) (come visit.end v.input (m.work.left visit.went) visit.moments visit.deeds v.output v.says))
+      (of_visits worker (front ++ visit ∷ []) visits known (Rattle.std.proofs.lemmas.List.append_assoc front (visit ∷ []) visits ∙ whole) h.1))
+
+  module _ (capacity : ℕ) (journal : JournalView F) where
+    abbrev PassCame : ℕ → Type 0
+    PassCame pass = AllByRecursion Came (filter (λ entry. entry.pass == pass) (steps_of journal.merge))
+
+    of_worker : (number : ℕ) (worker : List (Visit L)) (end : WorkEnd) (listener listener' : N) (clock clock' : C) → Contains all worker →
+        IsWorker m desk capacity journal number worker end listener listener' clock clock' → PassCame number
+    of_worker number worker end listener listener' clock clock' known w =
+        subst (AllByRecursion Came) (sym w.entries) (of_visits worker [] worker known refl w.each)
+
+    of_workers : (number : ℕ) (front visits : List (List (Visit L))) (ends : List WorkEnd) (listeners listeners' : List N) (clocks clocks' : List C) → front ++ visits ≡ all →
+        AreWorkers m desk capacity journal number visits ends listeners listeners' clocks clocks' → (pass : ℕ) → number ≤ pass → pass < number + length listeners → PassCame pass
+    of_workers number front visits ends [] listeners' clocks clocks' whole w pass low high = absurd (omega (arith, low, high))
+    of_workers number front [] [] (listener ∷ listeners) listeners' clocks clocks' whole w pass low high = absurd w
+    of_workers number front [] (end ∷ ends) (listener ∷ listeners) listeners' clocks clocks' whole w pass low high = absurd w
+    of_workers number front (visits ∷ rest) [] (listener ∷ listeners) listeners' clocks clocks' whole w pass low high = absurd w
+    of_workers number front (visits ∷ rest) (end ∷ ends) (listener ∷ listeners) [] clocks clocks' whole w pass low high = absurd w
+    of_workers number front (visits ∷ rest) (end ∷ ends) (listener ∷ listeners) (listener' ∷ listeners') [] clocks' whole w pass low high = absurd w
+    of_workers number front (visits ∷ rest) (end ∷ ends) (listener ∷ listeners) (listener' ∷ listeners') (clock ∷ clocks) [] whole w pass low high = absurd w
+    of_workers number front (visits ∷ rest) (end ∷ ends) (listener ∷ listeners) (listener' ∷ listeners') (clock ∷ clocks) (clock' ∷ clocks') whole w pass low high =
+        elim (cases_eq number pass) [
+          | inl same ↦
+              let known : Contains all visits = subst (λ (l : List (List (Visit L))). Contains l visits) whole (Contains-append_right front (visits ∷ rest) visits (0, omega arith, refl)) in
+              subst PassCame same (of_worker number visits end listener listener' clock clock' known w.0)
+          | inr apart ↦
+              of_workers (number + 1) (front ++ visits ∷ []) rest ends listeners listeners' clocks clocks'
+              (Rattle.std.proofs.lemmas.List.append_assoc front (visits ∷ []) rest ∙ whole) w.1 pass (omega (arith, low, apart)) (omega (arith, high))
+        ]
+
+  pub served_come : (capacity : ℕ) (journal : JournalView F) (ends : List WorkEnd) (listeners listeners' : List N) (clocks clocks' : List C) →
+      AreWorkers m desk capacity journal 0 all ends listeners listeners' clocks clocks' → AllByRecursion (λ one. one.step.pass < length listeners) journal.merge →
+      AllByRecursion (λ one. Came one.step) journal.merge
+  served_come capacity journal ends listeners listeners' clocks clocks' workers whose =
+      of_passes Came (length listeners) journal.merge
+      (λ pass within. of_workers capacity journal 0 [] all ends listeners listeners' clocks clocks' refl workers pass (omega arith) (omega (arith, within))) whose
