@@ -56,6 +56,3 @@ pub use pushing::{push_code, push_field, push_number};
 pub use reading::read;
 pub use remembering::RecentTokens;
 pub use wopi_model::{Token, User};
-
-#[cfg(test)]
-mod tests;

@@ -47,6 +47,3 @@ pub use laws::{a_container_text_has_one_reading, what_is_minted_for_the_containe
 pub use minting::container_mint;
 pub use reading::container_read;
 pub use token::ContainerToken;
-
-#[cfg(test)]
-mod tests;

@@ -21,6 +21,3 @@ mod queue;
 
 pub use chains::SpentChains;
 pub use queue::ExpiryQueue;
-
-#[cfg(test)]
-mod tests;

@@ -16,6 +16,3 @@ mod relative;
 pub use fault::{InfoFault, Required};
 pub use info::{Info, info_read, info_text};
 pub use relative::{relative_read, relative_text};
-
-#[cfg(test)]
-mod tests;

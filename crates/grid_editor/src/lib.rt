@@ -31,6 +31,3 @@ pub use input::read_script;
 pub use script::{MOST_BYTES, MOST_LINES, Script, ScriptFault};
 pub use sheet::MOST_UNDOS;
 pub use turns::{EditFault, Went};
-
-#[cfg(test)]
-mod tests;

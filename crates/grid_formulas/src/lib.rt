@@ -51,6 +51,3 @@ pub use laws::{a_text_has_one_formula, what_is_read_is_the_grammar};
 pub use list::Changed;
 pub use sheet::Sheet;
 pub use value::Value;
-
-#[cfg(test)]
-mod tests;

@@ -23,6 +23,3 @@ mod undoing;
 pub use fault::GridFault;
 pub use grid::{Grid, MOST_CELLS, MOST_ROWS};
 pub use undoing::{Column, Had, Undo};
-
-#[cfg(test)]
-mod tests;

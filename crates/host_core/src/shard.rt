@@ -407,6 +407,3 @@ impl<F: Folder> Shard<F> {
         (folder, past)
     }
 }
-
-#[cfg(test)]
-mod tests;

@@ -14,6 +14,3 @@ pub use auditor::{Auditor, audit};
 pub use file::KnownFile;
 pub use track::Track;
 pub use verdict::{AuditFault, Verdict};
-
-#[cfg(test)]
-mod tests;

@@ -23,8 +23,6 @@ pub mod laws;
 mod opening;
 mod reading;
 mod rewriting;
-#[cfg(test)]
-mod tests;
 mod text;
 mod times;
 mod tokens;

@@ -8,8 +8,6 @@
 
 mod input;
 mod splitting;
-#[cfg(test)]
-mod tests;
 mod values;
 
 pub use input::{InputFault, TakesText, read_text};

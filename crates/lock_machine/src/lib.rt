@@ -173,6 +173,3 @@ fn copied(lock: Option<&Lock>) -> Option<Lock>
         Some(held) => Some(held.copy()),
     }
 }
-
-#[cfg(test)]
-mod tests;

@@ -43,6 +43,3 @@ pub use names::Names;
 pub use network::{TcpDialer, TcpLink, TcpListen};
 pub use standard::{StdSink, StdSource, SystemClock};
 pub use transfer::{piece_room, read_link, read_piece, write_link, write_whole};
-
-#[cfg(test)]
-mod tests;

@@ -13,6 +13,3 @@ mod tidying;
 
 pub use copies::candidate;
 pub use tidying::{TidyFault, tidy};
-
-#[cfg(test)]
-mod tests;

@@ -63,6 +63,3 @@ pub use tracing::{summary_text, trace_text};
 pub use watched::Watched;
 pub use wire::{Carried, ScriptWire, Straight, Wire};
 pub use world::World;
-
-#[cfg(test)]
-mod tests;

@@ -28,6 +28,3 @@ pub use nonce::Nonce;
 pub use output::{Outcome, Output};
 pub use session::Session;
 pub use state::{Effect, Goal, Phase, SessionOp, State, Turn, Waiting};
-
-#[cfg(test)]
-mod tests;

@@ -25,8 +25,6 @@ mod grown;
 mod lock;
 mod rule;
 mod seat;
-#[cfg(test)]
-mod tests;
 mod view;
 
 pub use grown::Grown;

@@ -16,6 +16,3 @@ mod writing;
 pub use fault::Utf7Fault;
 pub use reading::utf7_read;
 pub use writing::utf7_write;
-
-#[cfg(test)]
-mod tests;

@@ -44,6 +44,3 @@ pub use serving::ServeEnd;
 pub use telling::{help, refuse, tell, version};
 pub use token::run_token;
 pub use upgrade::run_upgrade;
-
-#[cfg(test)]
-mod tests;

@@ -33,6 +33,3 @@ pub use lock_field::LockField;
 pub use lock_id::LockId;
 pub use moment::MOMENTS_END;
 pub use reason::Reason;
-
-#[cfg(test)]
-mod tests;

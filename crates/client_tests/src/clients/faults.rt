@@ -1,0 +1,106 @@
+//! Lost answers, and replies that can't be read.
+use super::{
+    ACCEPTED, ASK_INFO, CONTENTS, INFO, INFO_HEAD, PUT, desktop, dialer, request, save, session,
+};
+use wopi_client::{DriveFault, drive};
+use save_session::{Input, Outcome};
+use std::alloc::Global;
+use std::test::Fail;
+
+/// The contents of a save that was handed back.
+fn handed_back(told: &Result<Outcome, DriveFault>) -> &[u8] {
+    match told {
+        Err(DriveFault::Ignored(Input::Save(contents))) => contents.as_slice(),
+        _ => &[],
+    }
+}
+
+#[test]
+fn a_lost_request_is_sent_three_times(rt: HostRuntime) -> Result<(), Fail> {
+    let alloc = rt.alloc();
+    let desktop = desktop(alloc)?;
+    let mut session = session();
+    let mut host = dialer(alloc, &[])?;
+    let started = drive(alloc, &desktop, &mut session, &mut host, Input::Start);
+    assert!(rt; matches!(started, Ok(Outcome::NoAnswer)));
+    assert_eq!(rt; host.exchanges().len(), 3);
+    for place in 0..3 {
+        assert_eq!(rt; request(&host, place), ASK_INFO);
+    }
+    let wish = save(alloc, b"1,9\n")?;
+    let saved = drive(alloc, &desktop, &mut session, &mut host, wish);
+    assert_eq!(rt; handed_back(&saved), b"1,9\n".as_slice());
+    Ok(())
+}
+
+#[test]
+fn after_a_bad_reply_the_next_drive_goes_on(rt: HostRuntime) -> Result<(), Fail> {
+    let alloc = rt.alloc();
+    let desktop = desktop(alloc)?;
+    let mut session = session();
+    let mut host = dialer(alloc, &[b"HTP", INFO, ACCEPTED, CONTENTS, CONTENTS])?;
+    let started = drive(alloc, &desktop, &mut session, &mut host, Input::Start);
+    assert!(rt; matches!(started, Err(DriveFault::BadReply { at: 0 })));
+    assert!(rt; session.waits());
+    let read = drive(alloc, &desktop, &mut session, &mut host, Input::Read);
+    assert!(rt; matches!(read, Ok(Outcome::Read { version: Some(1) })));
+    assert_eq!(rt; host.exchanges().len(), 5);
+    assert_eq!(rt; request(&host, 1), ASK_INFO);
+    Ok(())
+}
+
+#[test]
+fn a_save_outlasts_a_bad_reply(rt: HostRuntime) -> Result<(), Fail> {
+    let alloc = rt.alloc();
+    let desktop = desktop(alloc)?;
+    let mut session = session();
+    let mut host = dialer(alloc, &[INFO, ACCEPTED, CONTENTS, b"", ACCEPTED, CONTENTS])?;
+    let opened = drive(alloc, &desktop, &mut session, &mut host, Input::Start);
+    assert!(rt; matches!(opened, Ok(Outcome::Opened { .. })));
+    let wish = save(alloc, b"1,9\n")?;
+    let saved = drive(alloc, &desktop, &mut session, &mut host, wish);
+    assert!(rt; matches!(saved, Err(DriveFault::BadReply { at: 0 })));
+    assert_eq!(rt; session.body(), b"1,9\n".as_slice());
+    let read = drive(alloc, &desktop, &mut session, &mut host, Input::Read);
+    assert!(rt; matches!(read, Ok(Outcome::Read { .. })));
+    assert_eq!(rt; request(&host, 3), PUT);
+    assert_eq!(rt; request(&host, 4), PUT);
+    Ok(())
+}
+
+/// The place at which the first reply of a session can't be read, or none where it can.
+fn bad_place(alloc: Global, reply: &[u8]) -> Result<Option<usize>, Fail> {
+    let desktop = desktop(alloc)?;
+    let mut session = session();
+    let mut host = dialer(alloc, &[reply])?;
+    match drive(alloc, &desktop, &mut session, &mut host, Input::Start) {
+        Err(DriveFault::BadReply { at }) => Ok(Some(at)),
+        Ok(Outcome::NoAnswer) => Ok(None),
+        _ => Err(Fail::from("neither a bad reply nor none")),
+    }
+}
+
+#[test]
+fn what_is_told_of_a_file_cut_at_every_place(rt: HostRuntime) -> Result<(), Fail> {
+    let alloc = rt.alloc();
+    for cut in 0..INFO.len() {
+        let place = if cut < INFO_HEAD { 0 } else { INFO_HEAD };
+        assert_eq!(rt; bad_place(alloc, &INFO[..cut])?, Some(place), "at {cut}");
+    }
+    assert_eq!(rt; bad_place(alloc, INFO)?, None);
+    Ok(())
+}
+
+#[test]
+fn what_does_not_tell_of_a_file_is_bad_where_it_begins(rt: HostRuntime) -> Result<(), Fail> {
+    let alloc = rt.alloc();
+    let no_json = b"HTTP/1.1 200 OK\r\nContent-Length: 4\r\n\r\n1,2\n".as_slice();
+    assert_eq!(rt; bad_place(alloc, no_json)?, Some(38));
+    let no_size = b"HTTP/1.1 100 Continue\r\n\r\nHTTP/1.1 200 OK\r\n\r\n\
+{\"BaseFileName\":\"a.csv\",\"OwnerId\":\"owner\",\"UserId\":\"u\",\"Version\":\"v1\"}"
+        .as_slice();
+    assert_eq!(rt; bad_place(alloc, no_size)?, Some(44));
+    let no_body = b"HTTP/1.1 200 OK\r\nContent-Length: 0\r\n\r\n".as_slice();
+    assert_eq!(rt; bad_place(alloc, no_body)?, Some(38));
+    Ok(())
+}

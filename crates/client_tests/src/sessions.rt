@@ -1,0 +1,109 @@
+use save_session::{Input, Nonce, Outcome, Output, Session};
+use std::alloc::Global;
+use std::test::Fail;
+use wopi_headers::{Answer, BodyKind, Op};
+use wopi_text::{Bytes, LockField, LockId, Memory};
+
+fn answer(alloc: Global, status: u16, lock: LockField, body: &[u8]) -> Result<Input, Memory> {
+    Ok(Input::Reply(Answer {
+        status,
+        lock,
+        reason: None,
+        version: Some(1),
+        kind: BodyKind::Octets,
+        body: Bytes::from_slice(alloc, body)?,
+    }))
+}
+
+fn accepted(alloc: Global) -> Result<Input, Memory> {
+    answer(alloc, 200, LockField::Absent, b"")
+}
+
+/// The name of the operation that was sent, and the lock id that it presents or takes.
+fn sent(output: &Output) -> (&'static str, &[u8]) {
+    match output {
+        Output::Send(Op::Info) => ("info", &[]),
+        Output::Send(Op::Get { .. }) => ("get", &[]),
+        Output::Send(Op::Lock { id }) => ("lock", id.as_slice()),
+        Output::Send(Op::Put { lock: Some(id) }) => ("put", id.as_slice()),
+        Output::Send(Op::Relock { id, .. }) => ("relock", id.as_slice()),
+        _ => ("none", &[]),
+    }
+}
+
+/// The contents of a save that was handed back.
+fn handed_back(output: &Output) -> &[u8] {
+    match output {
+        Output::Ignored(Input::Save(contents)) => contents.as_slice(),
+        _ => &[],
+    }
+}
+
+#[test]
+fn two_saves_go_out_under_two_ids(rt: HostRuntime) -> Result<(), Fail> {
+    let alloc = rt.alloc();
+    let Some(nonce) = Nonce::read(b"n7") else {
+        return Ok(assert!(rt; false));
+    };
+    assert_eq!(rt; nonce.as_slice(), b"n7".as_slice());
+    let mut session = Session::new(nonce);
+    assert_eq!(rt; sent(&session.step(Input::Start)).0, "info");
+    assert_eq!(rt;
+        sent(&session.step(accepted(alloc)?)),
+        ("lock", b"n7-1".as_slice())
+    );
+    assert_eq!(rt; sent(&session.step(accepted(alloc)?)).0, "get");
+    let read = answer(alloc, 200, LockField::Absent, b"1,2")?;
+    assert!(rt;
+        matches!(
+            session.step(read),
+            Output::Tell(Outcome::Opened { version: Some(1) })
+        )
+    );
+    assert_eq!(rt; session.contents(), b"1,2".as_slice());
+    let first = Input::Save(Bytes::from_slice(alloc, b"3")?);
+    assert_eq!(rt; sent(&session.step(first)), ("put", b"n7-1".as_slice()));
+    assert_eq!(rt; session.body(), b"3".as_slice());
+    assert!(rt;
+        matches!(
+            session.step(accepted(alloc)?),
+            Output::Tell(Outcome::Saved { .. })
+        )
+    );
+    assert!(rt; session.body().is_empty());
+    let second = Input::Save(Bytes::from_slice(alloc, b"4")?);
+    assert_eq!(rt; sent(&session.step(second)), ("relock", b"n7-2".as_slice()));
+    assert!(rt; session.body().is_empty());
+    let Some(next) = LockId::read(b"n7-2") else {
+        return Ok(assert!(rt; false));
+    };
+    let relocked = answer(alloc, 409, LockField::Held(next), b"")?;
+    assert_eq!(rt; sent(&session.step(relocked)), ("put", b"n7-2".as_slice()));
+    assert_eq!(rt; session.body(), b"4".as_slice());
+    Ok(())
+}
+
+#[test]
+fn three_tries_without_an_answer_are_told_and_a_wish_too_early_is_handed_back(
+    rt: HostRuntime,
+) -> Result<(), Fail> {
+    let Some(nonce) = Nonce::read(b"A") else {
+        return Ok(assert!(rt; false));
+    };
+    let mut session = Session::new(nonce);
+    assert_eq!(rt; sent(&session.step(Input::Start)).0, "info");
+    assert_eq!(rt; sent(&session.step(Input::NoAnswer)).0, "info");
+    assert_eq!(rt; sent(&session.step(Input::NoAnswer)).0, "info");
+    assert!(rt;
+        matches!(
+            session.step(Input::NoAnswer),
+            Output::Tell(Outcome::NoAnswer)
+        )
+    );
+    let save = Input::Save(Bytes::from_slice(rt.alloc(), b"5")?);
+    let output = session.step(save);
+    assert_eq!(rt; handed_back(&output), b"5".as_slice());
+    assert!(rt; Nonce::read(b"").is_none());
+    assert!(rt; Nonce::read(b"a-b").is_none());
+    Ok(())
+}

@@ -1,0 +1,190 @@
+//! Which words are a command's.
+use super::serve::ONE_WORKER;
+use super::{TOKEN, run_with, whole, words_of};
+use wopi_program::{ServeAsk, serve_ask};
+use std::test::Fail;
+
+/// Words that are no command.
+const NO_COMMANDS: [&[&str]; 40] = [
+    &[],
+    &["once", ".", "4a6", "http://localhost"],
+    &["once", ".", "4a", "http://localhost/"],
+    &["token"],
+    &["Token", "4a", "ann", "a.csv", "w", "1", "0", "1"],
+    &["token", "4a6", "ann", "a.csv", "w", "1", "0", "1"],
+    &["token", "4g", "ann", "a.csv", "w", "1", "0", "1"],
+    &["token", "4a", "", "a.csv", "w", "1", "0", "1"],
+    &["token", "4a", "\u{e9}", "a.csv", "w", "1", "0", "1"],
+    &["token", "4a", "ann", "a/b.csv", "w", "1", "0", "1"],
+    &["token", "4a", "ann", "a.csv", "rw", "1", "0", "1"],
+    &["token", "4a", "ann", "a.csv", "w", "01", "0", "1"],
+    &[
+        "token",
+        "4a",
+        "ann",
+        "a.csv",
+        "w",
+        "18446744073709551616",
+        "0",
+        "1",
+    ],
+    &[
+        "token",
+        "4a",
+        "ann",
+        "a.csv",
+        "w",
+        "1",
+        "253402300800000",
+        "1",
+    ],
+    &[
+        "token",
+        "4a",
+        "ann",
+        "a.csv",
+        "w",
+        "1",
+        "0",
+        "253402300800000",
+    ],
+    &["token", "4a", "ann", "a.csv", "w", "1", "0"],
+    &["token", "4a", "ann", "a.csv", "w", "1", "0", "1", "2"],
+    &["edit", "localhost", "612e637376", TOKEN, "n"],
+    &["edit", ":8880", "612e637376", TOKEN, "n"],
+    &["edit", "localhost:0", "612e637376", TOKEN, "n"],
+    &["edit", "localhost:65536", "612e637376", TOKEN, "n"],
+    &["edit", "localhost:080", "612e637376", TOKEN, "n"],
+    &["edit", "local host:80", "612e637376", TOKEN, "n"],
+    &["edit", "localhost:8880", "612E637376", TOKEN, "n"],
+    &["edit", "localhost:8880", "612e637376", "", "n"],
+    &["edit", "localhost:8880", "612e637376", "a b", "n"],
+    &["edit", "localhost:8880", "612e637376", TOKEN, ""],
+    &["edit", "localhost:8880", "612e637376", TOKEN, "n-1"],
+    &["Replay"],
+    &["replay", "7"],
+    &["replay", "7", "10001"],
+    &["replay", "07", "1"],
+    &["replay", "18446744073709551616", "1"],
+    &["replay", "7", "1", "2"],
+    &[
+        "serve",
+        ".",
+        "8880",
+        "4a",
+        "http://localhost",
+        "1",
+        "--first",
+    ],
+    &[
+        "serve",
+        ".",
+        "8880",
+        "4a",
+        "http://localhost",
+        "1",
+        "--first",
+        "0",
+    ],
+    &[
+        "serve",
+        ".",
+        "8880",
+        "4a",
+        "http://localhost",
+        "1",
+        "--first",
+        "01",
+    ],
+    &[
+        "serve",
+        ".",
+        "8880",
+        "4a",
+        "http://localhost",
+        "1",
+        "--first",
+        "1000000000000000001",
+    ],
+    &[
+        "serve",
+        ".",
+        "8880",
+        "4a",
+        "http://localhost",
+        "1",
+        "--first",
+        "2",
+        "--first",
+        "2",
+    ],
+    &[
+        "serve",
+        ".",
+        "8880",
+        "4a",
+        "http://localhost",
+        "1",
+        "--journal",
+        "2",
+        "--each",
+        "3",
+        "--first",
+        "7",
+        "--each",
+        "3",
+    ],
+];
+
+#[test]
+fn words_out_of_form_are_no_command(rt: HostRuntime) -> Result<(), Fail> {
+    let alloc = rt.alloc();
+    for (place, words) in NO_COMMANDS.iter().enumerate() {
+        let left = run_with(&rt, alloc, words, &whole(b""))?;
+        assert_eq!(rt; left.status, 2, "{place}");
+        assert_eq!(rt; left.notes.as_slice(), b"usage\n".as_slice());
+        assert!(rt; left.output.as_slice().is_empty());
+    }
+    Ok(())
+}
+
+/// The options of `serve`, in some orders.
+const ORDERS: [[&str; 6]; 3] = [
+    ["--journal", "2", "--each", "3", "--first", "7"],
+    ["--first", "7", "--journal", "2", "--each", "3"],
+    ["--each", "3", "--first", "7", "--journal", "2"],
+];
+
+#[test]
+fn the_options_of_serve_stand_in_any_order(rt: HostRuntime) -> Result<(), Fail> {
+    let alloc = rt.alloc();
+    let wanted = ServeAsk {
+        port: 8880,
+        workers: 1,
+        capacity: 2,
+        each: 3,
+        first: 7,
+    };
+    for options in &ORDERS {
+        let mut words = words_of(alloc, &ONE_WORKER)?;
+        for option in options {
+            words.push(String::from_str(alloc, option)?)?;
+        }
+        assert_eq!(rt; serve_ask(&words), Some(wanted));
+    }
+    Ok(())
+}
+
+const HELP: &str =
+    "mokdrai once FOLDER KEY BASE\n    answers the requests of the input on the output\nmokdrai serve FOLDER PORT KEY BASE WORKERS [--journal J] [--each C] [--first V]\n    answers the requests of many connections, and then writes the journal on the output\nmokdrai edit AUTHORITY ID TOKEN NONCE\n    runs the script of the input over a sheet at a host\nmokdrai replay\n    runs the schedule of the input, and writes its trace on the output\nmokdrai replay SEED COUNT\n    runs a schedule that is made from two numbers, and writes its summary on the output\nmokdrai token KEY USER NAME RIGHTS SERIAL ISSUED EXPIRES\n    writes the text of an access token\nmokdrai upgrade\n    reads a journal from the input, and writes it in the second form on the output\nmokdrai --help\n    writes these lines\nmokdrai --version\n    writes the version\n";
+
+#[test]
+fn help_and_version_go_to_the_output(rt: HostRuntime) -> Result<(), Fail> {
+    let alloc = rt.alloc();
+    for [word, text] in [["--help", HELP], ["--version", "mokdrai 0.1.0\n"]] {
+        let left = run_with(&rt, alloc, &[word], &whole(b""))?;
+        assert_eq!(rt; left.status, 0);
+        assert_eq!(rt; left.output.as_slice(), text.as_bytes());
+    }
+    Ok(())
+}

@@ -1,0 +1,48 @@
+use replay_cmd::{ScriptWire, Stage, Straight, World, generate};
+use std::alloc::Global;
+use std::test::Fail;
+use wopi_text::Bytes;
+
+/// A wire that gives these bytes in place of the first message.
+fn instead(alloc: Global, message: &[u8]) -> Result<ScriptWire, Fail> {
+    let mut given = Vec::new(alloc);
+    given.push(Some(Bytes::from_slice(alloc, message)?))?;
+    Ok(ScriptWire::new(alloc, given))
+}
+
+/// The status of the first reply.
+fn first_status(stage: &Stage) -> Option<u16> {
+    match stage.replies.first() {
+        Some(reply) => Some(reply.answer.status),
+        None => None,
+    }
+}
+
+#[test]
+fn a_straight_wire_carries_the_request(rt: HostRuntime) -> Result<(), Fail> {
+    let alloc = rt.alloc();
+    let schedule = generate(alloc, 7, 100)?;
+    let world = World::run(alloc, &schedule, &mut Straight)?;
+    assert_eq!(rt; first_status(&world.stage), Some(200));
+    Ok(())
+}
+
+#[test]
+fn the_host_answers_what_came(rt: HostRuntime) -> Result<(), Fail> {
+    let alloc = rt.alloc();
+    let schedule = generate(alloc, 7, 100)?;
+    let mut wire = instead(alloc, b"GET /wopi/folders HTTP/1.1\r\nHost: x\r\n\r\n")?;
+    let world = World::run(alloc, &schedule, &mut wire)?;
+    assert_eq!(rt; first_status(&world.stage), Some(404));
+    Ok(())
+}
+
+#[test]
+fn nothing_that_came_is_a_bad_request(rt: HostRuntime) -> Result<(), Fail> {
+    let alloc = rt.alloc();
+    let schedule = generate(alloc, 7, 100)?;
+    let mut wire = instead(alloc, b"")?;
+    let world = World::run(alloc, &schedule, &mut wire)?;
+    assert_eq!(rt; first_status(&world.stage), Some(400));
+    Ok(())
+}

@@ -1,0 +1,282 @@
+//! PutRelativeFile over a shard whose folder is in memory.
+ghost use Rattle.std.specs.Prelude.{◌≤◌, IfOk};
+ghost use Rattle.wopi_model.specs.Moment.{IsMoment};
+ghost use Rattle.access_tokens.specs.TokenText.{IsWritable};
+
+use host_server::copying::{Copying, put_beside};
+use host_server::desk::Desk;
+use access_tokens::{Keys, Token, read};
+use host_core::{Act, Call, Caller, Shard, Single};
+use outside::{Folder, MemFolder};
+use std::alloc::Global;
+use std::test::Fail;
+use wopi_headers::{Answer, BodyKind, Target};
+use wopi_text::{Bytes, FileName, LockField, LockId, Reason};
+
+mod reads;
+
+/// A token for `a.csv` that may write, under the desk's keys.
+const FOR_A: &[u8] =
+    b"v1.ann.612e637376.w.1.253402300000000.253402300799999.e4367dab632e0b350a8cebce225b4b3af9ddf3ae5a45f45b85a6abd4ffe2d92a";
+
+/// One for `e.csv`, which expires at 9,000,000.
+const FOR_E: &[u8] =
+    b"v1.ann.652e637376.w.2.0.9000000.9656829e31843856497e1c8fc65763bf6e0f8c232e0fdab239c8df7ef9fce927";
+
+fn desk(alloc: Global) -> Result<Desk, Fail> {
+    let keys = Keys::read(b"4a656665").ok_or("keys")?;
+    let base = Bytes::from_slice(alloc, b"http://localhost:8880")?;
+    Ok(Desk::new(keys, base, 0))
+}
+
+fn token(desk: &Desk, text: &[u8]) -> Result<Token, Fail>
+    ensures { IfOk result IsWritable }
+{
+    match read(&desk.keys, text) {
+        Ok(token) => Ok(token),
+        Err(_) => Err("a token".into()),
+    }
+}
+
+/// Files of these names, each with the contents `1,2`.
+fn folder(alloc: Global, names: &[&str]) -> Result<MemFolder, Fail> {
+    let mut folder = MemFolder::new(alloc, Vec::new(alloc), Vec::new(alloc));
+    for name in names {
+        folder.replace(name, b"1,2").ok().ok_or("a file")?;
+    }
+    Ok(folder)
+}
+
+fn over(alloc: Global, capacity: u32, folder: MemFolder) -> Result<Single<MemFolder>, Fail>
+    requires { (1 ≤ capacity) × (capacity ≤ 32768) }
+{
+    match Shard::start(alloc, folder, None, capacity, 0, 1) {
+        Ok(shard) => Ok(Single::new(shard)),
+        Err(_refused) => Err("a shard".into()),
+    }
+}
+
+/// A caller over such files.
+fn open(alloc: Global, capacity: u32, names: &[&str]) -> Result<Single<MemFolder>, Fail>
+    requires { (1 ≤ capacity) × (capacity ≤ 32768) }
+{
+    over(alloc, capacity, folder(alloc, names)?)
+}
+
+fn suggested(alloc: Global, text: &[u8]) -> Result<Target, Fail> {
+    Ok(Target::Suggested(Bytes::from_slice(alloc, text)?))
+}
+
+fn relative(alloc: Global, name: &[u8], overwrite: bool) -> Result<Target, Fail> {
+    Ok(Target::Relative {
+        name: Bytes::from_slice(alloc, name)?,
+        overwrite,
+    })
+}
+
+/// Puts `x` beside the token's file.
+fn put(
+    alloc: Global,
+    single: &mut Single<MemFolder>,
+    text: &[u8],
+    target: Target,
+    moment: u64,
+) -> Result<Answer, Fail>
+    requires { IsMoment moment }
+{
+    let desk = desk(alloc)?;
+    let token = token(&desk, text)?;
+    let copying = Copying {
+        source: token.file.copy(),
+        token,
+        target,
+        contents: Bytes::from_slice(alloc, b"x")?,
+        moment,
+    };
+    Ok(put_beside(alloc, single, &desk, copying)?)
+}
+
+fn contents<'a>(single: &'a Single<MemFolder>, name: &[u8]) -> Option<&'a [u8]> {
+    let name = FileName::read(name).ok()?;
+    Some(single.shard().file(&name)?.contents)
+}
+
+#[test]
+fn an_ending_makes_a_file_beside_the_source(rt: HostRuntime) -> Result<(), Fail> {
+    let alloc = rt.alloc();
+    let mut single = open(alloc, 4096, &["a.csv"])?;
+    let answer = put(alloc, &mut single, FOR_A, suggested(alloc, b".txt")?, 5)?;
+    let told =
+        "{\"Name\":\"a.txt\",\"Url\":\"http://localhost:8880/wopi/files/612e747874?access_token=v2.0.ann.612e747874.w.1.5.253402300799999.7b2ec53d2d5e39a87f4f57e35afc32a842b40e4532dccc2bdfce371a42ffbb9b\"}";
+    assert_eq!(rt; answer.status, 200);
+    assert_eq!(rt; answer.version, None);
+    assert_eq!(rt; answer.kind, BodyKind::Json);
+    assert_eq!(rt; answer.body.as_slice(), told.as_bytes());
+    assert_eq!(rt; contents(&single, b"a.txt"), Some(b"x".as_slice()));
+    Ok(())
+}
+
+#[test]
+fn a_suggestion_that_is_taken_gets_a_number(rt: HostRuntime) -> Result<(), Fail> {
+    let alloc = rt.alloc();
+    let mut single = open(alloc, 4096, &["a.csv", "a (1).csv"])?;
+    let answer = put(alloc, &mut single, FOR_A, suggested(alloc, b"a.csv")?, 0)?;
+    assert_eq!(rt; answer.status, 200);
+    assert!(rt;
+        answer
+            .body
+            .as_slice()
+            .starts_with(b"{\"Name\":\"a (2).csv\"")
+    );
+    assert_eq!(rt; contents(&single, b"a (1).csv"), Some(b"1,2".as_slice()));
+    assert_eq!(rt; contents(&single, b"a (2).csv"), Some(b"x".as_slice()));
+    Ok(())
+}
+
+#[test]
+fn a_relative_name_that_is_taken_is_told(rt: HostRuntime) -> Result<(), Fail> {
+    let alloc = rt.alloc();
+    let mut single = open(alloc, 4096, &["a.csv"])?;
+    let target = relative(alloc, b"a.csv", false)?;
+    let answer = put(alloc, &mut single, FOR_A, target, 0)?;
+    assert_eq!(rt; answer.status, 409);
+    assert!(rt; answer.lock == LockField::Empty);
+    assert_eq!(rt; answer.reason, Some(Reason::Taken));
+    assert!(rt; answer.body.as_slice().is_empty());
+    Ok(())
+}
+
+#[test]
+fn a_name_that_no_file_can_have_is_bad_once_the_source_is_there(
+    rt: HostRuntime,
+) -> Result<(), Fail> {
+    let alloc = rt.alloc();
+    let mut single = open(alloc, 4096, &["a.csv"])?;
+    let target = relative(alloc, b"a/b", false)?;
+    assert_eq!(rt; put(alloc, &mut single, FOR_A, target, 0)?.status, 400);
+    let target = suggested(alloc, b"...")?;
+    assert_eq!(rt; put(alloc, &mut single, FOR_A, target, 0)?.status, 200);
+    let target = suggested(alloc, b" ")?;
+    assert_eq!(rt; put(alloc, &mut single, FOR_A, target, 0)?.status, 400);
+    let mut other = open(alloc, 4096, &["b.csv"])?;
+    let target = relative(alloc, b"a/b", false)?;
+    assert_eq!(rt; put(alloc, &mut other, FOR_A, target, 0)?.status, 404);
+    Ok(())
+}
+
+/// The status and the reason of an act on `a.csv`.
+fn act(
+    alloc: Global,
+    single: &mut Single<MemFolder>,
+    act: Act,
+    moment: u64,
+) -> Result<(u16, Option<Reason>), Fail>
+    requires { IsMoment moment }
+{
+    let call = Call {
+        name: FileName::read(b"a.csv")?,
+        token: token(&desk(alloc)?, FOR_A)?,
+        act,
+    };
+    match single.call(call, moment) {
+        Ok(receipt) => Ok((receipt.ruling.status, receipt.ruling.reason)),
+        Err(_refused) => Err("an entry".into()),
+    }
+}
+
+fn version(single: &Single<MemFolder>) -> Result<u64, Fail> {
+    let name = FileName::read(b"a.csv")?;
+    Ok(single.shard().file(&name).ok_or("the file")?.version)
+}
+
+#[test]
+fn a_locked_target_is_overwritten_once_its_lock_ended(rt: HostRuntime) -> Result<(), Fail> {
+    let alloc = rt.alloc();
+    let mut single = open(alloc, 4096, &["a.csv", "e.csv"])?;
+    let id = LockId::read(b"L1").ok_or("a lock id")?;
+    let lock = Act::Lock { id: id.copy() };
+    assert_eq!(rt; act(alloc, &mut single, lock, 0)?, (200, None));
+    let locked = (409, Some(Reason::Locked));
+    assert_eq!(rt; act(alloc, &mut single, Act::Delete, 1)?, locked);
+    let target = relative(alloc, b"a.csv", true)?;
+    let answer = put(alloc, &mut single, FOR_E, target, 2)?;
+    assert_eq!(rt; (answer.status, answer.reason), locked);
+    assert!(rt; answer.lock == LockField::Held(id.copy()));
+    let target = relative(alloc, b"a.csv", true)?;
+    let answer = put(alloc, &mut single, FOR_E, target, 1_800_002)?;
+    assert_eq!(rt; (answer.status, version(&single)?), (200, 2));
+    let gone = act(alloc, &mut single, Act::Delete, 1_800_003)?;
+    assert_eq!(rt; gone, (200, None));
+    let get = Act::Get { most: None };
+    assert_eq!(rt; act(alloc, &mut single, get, 1_800_003)?, (404, None));
+    let target = relative(alloc, b"a.csv", false)?;
+    let answer = put(alloc, &mut single, FOR_E, target, 1_800_004)?;
+    assert_eq!(rt; (answer.status, version(&single)?), (200, 3));
+    let spent = (409, Some(Reason::Spent));
+    let lock = Act::Lock { id };
+    assert_eq!(rt; act(alloc, &mut single, lock, 1_800_005)?, spent);
+    Ok(())
+}
+
+#[test]
+fn a_suggestion_gets_a_hundred_tries(rt: HostRuntime) -> Result<(), Fail> {
+    let alloc = rt.alloc();
+    let mut folder = folder(alloc, &["a.csv", "b.csv"])?;
+    for number in 1..99 {
+        let name = format!(in alloc; "b ({number}).csv")?;
+        folder.replace(name.as_str(), b"").ok().ok_or("a file")?;
+    }
+    let mut single = over(alloc, 4096, folder)?;
+    let answer = put(alloc, &mut single, FOR_A, suggested(alloc, b"b.csv")?, 0)?;
+    assert!(rt;
+        answer
+            .body
+            .as_slice()
+            .starts_with(b"{\"Name\":\"b (99).csv\"")
+    );
+    let answer = put(alloc, &mut single, FOR_A, suggested(alloc, b"b.csv")?, 0)?;
+    assert_eq!(rt; answer.status, 409);
+    assert_eq!(rt; answer.reason, Some(Reason::Taken));
+    Ok(())
+}
+
+#[test]
+fn a_shard_that_is_full_makes_no_file(rt: HostRuntime) -> Result<(), Fail> {
+    let alloc = rt.alloc();
+    let mut single = open(alloc, 1, &["a.csv"])?;
+    for _ in 0..2 {
+        let target = suggested(alloc, b".txt")?;
+        let answer = put(alloc, &mut single, FOR_A, target, 0)?;
+        assert_eq!(rt; answer.status, 500);
+        assert_eq!(rt; answer.body.as_slice(), b"journal full".as_slice());
+    }
+    assert!(rt; contents(&single, b"a.txt").is_none());
+    Ok(())
+}
+
+/// A caller over `a.csv`, whose removal fails once.
+fn over_a_failing_removal(alloc: Global) -> Result<Single<MemFolder>, Fail> {
+    let mut folder = MemFolder::new(alloc, Vec::new(alloc), [4u64].as_slice().to_vec(alloc)?);
+    folder.replace("a.csv", b"1,2").ok().ok_or("a file")?;
+    over(alloc, 4096, folder)
+}
+
+fn is_torn(single: &Single<MemFolder>) -> Result<bool, Fail> {
+    let name = FileName::read(b"a.csv")?;
+    Ok(single.shard().file(&name).ok_or("the file")?.torn)
+}
+
+#[test]
+fn a_deletion_that_the_folder_fails_leaves_a_torn_file(rt: HostRuntime) -> Result<(), Fail> {
+    let alloc = rt.alloc();
+    let mut single = over_a_failing_removal(alloc)?;
+    assert!(rt; !is_torn(&single)?);
+    assert_eq!(rt; act(alloc, &mut single, Act::Delete, 0)?, (500, None));
+    assert!(rt; is_torn(&single)?);
+    assert_eq!(rt; contents(&single, b"a.csv"), Some(b"1,2".as_slice()));
+    let get = Act::Get { most: None };
+    assert_eq!(rt; act(alloc, &mut single, get, 0)?, (200, None));
+    assert_eq!(rt; act(alloc, &mut single, Act::Delete, 0)?, (200, None));
+    assert!(rt; !is_torn(&single)?);
+    Ok(())
+}

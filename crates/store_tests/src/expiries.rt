@@ -1,0 +1,120 @@
+//! The queue and the chains over several calls.
+use expiry_queue::{ExpiryQueue, SpentChains};
+use std::process::Abort;
+use std::test::Fail;
+use wopi_model::Spent;
+use wopi_text::LockId;
+
+fn id(rt: &impl Abort, text: &[u8]) -> LockId {
+    LockId::read(text).expect(rt, "a lock id")
+}
+
+#[test]
+fn a_refreshed_file_ends_later(rt: HostRuntime) -> Result<(), Fail> {
+    let mut queue = ExpiryQueue::new(rt.alloc());
+    queue.reserve(2).map_err(|_| "memory")?;
+    let five = queue.push(5, 0);
+    let _six = queue.push(6, 10);
+    assert_eq!(rt; queue.first(), Some((5, 0)));
+    queue.refresh(five, 20);
+    assert_eq!(rt; queue.first(), Some((6, 10)));
+    assert_eq!(rt; queue.pop_expired(1_800_009), None);
+    assert_eq!(rt; queue.pop_expired(1_800_010), Some(6));
+    assert_eq!(rt; queue.pop_expired(1_800_010), None);
+    assert_eq!(rt; queue.remove(five), 5);
+    assert_eq!(rt; queue.first(), None);
+    Ok(())
+}
+
+#[test]
+fn a_spent_id_goes_when_its_time_is_over(rt: HostRuntime) -> Result<(), Fail> {
+    let mut chains = SpentChains::new(rt.alloc());
+    chains.reserve(1).map_err(|_| "memory")?;
+    let chain = chains.add(
+        None,
+        Spent {
+            id: id(&rt, b"L1"),
+            until: 30,
+        },
+    );
+    assert!(rt; chains.holds(chain, &id(&rt, b"L1")));
+    assert!(rt; chains.refuses(chain, &id(&rt, b"L1"), 29));
+    assert!(rt; !chains.refuses(chain, &id(&rt, b"L1"), 30));
+    let chain = chains.purge(chain, 30);
+    assert!(rt; !chains.holds(chain, &id(&rt, b"L1")));
+    Ok(())
+}
+
+#[test]
+fn chains_stand_beside_each_other(rt: HostRuntime) -> Result<(), Fail> {
+    let mut chains = SpentChains::new(rt.alloc());
+    chains.reserve(4).map_err(|_| "memory")?;
+    let one = chains.add(
+        None,
+        Spent {
+            id: id(&rt, b"L1"),
+            until: 30,
+        },
+    );
+    let one = chains.add(
+        one,
+        Spent {
+            id: id(&rt, b"L2"),
+            until: 10,
+        },
+    );
+    let one = chains.add(
+        one,
+        Spent {
+            id: id(&rt, b"L3"),
+            until: 20,
+        },
+    );
+    let other = chains.add(
+        None,
+        Spent {
+            id: id(&rt, b"L1"),
+            until: 5,
+        },
+    );
+    let one = chains.purge(one, 20);
+    assert!(rt; chains.holds(one, &id(&rt, b"L1")));
+    assert!(rt; !chains.holds(one, &id(&rt, b"L2")));
+    assert!(rt; !chains.holds(one, &id(&rt, b"L3")));
+    assert!(rt; chains.holds(other, &id(&rt, b"L1")));
+    Ok(())
+}
+
+#[test]
+fn a_refused_reserve_changes_nothing(rt: HostRuntime) -> Result<(), Fail> {
+    let mut queue = ExpiryQueue::new(rt.alloc());
+    queue.reserve(2).map_err(|_| "memory")?;
+    let five = queue.push(5, 0);
+    assert!(rt; queue.reserve(usize::MAX).is_err());
+    let _six = queue.push(6, 10);
+    assert!(rt; queue.reserve(usize::MAX).is_err());
+    queue.refresh(five, 20);
+    assert_eq!(rt; queue.pop_expired(1_800_009), None);
+    assert_eq!(rt; queue.pop_expired(1_800_010), Some(6));
+    assert_eq!(rt; queue.pop_expired(1_800_010), None);
+    Ok(())
+}
+
+#[test]
+fn chains_outlast_a_refused_reserve(rt: HostRuntime) -> Result<(), Fail> {
+    let mut chains = SpentChains::new(rt.alloc());
+    chains.reserve(1).map_err(|_| "memory")?;
+    assert!(rt; chains.reserve(usize::MAX).is_err());
+    let chain = chains.add(
+        None,
+        Spent {
+            id: id(&rt, b"L1"),
+            until: 30,
+        },
+    );
+    assert!(rt; chains.reserve(usize::MAX).is_err());
+    assert!(rt; chains.holds(chain, &id(&rt, b"L1")));
+    let chain = chains.purge(chain, 30);
+    assert!(rt; !chains.holds(chain, &id(&rt, b"L1")));
+    Ok(())
+}

@@ -1,0 +1,51 @@
+use super::*;
+use std::test::Fail;
+
+fn bytes(alloc: Global, text: &[u8]) -> Result<Bytes, Fail> {
+    Ok(Bytes::from_vec(text.to_vec(alloc)?))
+}
+
+#[test]
+fn what_is_added_is_there_until_it_is_removed(rt: HostRuntime) -> Result<(), Fail> {
+    let alloc = rt.alloc();
+    let mut versions = Versions::new(alloc);
+    let added = versions.add(3, 1, bytes(alloc, b"1,2")?);
+    assert!(rt; matches!(added, Ok(())));
+    let held = versions.at(3, 1).ok_or("a version")?;
+    assert_eq!(rt; held.as_slice(), b"1,2".as_slice());
+    assert!(rt; versions.at(3, 2).is_none());
+    assert_eq!(rt; versions.kept(), 3);
+    let taken = versions.remove(3, 1).ok_or("a version")?;
+    assert_eq!(rt; taken.as_slice(), b"1,2".as_slice());
+    assert_eq!(rt; versions.kept(), 0);
+    Ok(())
+}
+
+#[test]
+fn a_reserved_place_takes_a_version(rt: HostRuntime) -> Result<(), Fail> {
+    let alloc = rt.alloc();
+    let mut versions = Versions::new(alloc);
+    versions.reserve(1)?;
+    let added = versions.add(0, 1, bytes(alloc, b"x")?);
+    assert!(rt; matches!(added, Ok(())));
+    assert_eq!(rt; versions.len(), 1);
+    let held = versions.near(0, 0, 1).ok_or("a version")?;
+    assert_eq!(rt; held.as_slice(), b"x".as_slice());
+    Ok(())
+}
+
+#[test]
+fn room_that_is_given_up_takes_no_version_along(rt: HostRuntime) -> Result<(), Fail> {
+    let alloc = rt.alloc();
+    let mut versions = Versions::new(alloc);
+    versions.reserve(64)?;
+    let added = versions.add(0, 1, bytes(alloc, b"x")?);
+    assert!(rt; matches!(added, Ok(())));
+    versions.shrink_to_fit();
+    let held = versions.at(0, 1).ok_or("a version")?;
+    assert_eq!(rt; held.as_slice(), b"x".as_slice());
+    let next = versions.add(0, 2, bytes(alloc, b"y")?);
+    assert!(rt; matches!(next, Ok(())));
+    assert_eq!(rt; versions.len(), 2);
+    Ok(())
+}

@@ -1,0 +1,224 @@
+use wopi_headers::{Answer, Ask, AskFault, BodyKind, Op, Target, ask_of, reply_of};
+use std::alloc::Global;
+use std::test::Fail;
+use wopi_http::{Field, Fields, Method, Request};
+use wopi_text::{Bytes, LockField, LockId, Memory, Reason};
+
+mod client;
+mod containers;
+
+const FILE: &str = "/wopi/files/612e637376";
+
+fn request(
+    alloc: Global,
+    method: Method,
+    target: &str,
+    named: &[(&str, &str)],
+) -> Result<Request, Memory> {
+    let mut fields = Fields::new(alloc);
+    for (name, value) in named {
+        let name = Bytes::from_slice(alloc, name.as_bytes())?;
+        let value = Bytes::from_slice(alloc, value.as_bytes())?;
+        fields.push(Field { name, value })?;
+    }
+    Ok(Request {
+        method,
+        target: Bytes::from_slice(alloc, target.as_bytes())?,
+        version: 1,
+        fields,
+        body: Bytes::from_vec(Vec::new(alloc)),
+    })
+}
+
+fn status(
+    alloc: Global,
+    method: Method,
+    target: &str,
+    named: &[(&str, &str)],
+) -> Result<u16, Memory> {
+    match ask_of(alloc, &request(alloc, method, target, named)?) {
+        Ok(_) => Ok(200),
+        Err(AskFault::Refused { status }) => Ok(status),
+        Err(AskFault::Memory) => Err(Memory),
+    }
+}
+
+#[test]
+fn a_lock_request_names_its_file_its_token_and_its_id(rt: HostRuntime) -> Result<(), Fail> {
+    let named = [
+        ("x-wopi-override", "LOCK"),
+        ("X-WOPI-Lock", "L1"),
+        ("X-WOPI-Proof", "c2ln"),
+    ];
+    let target = "http://h:80/wopi/files/612e637376?a=b&access_token=a%2Bb+c&access_token=d";
+    let asked = request(rt.alloc(), Method::Post, target, &named)?;
+    let ask = ask_of(rt.alloc(), &asked)?;
+    assert_eq!(rt; ask.file.as_str(), "a.csv");
+    assert_eq!(rt; ask.token.as_slice(), b"a+b+c".as_slice());
+    match &ask.op {
+        Op::Lock { id } => assert_eq!(rt; id.as_slice(), b"L1".as_slice()),
+        _ => assert!(rt; false),
+    }
+    Ok(())
+}
+
+#[test]
+fn each_refusal_has_its_status(rt: HostRuntime) -> Result<(), Fail> {
+    let alloc = rt.alloc();
+    let get = Method::Get;
+    assert_eq!(rt; status(alloc, get, "/wopi/files/zz", &[])?, 404);
+    assert_eq!(rt; status(alloc, get, "/wopi/files/612E637376", &[])?, 404);
+    assert_eq!(rt; status(alloc, get, "*", &[])?, 404);
+    assert_eq!(rt;
+        status(alloc, get, "/wopi/files/612e637376/contents/", &[])?,
+        404
+    );
+    assert_eq!(rt; status(alloc, Method::Other, FILE, &[])?, 501);
+    assert_eq!(rt; status(alloc, get, FILE, &[])?, 200);
+    Ok(())
+}
+
+#[test]
+fn each_lock_request_out_of_form_has_its_status(rt: HostRuntime) -> Result<(), Fail> {
+    let alloc = rt.alloc();
+    let post = Method::Post;
+    let lock = ("X-WOPI-Override", "LOCK");
+    let other = ("X-WOPI-Override", "PUT_USER_INFO");
+    let id = ("X-WOPI-Lock", "L1");
+    let empty = ("X-WOPI-Lock", "");
+    let odd = ("X-WOPI-Lock", "a\tb");
+    assert_eq!(rt; status(alloc, post, FILE, &[id])?, 501);
+    assert_eq!(rt; status(alloc, post, FILE, &[other, id])?, 501);
+    assert_eq!(rt; status(alloc, post, FILE, &[lock])?, 400);
+    assert_eq!(rt; status(alloc, post, FILE, &[lock, empty])?, 400);
+    assert_eq!(rt; status(alloc, post, FILE, &[lock, odd])?, 400);
+    assert_eq!(rt; status(alloc, post, FILE, &[lock, id, id])?, 400);
+    assert_eq!(rt; status(alloc, post, FILE, &[lock, lock, id])?, 400);
+    assert_eq!(rt; status(alloc, post, FILE, &[lock, id])?, 200);
+    Ok(())
+}
+
+const SUGGESTED: &str = "X-WOPI-SuggestedTarget";
+
+const RELATIVE: &str = "X-WOPI-RelativeTarget";
+
+const OVERWRITE: &str = "X-WOPI-OverwriteRelativeTarget";
+
+/// The target of a copy that these fields ask for.
+fn target<'x>(
+    alloc: Global,
+    name: (&'x str, &'x str),
+    overwrite: &'x str,
+) -> Result<Option<Target>, Memory> {
+    let copy = ("X-WOPI-Override", "PUT_RELATIVE");
+    let named = [copy, name, (OVERWRITE, overwrite)];
+    match ask_of(alloc, &request(alloc, Method::Post, FILE, &named)?) {
+        Ok(ask) => {
+            let Ask {
+                file: _file,
+                token: _token,
+                op,
+            } = ask;
+            match op {
+                Op::PutRelative { target } => Ok(Some(target)),
+                _other => Ok(None),
+            }
+        }
+        Err(AskFault::Refused { .. }) => Ok(None),
+        Err(AskFault::Memory) => Err(Memory),
+    }
+}
+
+#[test]
+fn a_copy_has_the_name_that_its_header_stands_for(rt: HostRuntime) -> Result<(), Fail> {
+    let found = target(rt.alloc(), (SUGGESTED, "+AOk-.csv"), "no")?;
+    match &found {
+        Some(Target::Suggested(name)) => assert_eq!(rt; name.as_slice(), "é.csv".as_bytes()),
+        _ => assert!(rt; false),
+    }
+    for (word, wanted) in [("false", false), ("True", true)] {
+        let found = target(rt.alloc(), (RELATIVE, "b.csv"), word)?;
+        match &found {
+            Some(Target::Relative { name, overwrite }) => {
+                assert_eq!(rt; name.as_slice(), b"b.csv".as_slice());
+                assert_eq!(rt; *overwrite, wanted);
+            }
+            _ => assert!(rt; false),
+        }
+    }
+    Ok(())
+}
+
+#[test]
+fn a_copy_overwrites_nothing_unasked(rt: HostRuntime) -> Result<(), Fail> {
+    let alloc = rt.alloc();
+    let named = [("X-WOPI-Override", "PUT_RELATIVE"), (RELATIVE, "b.csv")];
+    let ask = ask_of(alloc, &request(alloc, Method::Post, FILE, &named)?)?;
+    match &ask.op {
+        Op::PutRelative {
+            target: Target::Relative { name: _, overwrite },
+        } => {
+            assert!(rt; !*overwrite);
+        }
+        _ => assert!(rt; false),
+    }
+    Ok(())
+}
+
+#[test]
+fn each_copy_out_of_form_has_its_status(rt: HostRuntime) -> Result<(), Fail> {
+    let alloc = rt.alloc();
+    let post = Method::Post;
+    let copy = ("X-WOPI-Override", "PUT_RELATIVE");
+    let suggested = (SUGGESTED, ".txt");
+    let relative = (RELATIVE, "b.csv");
+    let yes = (OVERWRITE, "yes");
+    assert_eq!(rt; status(alloc, post, FILE, &[copy])?, 400);
+    assert_eq!(rt;
+        status(alloc, post, FILE, &[copy, suggested, relative])?,
+        501
+    );
+    assert_eq!(rt;
+        status(alloc, post, FILE, &[copy, suggested, suggested])?,
+        400
+    );
+    assert_eq!(rt; status(alloc, post, FILE, &[copy, (SUGGESTED, "")])?, 400);
+    assert_eq!(rt;
+        status(alloc, post, FILE, &[copy, (SUGGESTED, "+AOl-")])?,
+        400
+    );
+    assert_eq!(rt; status(alloc, post, FILE, &[copy, relative, yes])?, 400);
+    assert_eq!(rt;
+        status(alloc, post, FILE, &[copy, relative, (OVERWRITE, "")])?,
+        400
+    );
+    assert_eq!(rt; status(alloc, post, FILE, &[copy, suggested, yes])?, 200);
+    assert_eq!(rt; status(alloc, post, FILE, &[copy, copy, suggested])?, 400);
+    assert_eq!(rt; status(alloc, post, FILE, &[copy, relative])?, 200);
+    Ok(())
+}
+
+#[test]
+fn a_conflict_carries_its_lock_and_its_reason(rt: HostRuntime) -> Result<(), Fail> {
+    let answer = Answer {
+        status: 409,
+        lock: LockField::Held(LockId::read(b"L1").ok_or("an id")?),
+        reason: Some(Reason::Locked),
+        version: None,
+        kind: BodyKind::None,
+        body: Bytes::from_vec(Vec::new(rt.alloc())),
+    };
+    let reply = reply_of(rt.alloc(), answer, true)?;
+    let wanted = [
+        ("Content-Length", "0"),
+        ("X-WOPI-Lock", "L1"),
+        ("X-WOPI-LockFailureReason", "locked"),
+        ("Connection", "close"),
+    ];
+    assert_eq!(rt; reply.fields.len(), wanted.len());
+    for (field, (name, value)) in reply.fields.as_slice().iter().zip(wanted) {
+        assert_eq!(rt; field.name.as_slice(), name.as_bytes());
+        assert_eq!(rt; field.value.as_slice(), value.as_bytes());
+    }
+    Ok(())
+}

@@ -1,0 +1,94 @@
+use super::{FILE, request};
+use wopi_headers::{AskFault, ContainerOp, Op, Place, place_into, place_of};
+use std::alloc::Global;
+use std::test::Fail;
+use wopi_http::Method;
+use wopi_text::Memory;
+
+fn status(alloc: Global, method: Method, target: &str) -> Result<u16, Memory> {
+    match place_of(alloc, &request(alloc, method, target, &[])?) {
+        Ok(_) => Ok(200),
+        Err(AskFault::Refused { status }) => Ok(status),
+        Err(AskFault::Memory) => Err(Memory),
+    }
+}
+
+#[test]
+fn the_container_is_asked_for_with_its_token(rt: HostRuntime) -> Result<(), Fail> {
+    let alloc = rt.alloc();
+    let targets = [
+        (
+            "/wopi/containers/root?access_token=a%2Bb+c&access_token=d",
+            ContainerOp::Info,
+        ),
+        (
+            "HTTP://h:80/wopi/containers/root/children?x&access_token=a%2Bb+c",
+            ContainerOp::Children,
+        ),
+    ];
+    for (target, op) in targets {
+        match place_of(alloc, &request(alloc, Method::Get, target, &[])?)? {
+            Place::Container(ask) => {
+                assert_eq!(rt; ask.op, op);
+                assert_eq!(rt; ask.token.as_slice(), b"a+b+c".as_slice());
+            }
+            Place::File(_) => assert!(rt; false),
+        }
+    }
+    Ok(())
+}
+
+#[test]
+fn each_refusal_at_a_container_has_its_status(rt: HostRuntime) -> Result<(), Fail> {
+    let alloc = rt.alloc();
+    let (get, post) = (Method::Get, Method::Post);
+    for unknown in [
+        "/wopi/containers/x",
+        "/wopi/containers/",
+        "/wopi/containers/Root",
+        "/wopi/containers/root/",
+        "/wopi/containers/root/children/",
+        "/wopi/containers/root/children/x",
+        "/wopi/containers/r%6Fot",
+        "/wopi/containers",
+    ] {
+        assert_eq!(rt; status(alloc, get, unknown)?, 404);
+        assert_eq!(rt; status(alloc, post, unknown)?, 404);
+    }
+    for known in ["/wopi/containers/root", "/wopi/containers/root/children"] {
+        assert_eq!(rt; status(alloc, get, known)?, 200);
+        assert_eq!(rt; status(alloc, post, known)?, 501);
+        assert_eq!(rt; status(alloc, Method::Other, known)?, 501);
+    }
+    Ok(())
+}
+
+#[test]
+fn a_file_is_asked_for_as_ever(rt: HostRuntime) -> Result<(), Fail> {
+    let alloc = rt.alloc();
+    match place_of(alloc, &request(alloc, Method::Get, FILE, &[])?)? {
+        Place::File(ask) => {
+            assert_eq!(rt; ask.file.as_str(), "a.csv");
+            assert!(rt; matches!(&ask.op, Op::Info));
+        }
+        Place::Container(_) => assert!(rt; false),
+    }
+    assert_eq!(rt; status(alloc, Method::Post, FILE)?, 501);
+    assert_eq!(rt; status(alloc, Method::Get, "/wopi/files/zz")?, 404);
+    Ok(())
+}
+
+#[test]
+fn a_container_leaves_the_place_of_a_file(rt: HostRuntime) -> Result<(), Fail> {
+    let alloc = rt.alloc();
+    let mut place = None;
+    let file = request(alloc, Method::Get, FILE, &[])?;
+    assert!(rt; place_into(alloc, &file, &mut place)?.is_none());
+    let container = request(alloc, Method::Get, "/wopi/containers/root", &[])?;
+    assert!(rt; place_into(alloc, &container, &mut place)?.is_some());
+    match &place {
+        Some(ask) => assert_eq!(rt; ask.file.as_str(), "a.csv"),
+        None => assert!(rt; false),
+    }
+    Ok(())
+}

@@ -1,0 +1,100 @@
+ghost use Rattle.std.specs.Prelude.{IfOk};
+ghost use Rattle.file_info.specs.Info.{HasTexts};
+
+use file_info::{Info, InfoFault, Required, info_read, info_text, relative_read, relative_text};
+use std::alloc::Global;
+use std::test::Fail;
+use wopi_text::{Bytes, Memory};
+
+fn ann_may_write(alloc: Global) -> Result<Info, Memory>
+    ensures { IfOk result HasTexts }
+{
+    Ok(Info {
+        name: Bytes::from_slice(alloc, "a.csv".as_bytes())?,
+        owner: Bytes::from_slice(alloc, "owner".as_bytes())?,
+        user: Bytes::from_slice(alloc, "ann".as_bytes())?,
+        version: Bytes::from_slice(alloc, "v1".as_bytes())?,
+        size: 4,
+        can_write: true,
+    })
+}
+
+#[test]
+fn what_is_told_of_a_file_has_its_members_in_order(rt: HostRuntime) -> Result<(), Fail> {
+    let info = ann_may_write(rt.alloc())?;
+    let text = info_text(rt.alloc(), &info)?;
+    let told = "{\"BaseFileName\":\"a.csv\",\"OwnerId\":\"owner\",\"Size\":4,\
+                \"SupportsDeleteFile\":true,\"SupportsExtendedLockLength\":true,\"SupportsGetLock\":true,\"SupportsLocks\":true,\
+                \"SupportsUpdate\":true,\"UserCanNotWriteRelative\":false,\"UserCanWrite\":true,\
+                \"UserId\":\"ann\",\"Version\":\"v1\"}";
+    assert_eq!(rt; told.len(), 259);
+    assert_eq!(rt; text.as_slice(), told.as_bytes());
+    Ok(())
+}
+
+#[test]
+fn a_new_file_is_told_by_its_name_and_its_address(rt: HostRuntime) -> Result<(), Fail> {
+    let url = "http://localhost:8880/wopi/files/612e747874?access_token=t";
+    let text = relative_text(rt.alloc(), "a.txt", url)?;
+    let told = "{\"Name\":\"a.txt\",\
+                \"Url\":\"http://localhost:8880/wopi/files/612e747874?access_token=t\"}";
+    assert_eq!(rt; text.as_slice(), told.as_bytes());
+    Ok(())
+}
+
+#[test]
+fn what_is_written_reads_back(rt: HostRuntime) -> Result<(), Fail> {
+    let info = ann_may_write(rt.alloc())?;
+    let text = info_text(rt.alloc(), &info)?;
+    let back = info_read(rt.alloc(), text.as_slice())?;
+    assert_eq!(rt; back.name.as_slice(), b"a.csv".as_slice());
+    assert_eq!(rt; back.version.as_slice(), b"v1".as_slice());
+    assert_eq!(rt; back.size, 4);
+    assert!(rt; back.can_write);
+    let made = relative_text(rt.alloc(), "é \"1\".csv", "http://h/f?t=1")?;
+    let (name, url) = relative_read(rt.alloc(), made.as_slice())?;
+    assert_eq!(rt; name.as_slice(), "é \"1\".csv".as_bytes());
+    assert_eq!(rt; url.as_slice(), b"http://h/f?t=1".as_slice());
+    Ok(())
+}
+
+#[test]
+fn the_first_member_that_is_missing_is_named(rt: HostRuntime) {
+    for (body, field) in [
+        ("{}", Required::BaseFileName),
+        ("[1]", Required::BaseFileName),
+        (
+            "{\"BaseFileName\":\"a\",\"OwnerId\":1,\"Size\":-1}",
+            Required::OwnerId,
+        ),
+        (
+            "{\"BaseFileName\":\"a\",\"OwnerId\":\"\",\"Size\":1.5}",
+            Required::Size,
+        ),
+        (
+            "{\"OwnerId\":\"\",\"BaseFileName\":\"a\",\"Size\":0}",
+            Required::UserId,
+        ),
+    ] {
+        let read = info_read(rt.alloc(), body.as_bytes());
+        assert_eq!(rt; read.err(), Some(InfoFault::Missing { field }), "{body}");
+    }
+    let read = relative_read(rt.alloc(), b"{\"Name\":\"a\"}");
+    assert_eq!(rt;
+        read.err(),
+        Some(InfoFault::Missing {
+            field: Required::Url
+        })
+    );
+}
+
+#[test]
+fn what_is_no_json_is_refused(rt: HostRuntime) {
+    for body in [b"".as_slice(), b"{", b"{} x", b"{\"Name\":\"\xff\"}"] {
+        assert_eq!(rt; info_read(rt.alloc(), body).err(), Some(InfoFault::NotJson));
+        assert_eq!(rt;
+            relative_read(rt.alloc(), body).err(),
+            Some(InfoFault::NotJson)
+        );
+    }
+}

@@ -1,0 +1,148 @@
+ghost use Rattle.std.specs.Prelude.{◌≡◌};
+
+use super::asking::Counted;
+use outside::{
+    Accepted, Clock, Dialer, DirFolder, Listener, MemFolder, MemListener, MemSink, MemSource,
+    OutFault, Pair, ScriptClock, Sink, Source, StdSink, StdSource, SystemClock, TcpDialer,
+    TcpListen, read_link, write_link,
+};
+use std::cell::Cell;
+use std::io::{self, ErrorKind};
+use std::net::TcpListener;
+use std::sync::Arc;
+use std::test::Fail;
+use std::thread::join;
+use std::time::{self, Duration};
+
+#[test]
+fn the_standard_streams_read_and_write(rt: HostRuntime) {
+    let mut input = StdSource::new(rt.stdin());
+    assert_eq!(rt; input.read(&mut []), Ok(0));
+    let mut output = StdSink::output(rt.stdout());
+    assert_eq!(rt; output.write(b""), Ok(0));
+    let mut notes = StdSink::notes(rt.stderr());
+    assert_eq!(rt; notes.write(b"a note\n"), Ok(7));
+}
+
+// A clock that says one thing after another.
+#[derive(Drop)]
+struct Says {
+    place: Cell<usize>,
+}
+
+impl time::Clock for Says {
+    fn monotonic(&self) -> io::Result<Duration> {
+        Ok(Duration::from_secs(0))
+    }
+
+    fn since_1970(&self) -> io::Result<Duration> {
+        let place = self.place.get();
+        self.place.set(place.saturating_add(1));
+        match place {
+            0 | 3 => Err(io::Error::from(ErrorKind::Other)),
+            1 => Ok(Duration::from_secs(u64::MAX)),
+            2 => Ok(Duration::from_millis(253_402_300_799_999)),
+            4 => Err(io::Error::from(ErrorKind::InvalidData)),
+            _ => Ok(Duration::from_millis(1_700_000_000_123)),
+        }
+    }
+}
+
+#[test]
+fn a_system_time_out_of_range_gives_the_nearest_moment(rt: HostRuntime) {
+    let says = Says {
+        place: Cell::new(0),
+    };
+    let mut clock = SystemClock::new(&says);
+    let latest = 253_402_300_799_999;
+    for moment in [0, latest, latest, latest, 0, 1_700_000_000_123] {
+        assert_eq!(rt; clock.now(), moment);
+    }
+    assert!(rt; SystemClock::new(&rt).now() > 1_600_000_000_000);
+}
+
+#[test]
+fn a_socket_that_is_not_bound_makes_each_accept_fail(rt: HostRuntime) {
+    let mut listener = TcpListen::new(None, 9);
+    assert!(rt; matches!(listener.accept(), Err(OutFault::Failed)));
+    assert!(rt; matches!(listener.accept(), Err(OutFault::Failed)));
+}
+
+// Accepts one connection, reads four bytes, and answers.
+fn serve_one(listener: &mut TcpListen) -> bool
+    requires { listener.old.finished ≡ listener.old.accepted }
+{
+    let Ok(Accepted::Link(mut link)) = listener.accept() else {
+        return false;
+    };
+    let mut into = [0u8; 4];
+    let is_read = read_link(&mut link, &mut into) == Ok(4);
+    let is_written = write_link(&mut link, b"reply").is_ok();
+    listener.finish(link);
+    is_read && is_written && into == *b"ask!" && matches!(listener.accept(), Ok(Accepted::Closed))
+}
+
+// This reply ends only where the connection does.
+#[test]
+fn a_link_that_is_finished_is_closed_while_its_listener_lives(rt: HostRuntime) -> Result<(), Fail> {
+    let alloc = rt.alloc();
+    let socket = TcpListener::bind(&rt, "127.0.0.1:0")?;
+    let authority = format!(in alloc; "127.0.0.1:{}", socket.local_addr()?.port())?;
+    let mut listener = TcpListen::new(Some(Arc::new(alloc, socket)?), 1);
+    let mut dialer = TcpDialer::new(alloc, &rt, authority, Counted { count: 9 });
+    let (is_served, reply) = join(
+        &rt,
+        || serve_one(&mut listener),
+        || dialer.exchange(b"ask!"),
+    );
+    assert!(rt; is_served);
+    assert_eq!(rt; reply?.as_slice(), b"reply".as_slice());
+    Ok(())
+}
+
+// Accepts one connection, reads four bytes, answers, and closes only once the other end has.
+fn keep_open(listener: &mut TcpListen) -> bool
+    requires { listener.old.finished ≡ listener.old.accepted }
+{
+    let Ok(Accepted::Link(mut link)) = listener.accept() else {
+        return false;
+    };
+    let mut into = [0u8; 4];
+    let is_read = read_link(&mut link, &mut into) == Ok(4);
+    let is_written = write_link(&mut link, b"reply").is_ok();
+    let is_closed = read_link(&mut link, &mut into) == Ok(0);
+    listener.finish(link);
+    is_read && is_written && is_closed
+}
+
+#[test]
+fn a_host_that_keeps_the_connection_open_holds_no_reply_up(rt: HostRuntime) -> Result<(), Fail> {
+    let alloc = rt.alloc();
+    let socket = TcpListener::bind(&rt, "127.0.0.1:0")?;
+    let authority = format!(in alloc; "127.0.0.1:{}", socket.local_addr()?.port())?;
+    let mut listener = TcpListen::new(Some(Arc::new(alloc, socket)?), 1);
+    let mut dialer = TcpDialer::new(alloc, &rt, authority, Counted { count: 5 });
+    let (is_closed, reply) = join(
+        &rt,
+        || keep_open(&mut listener),
+        || dialer.exchange(b"ask!"),
+    );
+    assert!(rt; is_closed);
+    assert_eq!(rt; reply?.as_slice(), b"reply".as_slice());
+    Ok(())
+}
+
+fn may_be_sent<T: Send>(_sent: &T) {}
+
+#[test]
+fn folders_listeners_and_clocks_may_be_moved_to_a_worker(rt: HostRuntime) -> Result<(), Fail> {
+    let alloc = rt.alloc();
+    may_be_sent(&DirFolder::new(alloc, &rt, ".")?);
+    may_be_sent(&MemFolder::new(alloc, Vec::new(alloc), Vec::new(alloc)));
+    may_be_sent(&TcpListen::new(None, 0));
+    let links: Vec<Pair<MemSource, MemSink>> = Vec::new(alloc);
+    may_be_sent(&MemListener::new(alloc, links, Vec::new(alloc))?);
+    may_be_sent(&SystemClock::new(&rt));
+    may_be_sent(&ScriptClock::new(0, Vec::new(alloc)));
+    Ok(())
+}

@@ -1,0 +1,134 @@
+use utf7_text::{Utf7Fault, utf7_read, utf7_write};
+use std::alloc::Global;
+use std::test::Fail;
+
+/// Whether the text is written as these bytes, and they are read as the text.
+fn is_written(alloc: Global, text: &str, bytes: &[u8]) -> Result<bool, Fail> {
+    let written = utf7_write(alloc, text)?;
+    let read = utf7_read(alloc, bytes)?;
+    Ok(written.as_slice() == bytes && read.as_slice() == text.as_bytes())
+}
+
+/// Whether the bytes are read as the text.
+fn is_read(alloc: Global, bytes: &[u8], text: &str) -> Result<bool, Fail> {
+    let read = utf7_read(alloc, bytes)?;
+    Ok(read.as_slice() == text.as_bytes())
+}
+
+// What Python's base64 makes of the UTF-16 of each run, and its codec reads as the text.
+#[test]
+fn texts_are_written_as_python_writes_their_runs(rt: HostRuntime) -> Result<(), Fail> {
+    for (text, bytes) in [
+        ("", ""),
+        ("a b", "a b"),
+        ("é.csv", "+AOk-.csv"),
+        ("a+b", "a+ACs-b"),
+        ("日本語.csv", "+ZeVnLIqe-.csv"),
+        ("é é", "+AOk- +AOk-"),
+        ("~a\\", "+AH4-a+AFw-"),
+        ("Hi Mom -☺-!", "Hi Mom -+Jjo--+ACE-"),
+        ("+-+", "+ACs--+ACs-"),
+        ("(1).csv'", "(1).csv'"),
+        ("a\tb", "a+AAk-b"),
+        ("\0", "+AAA-"),
+        ("/:?,", "/:?,"),
+        ("A≢Α.", "A+ImIDkQ-."),
+    ] {
+        assert!(rt; is_written(rt.alloc(), text, bytes.as_bytes())?, "{text}");
+    }
+    Ok(())
+}
+
+#[test]
+fn a_character_of_two_units_is_one_pair_in_one_shift(rt: HostRuntime) -> Result<(), Fail> {
+    for (text, bytes) in [
+        ("😀", "+2D3eAA-"),
+        ("x😀y", "x+2D3eAA-y"),
+        ("𝄞é", "+2DTdHgDp-"),
+        ("\u{10FFFF}", "+2//f/w-"),
+    ] {
+        assert!(rt; is_written(rt.alloc(), text, bytes.as_bytes())?, "{text}");
+    }
+    Ok(())
+}
+
+// What Python's codec and iconv both read.
+#[test]
+fn other_forms_of_a_text_are_read_as_python_and_iconv_read_them(
+    rt: HostRuntime,
+) -> Result<(), Fail> {
+    for (bytes, text) in [
+        ("a+-b", "a+b"),
+        ("+--", "+-"),
+        ("+-+-", "++"),
+        ("+AOk.csv", "é.csv"),
+        ("+AOk", "é"),
+        ("+AOk--", "é-"),
+        ("+AOk-+AOk-", "éé"),
+        ("+AOkA6Q", "éé"),
+        ("+Jjo!", "☺!"),
+        ("A+ImIDkQ.", "A≢Α."),
+        ("Hi Mom -+Jjo--!", "Hi Mom -☺-!"),
+        ("+AGE-", "a"),
+    ] {
+        assert!(rt; is_read(rt.alloc(), bytes.as_bytes(), text)?, "{bytes}");
+    }
+    assert!(rt; is_read(rt.alloc(), b"\\~", "\\~")?);
+    Ok(())
+}
+
+#[test]
+fn the_first_fault_is_told_by_its_place(rt: HostRuntime) {
+    for (bytes, at) in [
+        (b"+AOl-".as_slice(), 0),
+        (b"+", 0),
+        (b"a+", 1),
+        (b"a+ b", 1),
+        (b"++-", 0),
+        (b"a\tb", 1),
+        (b"ab\x7f", 2),
+        (b"a\xc3\xa9", 1),
+        (b"x+AOl-\t", 1),
+        (b"x\t+AOl-", 1),
+        (b"+AOk-+AOl-", 5),
+        (b"+AOk\n", 4),
+    ] {
+        assert_eq!(rt;
+            utf7_read(rt.alloc(), bytes).err(),
+            Some(Utf7Fault::Bad { at })
+        );
+    }
+}
+
+#[test]
+fn six_bits_or_more_may_not_be_left(rt: HostRuntime) {
+    for bytes in [
+        b"+A-".as_slice(),
+        b"+AA-",
+        b"+AOkA-",
+        b"+AOkAA-",
+        b"+AOkAOk-",
+        b"+2D3eAAA-",
+    ] {
+        assert_eq!(rt;
+            utf7_read(rt.alloc(), bytes).err(),
+            Some(Utf7Fault::Bad { at: 0 })
+        );
+    }
+}
+
+#[test]
+fn a_surrogate_without_its_partner_is_a_fault(rt: HostRuntime) {
+    for bytes in [
+        b"+2AA-".as_slice(),
+        b"+3AA-",
+        b"+2D0-+3gA-",
+        b"+2D3YPQ-",
+        b"+3gDYPQ-",
+    ] {
+        assert_eq!(rt;
+            utf7_read(rt.alloc(), bytes).err(),
+            Some(Utf7Fault::Bad { at: 0 })
+        );
+    }
+}
