@@ -3,11 +3,11 @@ mod copies;
 mod faults;
 mod sessions;
 
-use wopi_client::Desktop;
 use outside::ScriptDialer;
 use save_session::{Input, Nonce, Session};
 use std::alloc::Global;
 use std::test::Fail;
+use wopi_client::Desktop;
 use wopi_text::{Bytes, FileName};
 
 const ACCEPTED: &[u8] = b"HTTP/1.1 200 OK\r\nContent-Length: 0\r\nX-WOPI-ItemVersion: v2\r\n\r\n";

@@ -1,9 +1,9 @@
 //! Texts of journals, read and written.
+use host_table::WriteRoom;
 use journal_text::{
     JournalFault, RewriteFault, WriteEnd, read_bytes, read_journal, rewrite, write_lines,
     write_lines_into,
 };
-use host_table::WriteRoom;
 use line_text::InputFault;
 use outside::{MemSink, MemSource};
 use std::alloc::Global;

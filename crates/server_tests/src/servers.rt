@@ -1,27 +1,26 @@
 //! PutRelativeFile over a shard whose folder is in memory.
-ghost use Rattle.std.specs.Prelude.{◌≤◌, IfOk};
+ghost use Rattle.std.specs.Prelude.{◌≤◌};
 ghost use Rattle.wopi_model.specs.Moment.{IsMoment};
-ghost use Rattle.access_tokens.specs.TokenText.{IsWritable};
 
-use host_server::copying::{Copying, put_beside};
-use host_server::desk::Desk;
 use access_tokens::{Keys, Token, read};
 use host_core::{Act, Call, Caller, Shard, Single};
+use host_server::{Desk, answer};
 use outside::{Folder, MemFolder};
 use std::alloc::Global;
 use std::test::Fail;
-use wopi_headers::{Answer, BodyKind, Target};
+use wopi_headers::{Answer, BodyKind};
+use wopi_http::{Field, Fields, Method, Request};
 use wopi_text::{Bytes, FileName, LockField, LockId, Reason};
 
 mod reads;
 
 /// A token for `a.csv` that may write, under the desk's keys.
-const FOR_A: &[u8] =
-    b"v1.ann.612e637376.w.1.253402300000000.253402300799999.e4367dab632e0b350a8cebce225b4b3af9ddf3ae5a45f45b85a6abd4ffe2d92a";
+const FOR_A: &str =
+    "v1.ann.612e637376.w.1.253402300000000.253402300799999.e4367dab632e0b350a8cebce225b4b3af9ddf3ae5a45f45b85a6abd4ffe2d92a";
 
 /// One for `e.csv`, which expires at 9,000,000.
-const FOR_E: &[u8] =
-    b"v1.ann.652e637376.w.2.0.9000000.9656829e31843856497e1c8fc65763bf6e0f8c232e0fdab239c8df7ef9fce927";
+const FOR_E: &str =
+    "v1.ann.652e637376.w.2.0.9000000.9656829e31843856497e1c8fc65763bf6e0f8c232e0fdab239c8df7ef9fce927";
 
 fn desk(alloc: Global) -> Result<Desk, Fail> {
     let keys = Keys::read(b"4a656665").ok_or("keys")?;
@@ -29,13 +28,9 @@ fn desk(alloc: Global) -> Result<Desk, Fail> {
     Ok(Desk::new(keys, base, 0))
 }
 
-fn token(desk: &Desk, text: &[u8]) -> Result<Token, Fail>
-    ensures { IfOk result IsWritable }
-{
-    match read(&desk.keys, text) {
-        Ok(token) => Ok(token),
-        Err(_) => Err("a token".into()),
-    }
+/// The token that a text is under the desk's keys.
+fn token(desk: &Desk, text: &str) -> Result<Token, Fail> {
+    Ok(read(&desk.keys, text.as_bytes()).ok().ok_or("a token")?)
 }
 
 /// Files of these names, each with the contents `1,2`.
@@ -63,14 +58,40 @@ fn open(alloc: Global, capacity: u32, names: &[&str]) -> Result<Single<MemFolder
     over(alloc, capacity, folder(alloc, names)?)
 }
 
-fn suggested(alloc: Global, text: &[u8]) -> Result<Target, Fail> {
-    Ok(Target::Suggested(Bytes::from_slice(alloc, text)?))
+/// A header field: its name and its value.
+type Header<'a> = (&'a str, &'a str);
+
+fn suggested(text: &str) -> [Header<'_>; 1] {
+    [("X-WOPI-SuggestedTarget", text)]
 }
 
-fn relative(alloc: Global, name: &[u8], overwrite: bool) -> Result<Target, Fail> {
-    Ok(Target::Relative {
-        name: Bytes::from_slice(alloc, name)?,
-        overwrite,
+fn relative(name: &str, overwrite: bool) -> [Header<'_>; 2] {
+    [
+        ("X-WOPI-RelativeTarget", name),
+        (
+            "X-WOPI-OverwriteRelativeTarget",
+            if overwrite { "true" } else { "false" },
+        ),
+    ]
+}
+
+/// A PutRelativeFile of `x` with these headers, for whom a token's text is.
+fn request(alloc: Global, text: &str, headers: &[Header<'_>]) -> Result<Request, Fail> {
+    let id = text.split('.').nth(2).ok_or("the file's id")?;
+    let target = format!(in alloc; "/wopi/files/{id}?access_token={text}")?;
+    let mut fields = Fields::new(alloc);
+    for (name, value) in [("X-WOPI-Override", "PUT_RELATIVE")].iter().chain(headers) {
+        fields.push(Field {
+            name: Bytes::from_slice(alloc, name.as_bytes())?,
+            value: Bytes::from_slice(alloc, value.as_bytes())?,
+        })?;
+    }
+    Ok(Request {
+        method: Method::Post,
+        target: Bytes::from_slice(alloc, target.as_bytes())?,
+        version: 1,
+        fields,
+        body: Bytes::from_slice(alloc, b"x")?,
     })
 }
 
@@ -78,22 +99,14 @@ fn relative(alloc: Global, name: &[u8], overwrite: bool) -> Result<Target, Fail>
 fn put(
     alloc: Global,
     single: &mut Single<MemFolder>,
-    text: &[u8],
-    target: Target,
+    text: &str,
+    headers: &[Header<'_>],
     moment: u64,
 ) -> Result<Answer, Fail>
     requires { IsMoment moment }
 {
-    let desk = desk(alloc)?;
-    let token = token(&desk, text)?;
-    let copying = Copying {
-        source: token.file.copy(),
-        token,
-        target,
-        contents: Bytes::from_slice(alloc, b"x")?,
-        moment,
-    };
-    Ok(put_beside(alloc, single, &desk, copying)?)
+    let request = request(alloc, text, headers)?;
+    Ok(answer(alloc, single, &desk(alloc)?, request, moment)?)
 }
 
 fn contents<'a>(single: &'a Single<MemFolder>, name: &[u8]) -> Option<&'a [u8]> {
@@ -105,7 +118,7 @@ fn contents<'a>(single: &'a Single<MemFolder>, name: &[u8]) -> Option<&'a [u8]> 
 fn an_ending_makes_a_file_beside_the_source(rt: HostRuntime) -> Result<(), Fail> {
     let alloc = rt.alloc();
     let mut single = open(alloc, 4096, &["a.csv"])?;
-    let answer = put(alloc, &mut single, FOR_A, suggested(alloc, b".txt")?, 5)?;
+    let answer = put(alloc, &mut single, FOR_A, &suggested(".txt"), 5)?;
     let told =
         "{\"Name\":\"a.txt\",\"Url\":\"http://localhost:8880/wopi/files/612e747874?access_token=v2.0.ann.612e747874.w.1.5.253402300799999.7b2ec53d2d5e39a87f4f57e35afc32a842b40e4532dccc2bdfce371a42ffbb9b\"}";
     assert_eq!(rt; answer.status, 200);
@@ -120,7 +133,7 @@ fn an_ending_makes_a_file_beside_the_source(rt: HostRuntime) -> Result<(), Fail>
 fn a_suggestion_that_is_taken_gets_a_number(rt: HostRuntime) -> Result<(), Fail> {
     let alloc = rt.alloc();
     let mut single = open(alloc, 4096, &["a.csv", "a (1).csv"])?;
-    let answer = put(alloc, &mut single, FOR_A, suggested(alloc, b"a.csv")?, 0)?;
+    let answer = put(alloc, &mut single, FOR_A, &suggested("a.csv"), 0)?;
     assert_eq!(rt; answer.status, 200);
     assert!(rt;
         answer
@@ -137,7 +150,7 @@ fn a_suggestion_that_is_taken_gets_a_number(rt: HostRuntime) -> Result<(), Fail>
 fn a_relative_name_that_is_taken_is_told(rt: HostRuntime) -> Result<(), Fail> {
     let alloc = rt.alloc();
     let mut single = open(alloc, 4096, &["a.csv"])?;
-    let target = relative(alloc, b"a.csv", false)?;
+    let target = &relative("a.csv", false);
     let answer = put(alloc, &mut single, FOR_A, target, 0)?;
     assert_eq!(rt; answer.status, 409);
     assert!(rt; answer.lock == LockField::Empty);
@@ -152,14 +165,14 @@ fn a_name_that_no_file_can_have_is_bad_once_the_source_is_there(
 ) -> Result<(), Fail> {
     let alloc = rt.alloc();
     let mut single = open(alloc, 4096, &["a.csv"])?;
-    let target = relative(alloc, b"a/b", false)?;
+    let target = &relative("a/b", false);
     assert_eq!(rt; put(alloc, &mut single, FOR_A, target, 0)?.status, 400);
-    let target = suggested(alloc, b"...")?;
+    let target = &suggested("...");
     assert_eq!(rt; put(alloc, &mut single, FOR_A, target, 0)?.status, 200);
-    let target = suggested(alloc, b" ")?;
+    let target = &suggested("+ACA-");
     assert_eq!(rt; put(alloc, &mut single, FOR_A, target, 0)?.status, 400);
     let mut other = open(alloc, 4096, &["b.csv"])?;
-    let target = relative(alloc, b"a/b", false)?;
+    let target = &relative("a/b", false);
     assert_eq!(rt; put(alloc, &mut other, FOR_A, target, 0)?.status, 404);
     Ok(())
 }
@@ -198,18 +211,18 @@ fn a_locked_target_is_overwritten_once_its_lock_ended(rt: HostRuntime) -> Result
     assert_eq!(rt; act(alloc, &mut single, lock, 0)?, (200, None));
     let locked = (409, Some(Reason::Locked));
     assert_eq!(rt; act(alloc, &mut single, Act::Delete, 1)?, locked);
-    let target = relative(alloc, b"a.csv", true)?;
+    let target = &relative("a.csv", true);
     let answer = put(alloc, &mut single, FOR_E, target, 2)?;
     assert_eq!(rt; (answer.status, answer.reason), locked);
     assert!(rt; answer.lock == LockField::Held(id.copy()));
-    let target = relative(alloc, b"a.csv", true)?;
+    let target = &relative("a.csv", true);
     let answer = put(alloc, &mut single, FOR_E, target, 1_800_002)?;
     assert_eq!(rt; (answer.status, version(&single)?), (200, 2));
     let gone = act(alloc, &mut single, Act::Delete, 1_800_003)?;
     assert_eq!(rt; gone, (200, None));
     let get = Act::Get { most: None };
     assert_eq!(rt; act(alloc, &mut single, get, 1_800_003)?, (404, None));
-    let target = relative(alloc, b"a.csv", false)?;
+    let target = &relative("a.csv", false);
     let answer = put(alloc, &mut single, FOR_E, target, 1_800_004)?;
     assert_eq!(rt; (answer.status, version(&single)?), (200, 3));
     let spent = (409, Some(Reason::Spent));
@@ -227,14 +240,14 @@ fn a_suggestion_gets_a_hundred_tries(rt: HostRuntime) -> Result<(), Fail> {
         folder.replace(name.as_str(), b"").ok().ok_or("a file")?;
     }
     let mut single = over(alloc, 4096, folder)?;
-    let answer = put(alloc, &mut single, FOR_A, suggested(alloc, b"b.csv")?, 0)?;
+    let answer = put(alloc, &mut single, FOR_A, &suggested("b.csv"), 0)?;
     assert!(rt;
         answer
             .body
             .as_slice()
             .starts_with(b"{\"Name\":\"b (99).csv\"")
     );
-    let answer = put(alloc, &mut single, FOR_A, suggested(alloc, b"b.csv")?, 0)?;
+    let answer = put(alloc, &mut single, FOR_A, &suggested("b.csv"), 0)?;
     assert_eq!(rt; answer.status, 409);
     assert_eq!(rt; answer.reason, Some(Reason::Taken));
     Ok(())
@@ -245,7 +258,7 @@ fn a_shard_that_is_full_makes_no_file(rt: HostRuntime) -> Result<(), Fail> {
     let alloc = rt.alloc();
     let mut single = open(alloc, 1, &["a.csv"])?;
     for _ in 0..2 {
-        let target = suggested(alloc, b".txt")?;
+        let target = &suggested(".txt");
         let answer = put(alloc, &mut single, FOR_A, target, 0)?;
         assert_eq!(rt; answer.status, 500);
         assert_eq!(rt; answer.body.as_slice(), b"journal full".as_slice());

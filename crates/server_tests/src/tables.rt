@@ -2,8 +2,10 @@
 ghost use Rattle.std.specs.Prelude.{◌≡◌, ◌^◌, IfOk};
 ghost use Rattle.host_table.specs.Passes.{IsPassOf};
 
-use host_table::{Host, Journal, Pass, Seated, WriteEnd, WriteRoom, write_journal, write_journal_into};
 use host_core::{Act, Call, Caller, Receipt};
+use host_table::{
+    Host, Journal, Pass, Seated, WriteEnd, WriteRoom, write_journal, write_journal_into,
+};
 use outside::{Folder, MemFolder, MemSink};
 use std::alloc::Global;
 use std::process::Abort;
@@ -128,6 +130,7 @@ fn version_by<R: Wait>(
 
 /// Closes a host by all its passes.
 fn close(
+    alloc: Global,
     host: Host<MemFolder>,
     first: Pass<MemFolder>,
     second: Pass<MemFolder>,
@@ -135,7 +138,7 @@ fn close(
     requires first { IsPassOf host first }
     requires second { IsPassOf host second }
 {
-    let passes = vec![in host.alloc; first, second]?;
+    let passes = vec![in alloc; first, second]?;
     if !host.whole(&passes) {
         return Err("all passes".into());
     }
@@ -176,7 +179,7 @@ fn a_journal_is_by_stamp_and_then_by_shard(rt: HostRuntime) -> Result<(), Fail> 
     let other = make_one(&rt, &host, &mut second, lock_call(&rt, b"b.csv"));
     let again = make_one(&rt, &host, &mut first, lock_call(&rt, b"a.csv"));
     assert!(rt; other == Some((2, 12)) && again == Some((2, 11)));
-    let (journal, folders) = close(host, first, second)?;
+    let (journal, folders) = close(alloc, host, first, second)?;
     assert!(rt; journal.opened() == 0 && folders.len() == 16);
     let spots = spots_of(alloc, &journal, None)?;
     assert!(rt; spots.as_slice() == [Some((1, 11)), Some((2, 11)), Some((2, 12))].as_slice());
@@ -199,7 +202,7 @@ fn a_pass_has_its_own_entries_in_the_journal(rt: HostRuntime) -> Result<(), Fail
     );
     let (first, mine) = one;
     let (second, others) = two;
-    let (journal, _folders) = close(host, first, second)?;
+    let (journal, _folders) = close(alloc, host, first, second)?;
     assert!(rt; spots_of(alloc, &journal, Some(0))?.as_slice() == mine.as_slice());
     assert!(rt; spots_of(alloc, &journal, Some(1))?.as_slice() == others.as_slice());
     assert!(rt; spots_of(alloc, &journal, None)?.len() == 4);
@@ -266,10 +269,14 @@ fn a_journal_tells_the_opening_files_and_the_contents(rt: HostRuntime) -> Result
 }
 
 /// Closes a host by its one pass.
-fn close_one(host: Host<MemFolder>, pass: Pass<MemFolder>) -> Result<Journal<MemFolder>, Fail>
+fn close_one(
+    alloc: Global,
+    host: Host<MemFolder>,
+    pass: Pass<MemFolder>,
+) -> Result<Journal<MemFolder>, Fail>
     requires { IsPassOf host pass }
 {
-    let passes = vec![in host.alloc; pass]?;
+    let passes = vec![in alloc; pass]?;
     if !host.whole(&passes) {
         return Err("all passes".into());
     }
@@ -293,7 +300,7 @@ fn a_journal_is_written_alike_in_either_room(rt: HostRuntime) -> Result<(), Fail
     let (host, mut first) = open(alloc)?;
     let lock = lock_call(&rt, b"a.csv");
     assert!(rt; make_one(&rt, &host, &mut first, lock).is_some());
-    let journal = close_one(host, first)?;
+    let journal = close_one(alloc, host, first)?;
     let mut plain = sink(alloc, 0)?;
     assert!(rt; write_journal(alloc, &mut plain, &journal).is_ok());
     let mut ahead = sink(alloc, 0)?;
@@ -312,7 +319,7 @@ fn a_journal_is_written_alike_in_either_room(rt: HostRuntime) -> Result<(), Fail
 fn a_write_that_fails_is_told(rt: HostRuntime) -> Result<(), Fail> {
     let alloc = rt.alloc();
     let (host, first) = open(alloc)?;
-    let journal = close_one(host, first)?;
+    let journal = close_one(alloc, host, first)?;
     let mut failing = sink(alloc, 1)?;
     let end = write_journal(alloc, &mut failing, &journal);
     assert!(rt; matches!(end, Err(WriteEnd::Failed)));

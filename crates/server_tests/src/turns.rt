@@ -1,11 +1,11 @@
 //! A log of numbers in a lock, which two threads add to.
 ghost use Rattle.std.specs.Prelude.{◌≡◌, ◌++◌, ◌∷◌, [], None, OnErr, OnOk};
 
-use turn_lock::{Grown, Seat, TurnLock};
 use std::alloc::AllocError;
 use std::sync::Wait;
 use std::test::Fail;
 use std::thread::join;
+use turn_lock::{Grown, Seat, TurnLock};
 
 /// Numbers behind a first one.
 #[derive(Drop)]

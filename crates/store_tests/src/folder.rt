@@ -1,13 +1,12 @@
 ghost use Rattle.std.specs.Prelude.{IfOk};
 ghost use Rattle.containers.specs.TokenText.{IsWritable};
 
-use containers::ContainerToken;
 use access_tokens::Keys;
+use containers::ContainerToken;
 use std::test::Fail;
 use wopi_model::User;
 
 mod answers;
-mod sizes;
 mod tokens;
 
 /// The key `Jefe`, whose number is 0.

@@ -3,15 +3,13 @@ ghost use Rattle.std.specs.Prelude.{◌≤◌};
 ghost use Rattle.wopi_model.specs.Moment.{IsMoment};
 ghost use Rattle.host_core.specs.Opening.{IsFirstVersion};
 
-use super::*;
-use host_core::caller::{CallFault, Caller};
-use host_core::opening::StartFault;
-use host_core::single::Single;
-use outside::MemFolder;
+use host_core::{CallFault, Caller, Shard, Single, StartFault};
+use outside::{Folder, MemFolder};
+use std::alloc::Global;
 use std::process::Abort;
 use std::test::Fail;
-use wopi_model::{Act, Token, User};
-use wopi_text::{LockField, LockId, Reason};
+use wopi_model::{Act, Call, Ruling, Token, User};
+use wopi_text::{Bytes, FileName, LockField, LockId, Reason};
 
 mod listing;
 

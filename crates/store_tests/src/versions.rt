@@ -1,5 +1,7 @@
-use super::*;
+use file_versions::Versions;
+use std::alloc::Global;
 use std::test::Fail;
+use wopi_text::Bytes;
 
 fn bytes(alloc: Global, text: &[u8]) -> Result<Bytes, Fail> {
     Ok(Bytes::from_vec(text.to_vec(alloc)?))

@@ -1,6 +1,6 @@
-use wopi_headers::{Answer, Ask, AskFault, BodyKind, Op, Target, ask_of, reply_of};
 use std::alloc::Global;
 use std::test::Fail;
+use wopi_headers::{Answer, Ask, AskFault, BodyKind, Op, Target, ask_of, reply_of};
 use wopi_http::{Field, Fields, Method, Request};
 use wopi_text::{Bytes, LockField, LockId, Memory, Reason};
 

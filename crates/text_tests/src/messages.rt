@@ -1,10 +1,12 @@
 //! Whole messages and replies, as they stand on the wire.
 ghost use Rattle.std.specs.Prelude.{◌≤◌};
 
-use super::*;
 use outside::{MemSink, MemSource, Pair};
 use std::alloc::Global;
 use std::test::Fail;
+use wopi_http::{
+    Buffer, Field, Fields, Got, Method, Reply, closes, read_request, write_bare, write_reply,
+};
 use wopi_text::Bytes;
 
 mod client;

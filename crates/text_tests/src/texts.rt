@@ -1,8 +1,8 @@
+use std::test::Fail;
 use wopi_text::{
     BadId, BadName, Bytes, FileName, LockId, are_digits, are_equal, decimal_read, decode_hex,
     digits_read, digits_up_to, hex_decoded, id_read, id_text, is_name_char,
 };
-use std::test::Fail;
 
 #[test]
 fn the_id_of_a_name_is_its_hex_and_reads_back(rt: HostRuntime) -> Result<(), Fail> {

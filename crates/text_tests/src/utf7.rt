@@ -1,6 +1,6 @@
-use utf7_text::{Utf7Fault, utf7_read, utf7_write};
 use std::alloc::Global;
 use std::test::Fail;
+use utf7_text::{Utf7Fault, utf7_read, utf7_write};
 
 /// Whether the text is written as these bytes, and they are read as the text.
 fn is_written(alloc: Global, text: &str, bytes: &[u8]) -> Result<bool, Fail> {

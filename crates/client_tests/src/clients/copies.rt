@@ -1,8 +1,8 @@
 //! Copies under another name.
 use super::{desktop, dialer, request};
-use wopi_client::{AsFault, AsOutcome, save_as};
 use save_session::Outcome;
 use std::test::Fail;
+use wopi_client::{AsFault, AsOutcome, save_as};
 
 const COPY: &[u8] = b"POST /wopi/files/612e637376?access_token=t%200 HTTP/1.1\r\n\
 Host: localhost:8880\r\nX-WOPI-Override: PUT_RELATIVE\r\nX-WOPI-RelativeTarget: b.csv\r\nX-WOPI-OverwriteRelativeTarget: false\r\nContent-Length: 4\r\nConnection: close\r\n\r\n1,9\n";

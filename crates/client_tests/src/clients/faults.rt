@@ -2,10 +2,10 @@
 use super::{
     ACCEPTED, ASK_INFO, CONTENTS, INFO, INFO_HEAD, PUT, desktop, dialer, request, save, session,
 };
-use wopi_client::{DriveFault, drive};
 use save_session::{Input, Outcome};
 use std::alloc::Global;
 use std::test::Fail;
+use wopi_client::{DriveFault, drive};
 
 /// The contents of a save that was handed back.
 fn handed_back(told: &Result<Outcome, DriveFault>) -> &[u8] {

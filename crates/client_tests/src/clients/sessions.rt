@@ -1,8 +1,8 @@
 //! A session from its start to its end.
 use super::{ACCEPTED, ASK_INFO, CONTENTS, INFO, PUT, desktop, dialer, request, save, session};
-use wopi_client::{DriveFault, drive};
 use save_session::{Input, Outcome};
 use std::test::Fail;
+use wopi_client::{DriveFault, drive};
 use wopi_text::{LockField, Reason};
 
 const TAKE_LOCK: &[u8] = b"POST /wopi/files/612e637376?access_token=t%200 HTTP/1.1\r\n\

@@ -2,10 +2,10 @@
 ghost use Rattle.std.specs.Prelude.{◌≡◌, IfOk, None, length};
 
 use super::{Met, fakes, run_in, whole};
-use wopi_program::Outside;
 use outside::{Failed, Source};
 use std::alloc::Global;
 use std::test::Fail;
+use wopi_program::Outside;
 use wopi_text::Memory;
 
 /// A source that gives some bytes, and then one byte without end.

@@ -5,7 +5,6 @@ ghost use Rattle.outside.specs.MemListener.{has_all_back};
 
 use crate::program::gates::{Flag, FlagLink, GateFolder};
 use crate::program::words_of;
-use wopi_program::{Command, Outside, read_words, run, serve_ask};
 use outside::{
     Clock, Dialer, Folder, Link, Listener, MemFolder, MemListener, MemSink, MemSource, Pair,
     ScriptClock, ScriptDialer, Sink, Source,
@@ -15,6 +14,7 @@ use std::sync::atomic::AtomicU64;
 use std::sync::{Arc, Wait};
 use std::test::Fail;
 use std::thread::Threads;
+use wopi_program::{Command, Outside, read_words, run, serve_ask};
 use wopi_text::{Bytes, Memory};
 
 /// A token for `a.csv` under the key of the words, with the right to write, that expires at 9,000,000.

@@ -2,7 +2,7 @@
 ghost use Rattle.std.specs.Prelude.{◌≤◌};
 
 use super::{desk, open};
-use host_server::connection::{ConnEnd, serve_connection};
+use host_server::{ConnEnd, serve_connection};
 use outside::{MemSink, MemSource, Pair, ScriptClock};
 use std::alloc::Global;
 use std::test::Fail;

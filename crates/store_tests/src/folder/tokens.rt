@@ -1,6 +1,6 @@
 use super::{FILE_TEXT, FORMER_TEXT, TEXT, WORD, ZERO_TEXT, keys, token};
-use containers::{container_mint, container_read};
 use access_tokens::{TokenFault, read};
+use containers::{container_mint, container_read};
 use std::test::Fail;
 
 /// The token of `TEXT` under the key `6b` of the number 255.

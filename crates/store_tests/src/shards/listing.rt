@@ -1,7 +1,7 @@
 //! What listings of a shard have.
 use super::*;
-use host_core::children::Child;
-use host_core::listing::{Lister, Listing};
+use host_core::{Child, Children, Lister, Listing};
+use wopi_text::Memory;
 
 /// The name, the version and the size of the file at a place.
 fn child(listing: &Listing, place: usize) -> Result<(&str, u64, u64), Fail> {

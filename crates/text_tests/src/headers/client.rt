@@ -1,9 +1,9 @@
 //! What a client asks, and what it is told.
+use std::alloc::Global;
+use std::test::Fail;
 use wopi_headers::{
     Answer, Ask, BodyKind, Op, Target, answer_of, ask_of, request_bytes, request_of, version_text,
 };
-use std::alloc::Global;
-use std::test::Fail;
 use wopi_http::{Field, Fields, Reply};
 use wopi_text::{Bytes, FileName, LockField, LockId, Memory, Reason};
 

@@ -1,7 +1,7 @@
 use super::{FILE, request};
-use wopi_headers::{AskFault, ContainerOp, Op, Place, place_into, place_of};
 use std::alloc::Global;
 use std::test::Fail;
+use wopi_headers::{AskFault, ContainerOp, Op, Place, place_into, place_of};
 use wopi_http::Method;
 use wopi_text::Memory;
 

@@ -1,12 +1,12 @@
 //! Requests as a client writes them, and replies as it reads them.
 use super::joined;
+use outside::{MemSink, MemSource, Pair, ReplyEnd, ask_link};
+use std::alloc::Global;
+use std::test::Fail;
 use wopi_http::{
     Field, Fields, Method, ReplyFault, ReplyLength, Request, read_placed_reply, read_reply,
     request_text,
 };
-use outside::{MemSink, MemSource, Pair, ReplyEnd, ask_link};
-use std::alloc::Global;
-use std::test::Fail;
 use wopi_text::Bytes;
 
 const SIZED: &[u8] = b"HTTP/1.1 200 OK\r\nContent-Length: 4\r\nX-WOPI-ItemVersion: v1\r\n\r\n1,2\n";

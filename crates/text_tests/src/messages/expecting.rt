@@ -1,10 +1,10 @@
 //! A client that sends its body only once it was told to go on.
 ghost use Rattle.std.specs.Prelude.{◌≤◌, [], None, length};
 
-use wopi_http::{Buffer, Got, read_request};
 use outside::{Failed, Link, MemSink, Sink, Source};
 use std::alloc::Global;
 use std::test::Fail;
+use wopi_http::{Buffer, Got, read_request};
 
 const GO_ON: &[u8] = b"HTTP/1.1 100 Continue\r\n\r\n";
 

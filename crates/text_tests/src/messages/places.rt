@@ -3,10 +3,10 @@ ghost use Rattle.std.specs.Prelude.{None};
 
 use super::expecting::given;
 use super::{joined, repeated};
-use wopi_http::{Buffer, Got, Request, read_request};
 use outside::{Failed, MemSink, MemSource, Pair, Source};
 use std::alloc::Global;
 use std::test::Fail;
+use wopi_http::{Buffer, Got, Request, read_request};
 use wopi_text::Bytes;
 
 const INPUT: &[u8] =

@@ -1,8 +1,8 @@
 //! How often a link is read.
-use wopi_http::{Buffer, Got, read_request};
 use outside::{Failed, MemSink, MemSource, Pair, Source};
 use std::alloc::Global;
 use std::test::Fail;
+use wopi_http::{Buffer, Got, read_request};
 use wopi_text::Bytes;
 
 /// The answer to this input, whose read of this number fails, as a status: 0 for the end, 1 where a

@@ -2,10 +2,10 @@
 ghost use Rattle.std.specs.Prelude.{None};
 
 use super::repeated;
-use wopi_http::{Field, Fields, Reply, write_bare, write_reply};
 use outside::{Failed, Sink};
 use std::alloc::Global;
 use std::test::Fail;
+use wopi_http::{Field, Fields, Reply, write_bare, write_reply};
 use wopi_text::Bytes;
 
 /// Counts writes and their bytes, and takes each whole.
