@@ -221,7 +221,15 @@ fn answer_container<C: Lister>(
     ensures basis { C.basis caller.new ≡ C.basis caller.old }
     ensures references { C.references caller.new ≡ C.references caller.old }
 {
-    container_answer(alloc, caller, &desk.keys, &desk.base, desk.opened, ask, moment)
+    container_answer(
+        alloc,
+        caller,
+        &desk.keys,
+        &desk.base,
+        desk.opened,
+        ask,
+        moment,
+    )
 }
 
 /// Answers a request as [`answer`] does. A token with a text that is remembered isn't read anew, and what is

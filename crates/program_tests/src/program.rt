@@ -24,13 +24,13 @@ mod words;
 ghost use Rattle.std.specs.Prelude.{◌≡◌, ◌∷◌, IfOk, IsTrue, length};
 ghost use Rattle.outside.specs.Script.{all_moments};
 
-use wopi_program::{Outside, run, serve_ask};
 use outside::{
     Folder, MemFolder, MemListener, MemSink, MemSource, Pair, ScriptClock, ScriptDialer, Source,
 };
 use std::alloc::Global;
 use std::sync::Wait;
 use std::thread::Threads;
+use wopi_program::{Outside, run, serve_ask};
 use wopi_text::{Bytes, Memory};
 
 pub type Links = MemListener<Pair<MemSource, MemSink>>;

@@ -31,9 +31,9 @@ const DEAD: &str =
 const FORMER: &str =
     "c1.0.ann.w.1.253402300000000.253402300799999.acd0e87bbbf99ac0d600971530e3a72bca76245168a9204571631e6c4070467c";
 
-/// The token for `a.csv` that a list which is made at the moment 3 carries.
+/// The token for `a.csv` that a list that is made at the moment 2 carries.
 const CHILD: &str =
-    "v2.0.ann.612e637376.w.1.3.253402300799999.a67d84a95050d2a17fae5b8c5ed522b4fba378d4c7b6ea86d0aba9ee438d3490";
+    "v2.0.ann.612e637376.w.1.2.253402300799999.52a2979c1f924ede07141f1f03b84515804dc562790a0a799ec90b0c0d3477c1";
 
 const ROOT: &str = "/wopi/containers/root";
 
@@ -133,11 +133,7 @@ fn a_save_is_seen_in_the_list_behind_it(rt: HostRuntime) -> Result<(), Fail> {
     let alloc = rt.alloc();
     let put = "X-WOPI-Override: PUT\r\nX-WOPI-Lock: L1\r\n";
     let mut input = lock_request(alloc, "L1")?;
-    input.extend_from_slice(&request_by(
-        alloc,
-        TOKEN,
-        &["POST", "/contents", put, "1,9\n"],
-    )?)?;
+    input.extend_from_slice(&request_by(alloc, TOKEN, &["POST", "/contents", put, "1,9\n"])?)?;
     input.extend_from_slice(&asking(alloc, "GET", CHILDREN, LIVE)?)?;
     let left = once(&rt, alloc, &input)?;
     let wanted = listed(alloc)?;

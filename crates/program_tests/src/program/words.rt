@@ -1,8 +1,8 @@
 //! Which words are a command's.
 use super::serve::ONE_WORKER;
 use super::{TOKEN, run_with, whole, words_of};
-use wopi_program::{ServeAsk, serve_ask};
 use std::test::Fail;
+use wopi_program::{ServeAsk, serve_ask};
 
 /// Words that are no command.
 const NO_COMMANDS: [&[&str]; 40] = [
