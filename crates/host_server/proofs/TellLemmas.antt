@@ -11,7 +11,9 @@ use Rattle.wopi_headers.specs.declared.answer.Answer.{Answer}
 use Rattle.wopi_headers.specs.declared.ask.Ask.{Ask}
 use Rattle.wopi_headers.specs.declared.ask.Op.TheVariants as op
 use Rattle.wopi_headers.specs.declared.ask.Target.{Target}
-use Rattle.wopi_headers.specs.Operations.{AsksFor, IsAnswerIn, IsRefusal}
+use Rattle.wopi_headers.specs.declared.container.ContainerAsk.{ContainerAsk}
+use Rattle.wopi_headers.specs.Containers.{AsksContainer, IsAtContainers, IsPlaceIn, IsPlaceRefusal}
+use Rattle.wopi_headers.specs.Operations.{AsksFor}
 use Rattle.access_tokens.specs.TokenText.{IsSigned}
 use Rattle.wopi_acts.specs.Acts.{act_of}
 use Rattle.wopi_acts.specs.Answers.{status_only, ruling_told}
@@ -20,7 +22,7 @@ use Rattle.host_server.specs.declared.desk.Desk.{Desk}
 use Rattle.host_server.specs.declared.calling.Called.TheVariants.{Ruled as RuledCall, Full}
 use Rattle.host_server.specs.Deeds.{Deed, Made, Blocked, Does}
 use Rattle.host_server.specs.Answering as answering
-use Rattle.host_server.specs.Answering.{call_of, copying_of, Ruled, Answered}
+use Rattle.host_server.specs.Answering.{call_of, copying_of, Ruled, Contained, Answered}
 use Rattle.host_server.specs.Telling.{journal_full, is_info, info_told, told_of, told}
 use Rattle.host_server.specs.Copies.{Copied}
 use Rattle.host_server.specs.Calls as calls
@@ -101,17 +103,25 @@ module _ (desk : Desk) (q : Request) (moment : ℕ) (always : Sight → Type 0) 
   asked_answers ask asks old new (Ok a) (deeds, does, is) = (deeds, does, answering.asked ask asks is)
   asked_answers ask asks old new (Err fault) (deeds, does, begun) = (deeds, does, begun_asked ask asks deeds begun)
 
-  -- by the ask that stands in its place
-  pub kept_answers : (place : Option Ask) (done : Unit {0}) → IsAnswerIn q (Ok done) place → (old new : Sight) (r : Result Answer Memory)
-      → IfSome place (λ ask. Tells (Ruled desk ask q.body moment) always old new r) → Answers desk q moment always old new r
-  kept_answers None done asks old new r told = absurd asks
-  kept_answers (Some ask) done asks old new r told = asked_answers ask asks old new r told
+  begun_contained : (ask : ContainerAsk) → IsAtContainers q → AsksContainer q ask → (deeds : List Deed) → IsBegun (Contained desk ask moment) deeds → IsBegun (Answered desk q moment) deeds
+  begun_contained ask at asks deeds begun = begun_wider (Contained desk ask moment) (Answered desk q moment) (λ ds a is. answering.contained ask at asks is) deeds begun
 
-  pub refused_answers : (s : ℕ) (sight : Sight) (a : Answer) → IsRefusal q s → a ≡ status_only s
+  pub contained_answers : (ask : ContainerAsk) → IsAtContainers q → AsksContainer q ask → (old new : Sight) (r : Result Answer Memory) → Tells (Contained desk ask moment) always old new r
+      → Answers desk q moment always old new r
+  contained_answers ask at asks old new (Ok a) (deeds, does, is) = (deeds, does, answering.contained ask at asks is)
+  contained_answers ask at asks old new (Err fault) (deeds, does, begun) = (deeds, does, begun_contained ask at asks deeds begun)
+
+  -- by the ask that stands in its place
+  pub kept_answers : (place : Option Ask) → IsPlaceIn q (Ok None) place → (old new : Sight) (r : Result Answer Memory)
+      → IfSome place (λ ask. Tells (Ruled desk ask q.body moment) always old new r) → Answers desk q moment always old new r
+  kept_answers None asks old new r told = absurd asks
+  kept_answers (Some ask) asks old new r told = asked_answers ask asks.1 old new r told
+
+  pub refused_answers : (s : ℕ) (sight : Sight) (a : Answer) → IsPlaceRefusal q s → a ≡ status_only s
       → (deeds : List Deed) × Does always sight sight deeds × Answered desk q moment deeds a
   refused_answers s sight a is said = ([], Does-nil always sight, answering.refused s is refl said)
 
 -- what was asked stands in its place
-pub is_kept : (q : Request) (place : Option Ask) (done : Unit {0}) → IsAnswerIn q (Ok done) place → IsSome place
-is_kept q None done asks = absurd asks
-is_kept q (Some ask) done asks = search
+pub is_kept : (q : Request) (place : Option Ask) → IsPlaceIn q (Ok None) place → IsSome place
+is_kept q None asks = absurd asks
+is_kept q (Some ask) asks = search

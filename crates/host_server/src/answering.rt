@@ -1,10 +1,10 @@
-//! Requests answered by calls on files.
+//! Requests answered by calls on files, and by listings of them.
 ghost use Rattle.std.specs.Prelude.{◌≡◌, IfSome, IsSome, Some, true, false};
 ghost use Rattle.wopi_model.specs.Moment.{IsMoment};
 ghost use Rattle.access_tokens.specs.Remembering.{Remembers};
 ghost use Rattle.access_tokens.specs.TokenText.{IsWritable};
 ghost use Rattle.wopi_acts.specs.Acts.{act_of};
-ghost use Rattle.host_server.specs.Answering.{Ruled};
+ghost use Rattle.host_server.specs.Answering.{Ruled, Contained};
 ghost use Rattle.host_server.specs.Asking.{asks_info, is_copy, TellsAct, TellsCopy};
 ghost use Rattle.host_server.specs.Calls.{Tells};
 ghost use Rattle.host_server.specs.Turns.{Answers};
@@ -15,10 +15,11 @@ use crate::desk::Desk;
 use crate::kept::Kept;
 use crate::telling::{info_told, journal_full, ruling_told, status_only};
 use access_tokens::{RecentTokens, Token};
-use host_core::{Act, Call, CallFault, Caller};
+use containers::container_answer;
+use host_core::{Act, Call, CallFault, Caller, Lister};
 use std::alloc::Global;
 use std::mem;
-use wopi_headers::{Answer, Ask, AskFault, Op, Target, ask_into};
+use wopi_headers::{Answer, Ask, AskFault, ContainerAsk, Op, Target, place_into};
 use wopi_http::Request;
 use wopi_text::{Bytes, LockId, Memory};
 
@@ -207,9 +208,33 @@ fn answer_kept<C: Caller>(
     answer_ask(alloc, caller, desk, &mut kept.recent, ask, body, moment)
 }
 
+/// Answers what was asked of the container: its token is read under the desk's keys, and its files are listed.
+fn answer_container<C: Lister>(
+    alloc: Global,
+    caller: &mut C,
+    desk: &Desk,
+    ask: &ContainerAsk,
+    moment: u64,
+) -> Result<Answer, Memory>
+    requires { IsMoment moment }
+    ensures tells { Tells (Contained desk.now ask.now moment) C.always (C.sight caller.old) (C.sight caller.new) result }
+    ensures basis { C.basis caller.new ≡ C.basis caller.old }
+    ensures references { C.references caller.new ≡ C.references caller.old }
+{
+    container_answer(
+        alloc,
+        caller,
+        &desk.keys,
+        &desk.base,
+        desk.opened,
+        ask,
+        moment,
+    )
+}
+
 /// Answers a request as [`answer`] does. A token with a text that is remembered isn't read anew, and what is
 /// asked stands where the last one stood.
-pub(crate) fn answer_again<C: Caller>(
+pub(crate) fn answer_again<C: Lister>(
     alloc: Global,
     caller: &mut C,
     desk: &Desk,
@@ -224,16 +249,17 @@ pub(crate) fn answer_again<C: Caller>(
     ensures references { C.references caller.new ≡ C.references caller.old }
     ensures remembers { Remembers desk.now.keys kept.new.recent }
 {
-    match ask_into(alloc, &request, &mut kept.ask) {
-        Ok(()) => answer_kept(alloc, caller, desk, kept, request.body, moment),
+    match place_into(alloc, &request, &mut kept.ask) {
+        Ok(None) => answer_kept(alloc, caller, desk, kept, request.body, moment),
+        Ok(Some(ask)) => answer_container(alloc, caller, desk, &ask, moment),
         Err(AskFault::Refused { status }) => Ok(status_only(alloc, status)),
         Err(AskFault::Memory) => Err(Memory),
     }
 }
 
 /// Answers a request: what it asks for is read from its head, its token is read under the desk's keys,
-/// and then the call is made. Contents go from the request into the call without a copy.
-pub fn answer<C: Caller>(
+/// and then the call is made, or the shards are listed. Contents go from the request into the call without a copy.
+pub fn answer<C: Lister>(
     alloc: Global,
     caller: &mut C,
     desk: &Desk,

@@ -12,7 +12,7 @@ use crate::answering::answer_again;
 use crate::desk::Desk;
 use crate::kept::Kept;
 use crate::sending::{send, send_bare};
-use host_core::Caller;
+use host_core::Lister;
 use outside::{Clock, Failed, Link};
 use std::alloc::Global;
 use wopi_headers::take_reply;
@@ -49,7 +49,7 @@ fn is_last(count: usize, request: &Request) -> bool
 }
 
 /// The reply to a message, or none where there is no memory for one.
-fn reply_to<C: Caller>(
+fn reply_to<C: Lister>(
     alloc: Global,
     caller: &mut C,
     desk: &Desk,
@@ -76,7 +76,7 @@ fn reply_to<C: Caller>(
 }
 
 /// Answers a message.
-fn answer_message<C: Caller, L: Link, K: Clock>(
+fn answer_message<C: Lister, L: Link, K: Clock>(
     alloc: Global,
     caller: &mut C,
     desk: &Desk,
@@ -104,7 +104,7 @@ fn answer_message<C: Caller, L: Link, K: Clock>(
 }
 
 /// Reads a message behind so many others, and answers it.
-fn serve_one<C: Caller, L: Link, K: Clock>(
+fn serve_one<C: Lister, L: Link, K: Clock>(
     alloc: Global,
     caller: &mut C,
     desk: &Desk,
@@ -160,7 +160,7 @@ fn serve_one<C: Caller, L: Link, K: Clock>(
 
 /// Answers the messages of a link in their order. To save computing its code, a token whose text is
 /// remembered isn't read anew.
-pub fn serve_connection<C: Caller, L: Link, K: Clock>(
+pub fn serve_connection<C: Lister, L: Link, K: Clock>(
     alloc: Global,
     caller: &mut C,
     desk: &Desk,

@@ -1,6 +1,7 @@
 //! The program over fakes in memory: each request and its reply to the byte.
 mod answers;
 mod chunks;
+mod containers;
 mod demos;
 mod edit_faults;
 mod edits;

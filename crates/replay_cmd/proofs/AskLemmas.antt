@@ -1,5 +1,5 @@
 -- A request answered by the calls that it makes.
-use Rattle.std.proofs.Common.{◌≡◌, ℕ, List, [], ◌∷◌, ◌++◌, map, Ok, refl, sym, ap, ◌∙◌, subst}
+use Rattle.std.proofs.Common.{◌≡◌, ℕ, List, [], ◌∷◌, ◌++◌, map, Ok, refl, sym, ap, ◌∙◌, subst, inl, inr}
 use Rattle.std.specs.List.{AllByRecursion}
 use Rattle.std.proofs.lemmas.List.{map-append, append_cancel_left}
 use Rattle.wopi_model.specs.Shard.{Entry, Legal, entries}
@@ -11,8 +11,9 @@ use Rattle.host_core.specs.Single.{sight_of, SeesItsOwn}
 use Rattle.host_server.specs.declared.desk.Desk.{Desk}
 use Rattle.host_server.specs.Deeds.{Deed, made, Does}
 use Rattle.host_server.specs.Answering.{Ruled, Answered}
-use Rattle.host_server.specs.Answering.Answered.{refused, asked}
+use Rattle.host_server.specs.Answering.Answered.{refused, asked, contained}
 use Rattle.wopi_http.specs.declared.message.Request.{Request}
+use Rattle.wopi_headers.specs.Containers.{IsAtContainers}
 use Rattle.wopi_headers.specs.Operations.{AsksFor, IsRefusal}
 use Rattle.host_server.specs.Calls.{Tells}
 use Rattle.replay_cmd.specs.Hosts.{Grown, HasGrown}
@@ -55,7 +56,10 @@ exchanged {F} desk ask body moment old start new a same tells grown legal fine =
 -- a request that asks for just that is answered by that
 pub asked_ruled : (desk : Desk) (q : Request) (ask : Ask) (body : List ℕ) (moment : ℕ) (deeds : List Deed) (a : Answer)
     → ((r : Request) (one other : Ask) → AsksFor r one → AsksFor r other → one ≡ other) → ((r : Request) (one : Ask) (s : ℕ) → AsksFor r one → IsRefusal r s → ⊥)
+    → ((r : Request) (one : Ask) → AsksFor r one → IsAtContainers r → ⊥)
     → AsksFor q ask → q.body ≡ body → Answered desk q moment deeds a → Ruled desk ask body moment deeds a
-asked_ruled desk q ask body moment deeds a one nothing asks same (refused s r e f) = absurd (nothing q ask s asks r)
-asked_ruled desk q ask body moment deeds a one nothing asks same (asked other o r) =
+asked_ruled desk q ask body moment deeds a one nothing away asks same (refused s (inl at) e f) = absurd (away q ask asks at.0)
+asked_ruled desk q ask body moment deeds a one nothing away asks same (refused s (inr r) e f) = absurd (nothing q ask s asks r.1)
+asked_ruled desk q ask body moment deeds a one nothing away asks same (contained other at o r) = absurd (away q ask asks at)
+asked_ruled desk q ask body moment deeds a one nothing away asks same (asked other o r) =
     subst (λ (b : List ℕ). Ruled desk ask b moment deeds a) same (subst (λ (k : Ask). Ruled desk k q.body moment deeds a) (one q other ask o asks) r)

@@ -18,6 +18,7 @@ use host_server::{Desk, answer};
 use std::alloc::Global;
 use wopi_headers::{
     Answer, Ask, BodyKind, a_refused_request_asks_for_nothing, a_request_asks_for_one_thing,
+    a_request_for_a_file_is_not_for_the_container,
 };
 use wopi_http::Request;
 use wopi_text::{Bytes, LockField, Memory};
@@ -50,6 +51,7 @@ fn answer_request(
 {
     a_request_asks_for_one_thing();
     a_refused_request_asks_for_nothing();
+    a_request_for_a_file_is_not_for_the_container();
     host.begin();
     let answer = answer(alloc, host, desk, request, moment)?;
     let _time = host.now();

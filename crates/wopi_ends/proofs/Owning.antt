@@ -12,6 +12,7 @@ use Rattle.wopi_headers.specs.declared.answer.Answer.{Answer}
 use Rattle.wopi_headers.specs.declared.ask.Ask.{Ask}
 use Rattle.wopi_headers.specs.declared.ask.Op.TheVariants as op
 use Rattle.wopi_headers.specs.declared.ask.Target.{Target}
+use Rattle.wopi_headers.specs.Containers.{IsAtContainers}
 use Rattle.wopi_headers.specs.Operations.{AsksFor, IsRefusal}
 use Rattle.access_tokens.specs.TokenText.{IsSigned}
 use Rattle.wopi_acts.specs.Acts.{act_of}
@@ -20,7 +21,7 @@ use Rattle.save_session.specs.Session.{op_of}
 use Rattle.wopi_client.specs.declared.desktop.Desktop.{Desktop}
 use Rattle.host_server.specs.declared.desk.Desk.{Desk}
 use Rattle.host_server.specs.Deeds.{Deed, Made, Blocked, made}
-use Rattle.host_server.specs.Answering.{Ruled, Answered, unauthorized, ruled, full, copied, refused, asked}
+use Rattle.host_server.specs.Answering.{Ruled, Answered, unauthorized, ruled, full, copied, refused, asked, contained}
 use Rattle.host_server.specs.Answering as host
 use Rattle.host_server.specs.Telling.{is_info, told_of, info_told, told}
 use Rattle.host_server.specs.Turns.{Turn, Said, answer, no_memory, IsSaid}
@@ -128,10 +129,12 @@ module _ (desk : Desk) (desktop : Desktop) (client : Client) (sent : Sent) (at :
   by_ruled contents moment deeds a is (copied token target signed e copies) = absurd (no_copy client.nonce sent target e)
 
   by_answered : (q : Request) (moment : ℕ) (deeds : List Deed) (a : Answer) → AsksFor q own_ask → q.body ≡ body sent →
-      ((other : Ask) → AsksFor q other → other ≡ own_ask) → ((s : ℕ) → IsRefusal q s → ⊥) →
+      ((other : Ask) → AsksFor q other → other ≡ own_ask) → ((s : ℕ) → IsRefusal q s → ⊥) → (IsAtContainers q → ⊥) →
       Answered desk q moment deeds a → Did client sent moment deeds a
-  by_answered q moment deeds a asks is one never (refused s refusal none told_is) = absurd (never s refusal)
-  by_answered q moment deeds a asks is one never (asked other asks_other rules) =
+  by_answered q moment deeds a asks is one never away (refused s (inl at) none told_is) = absurd (away at.0)
+  by_answered q moment deeds a asks is one never away (refused s (inr refusal) none told_is) = absurd (never s refusal.1)
+  by_answered q moment deeds a asks is one never away (contained other at asks_other rules) = absurd (away at)
+  by_answered q moment deeds a asks is one never away (asked other asks_other rules) =
       by_ruled q.body moment deeds a is (subst (λ (x : Ask). Ruled desk x q.body moment deeds a) (one other asks_other) rules)
 
   by_did : (t : Turn) (deeds : List Deed) (a : Answer) → Did client sent t.moment deeds a → t.part ≡ deeds → t.said ≡ answer a → IsOwnTurn client sent t
@@ -160,11 +163,11 @@ module _ (desk : Desk) (desktop : Desktop) (client : Client) (sent : Sent) (at :
   ]
 
   pub own_turn : (t : Turn) → AsksFor t.request own_ask → t.request.body ≡ body sent →
-      ((other : Ask) → AsksFor t.request other → other ≡ own_ask) → ((s : ℕ) → IsRefusal t.request s → ⊥) →
+      ((other : Ask) → AsksFor t.request other → other ≡ own_ask) → ((s : ℕ) → IsRefusal t.request s → ⊥) → (IsAtContainers t.request → ⊥) →
       IsSaid desk t.request t.moment t.part t.said → IsOwnTurn client sent t
-  own_turn t asks is one never said = go t.said refl said
+  own_turn t asks is one never away said = go t.said refl said
     where
       go : (s : Said) → t.said ≡ s → IsSaid desk t.request t.moment t.part s → IsOwnTurn client sent t
-      go (answer a) e h = by_did t t.part a (by_answered t.request t.moment t.part a asks is one never h) refl e
+      go (answer a) e h = by_did t t.part a (by_answered t.request t.moment t.part a asks is one never away h) refl e
       go no_memory e (inl none) = unmade (ap made none) (subst TellsNone (sym e) tt)
-      go no_memory e (inr more) = by_begun t more.0 (t.part ++ more.0) more.1 (by_answered t.request t.moment (t.part ++ more.0) more.1 asks is one never more.2) refl e
+      go no_memory e (inr more) = by_begun t more.0 (t.part ++ more.0) more.1 (by_answered t.request t.moment (t.part ++ more.0) more.1 asks is one never away more.2) refl e

@@ -6,7 +6,7 @@ use Rattle.wopi_model.specs.Shard.{Entry}
 use Rattle.host_server.specs.declared.desk.Desk.{Desk}
 use Rattle.host_server.specs.declared.connection.ConnEnd.{ConnEnd}
 use Rattle.host_server.specs.declared.connection.ConnEnd.TheVariants.{Done, ReadFault, WriteFault, Memory}
-use Rattle.host_server.specs.Deeds.{Deed, Made, Blocked, made}
+use Rattle.host_server.specs.Deeds.{Deed, Made, Blocked, Listed, made}
 use Rattle.host_server.specs.Turns.{Turn, IsTurn, GoOn, bytes_of, parts_of}
 use Rattle.host_server.specs.Connection.{End, closed, empty, refused, wanted, IsEnd, end_part, Next, line, reply, last, IsNext, next_part, Cut, Awaits, IsConnEnd}
 use Rattle.wopi_ends.specs.Sources.{IsOfMessage}
@@ -19,6 +19,7 @@ pub made-append : (xs ys : List Deed) → made (xs ++ ys) ≡ made xs ++ made ys
 made-append [] ys = refl
 made-append (Made entry ∷ xs) ys = ap (λ (l : List Entry). entry ∷ l) (made-append xs ys)
 made-append (Blocked call moment before later ∷ xs) ys = made-append xs ys
+made-append (Listed listings ∷ xs) ys = made-append xs ys
 
 get_new : {T : Type 0} (xs : List T) (x : T) (more : List T) → slice_get (xs ++ x ∷ more) (length xs) ≡ Some x
 get_new [] x more = refl

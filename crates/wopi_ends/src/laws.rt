@@ -40,8 +40,9 @@ ghost use Rattle.wopi_ends.specs.Sources.{IsOfMessage};
 
 use access_tokens::laws::a_text_has_one_reading;
 use wopi_headers::{
-    a_refused_request_asks_for_nothing, a_request_asks_for_one_thing, an_answer_comes_back,
-    what_is_asked_is_read, what_is_replied_is_read,
+    a_refused_request_asks_for_nothing, a_request_asks_for_one_thing,
+    a_request_for_a_file_is_not_for_the_container, an_answer_comes_back, what_is_asked_is_read,
+    what_is_replied_is_read,
 };
 use wopi_http::{bytes_begin_with_one_reply, no_message_begins_another};
 use wopi_world::laws::talks_over_journals_are_safe;
@@ -87,6 +88,7 @@ pub fn own_messages_make_own_entries()
 {
     a_request_asks_for_one_thing();
     a_refused_request_asks_for_nothing();
+    a_request_for_a_file_is_not_for_the_container();
     a_text_has_one_reading();
 }
 

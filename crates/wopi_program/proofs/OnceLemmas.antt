@@ -15,9 +15,11 @@ use Rattle.host_server.specs.Deeds.{made}
 use Rattle.wopi_program.specs.declared.outside_world.Outside.{Outside}
 use Rattle.wopi_program.specs.declared.once.OnceEnd.{OnceEnd}
 use Rattle.wopi_program.specs.declared.once.OnceEnd.TheVariants.{Served, FolderFault, TooLarge, Memory}
+use Rattle.wopi_program.specs.Files.{AreShownIn}
 use Rattle.wopi_program.specs.Meanings.{Meanings}
 use Rattle.wopi_program.specs.Once.{IsFresh, ServesShard, OpensAndServes, OnceRuns, OnceRunsIn, Untouched, Finishes, OnceEnds}
 use Rattle.access_tokens.specs.declared.keys.Keys.{Keys}
+use Rattle.wopi_program.proofs.ListingLemmas.{all_shown}
 
 module _ {S K F N D C L : Type 0} (m : Meanings S K F N D C L) where
   pub shard_serves : (desk : Desk) (end : ConnEnd) (first began ended last : Book F) (folder : F) (clock clock' : C) (old new : Outside S K F N D C)
@@ -58,6 +60,13 @@ module _ {S K F N D C L : Type 0} (m : Meanings S K F N D C L) where
       (subst (λ (n : ℕ). Legal last.opening last.opened n (map Step (made s.serves.deeds))) begins
       (subst (λ (l : List Item). Legal last.opening last.opened last.first l) items (s.lawful.alone calm))))
 
+  -- each listing of a connection over a fresh shard shows it after the entries that were made before
+  shown_alone : (desk : Desk) (end : ConnEnd) (first : Book F) (folder : F) (clock clock' : C) (old new : Outside S K F N D C) → first.made ≡ [] → first.ticked ≡ false
+      → (s : ServesShard m desk end first folder clock clock' old new) → AreShownIn first.opening first.opened first.first [] s.serves.deeds
+  shown_alone desk end first folder clock clock' old new none unticked s =
+      all_shown first.opening first.opened first.first (sight_of s.last) (sight_of first) [] s.serves.deeds
+      (record { opening_is = refl; opened_is = refl; first_is = refl; calm = unticked; own_is = ap (λ (l : List Made). entries (items_of l)) none }) s.serves.makes.met
+
   pub opens_and_serves : (desk : Desk) (keys : Keys) (base : List ℕ) (opened : ℕ) (end : ConnEnd) (folder folder' : F) (clock mid clock' : C) (old new : Outside S K F N D C)
       (first : Book F) → desk.keys ≡ keys → desk.base ≡ base → desk.opened ≡ opened → Gives (m.work.moments clock) (m.work.moments mid) opened
       → first ≡ record {
@@ -87,6 +96,9 @@ module _ {S K F N D C L : Type 0} (m : Meanings S K F N D C L) where
     legal = subst (λ (n : ℕ). Legal first.opening n 1 (map Step (made serves.serves.deeds))) (ap (λ (b : Book F). b.opened) book ∙ sym opened_is)
         (subst (λ (n : ℕ). Legal first.opening first.opened n (map Step (made serves.serves.deeds))) (ap (λ (b : Book F). b.first) book)
         (legal_alone desk end first folder' mid clock' old new (ap (λ (b : Book F). b.made) book) (ap (λ (b : Book F). b.ticked) book) serves));
+    shown = subst (λ (n : ℕ). AreShownIn first.opening n 1 [] serves.serves.deeds) (ap (λ (b : Book F). b.opened) book ∙ sym opened_is)
+        (subst (λ (n : ℕ). AreShownIn first.opening first.opened n [] serves.serves.deeds) (ap (λ (b : Book F). b.first) book)
+        (shown_alone desk end first folder' mid clock' old new (ap (λ (b : Book F). b.made) book) (ap (λ (b : Book F). b.ticked) book) serves));
   }
 
   -- a run speaks of the streams alone, and of the folder and the clock that it was given
@@ -109,6 +121,7 @@ module _ {S K F N D C L : Type 0} (m : Meanings S K F N D C L) where
           opens = served.opens;
           serves = record { last = one.last; serves = one.serves; start = one.start; only = one.only; lawful = one.lawful; folder_is = one.folder_is };
           legal = served.legal;
+          shown = served.shown;
         }
         in
         subst At streams here

@@ -2,8 +2,11 @@ pub mod Words
 pub mod Notes
 pub mod Meanings
 pub mod Telling
+pub mod Files
 pub mod Once
 pub mod Token
+pub mod CtokenWords
+pub mod Ctoken
 pub mod Runs
 pub mod Passes
 pub mod Journal

@@ -18,6 +18,7 @@ use Rattle.host_server.specs.Deeds.{made}
 use Rattle.wopi_program.specs.declared.outside_world.Outside.{Outside}
 use Rattle.wopi_program.specs.declared.once.OnceEnd.{OnceEnd}
 use Rattle.wopi_program.specs.declared.once.OnceEnd.TheVariants.{Served, FolderFault, TooLarge, Memory}
+use Rattle.wopi_program.specs.Files.{AreShownIn}
 use Rattle.wopi_program.specs.Meanings.{Meanings}
 use Rattle.wopi_program.specs.Notes.{Notes, NotesFor}
 use Rattle.wopi_program.specs.Words.{IsOnceRow}
@@ -86,7 +87,7 @@ module _ {S K F N D C L : Type 0} (m : Meanings S K F N D C L) where
     pub folder_is : folder ≡ last.folder
 
   -- The clock's first moment opened the shard, and the connection was served by its later ones. The entries that were made are
-  -- legal by themselves, from the opening: nobody set the shard's time beside them.
+  -- legal by themselves, from the opening: nobody set the shard's time beside them. Each listing shows the shard after those before it.
   pub record OpensAndServes (keys : Keys) (base : List ℕ) (end : ConnEnd) (folder folder' : F) (clock clock' : C) (old new : Outside S K F N D C) : Type 0 where
     pub desk : Desk
     pub mid : C
@@ -97,6 +98,7 @@ module _ {S K F N D C L : Type 0} (m : Meanings S K F N D C L) where
     pub opens : IsFresh folder desk.opened first
     pub serves : ServesShard desk end first folder' mid clock' old new
     pub legal : Legal first.opening desk.opened 1 (map Step (made serves.serves.deeds))
+    pub shown : AreShownIn first.opening desk.opened 1 [] serves.serves.deeds
 
   -- No shard was opened at the moment that the clock gave: the folder holds what it held, and its count hasn't fallen.
   pub record OpensNone (folder folder' : F) (clock clock' : C) : Type 0 where

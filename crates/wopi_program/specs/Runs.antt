@@ -5,6 +5,7 @@ use Rattle.wopi_program.specs.declared.command.Command.TheVariants as command
 use Rattle.wopi_program.specs.declared.outside_world.Outside.{Outside}
 use Rattle.wopi_program.specs.Meanings.{Meanings}
 use Rattle.wopi_program.specs.Telling.{TextEnds, help_text, version_text}
+use Rattle.wopi_program.specs.Ctoken.{CtokenEnds}
 use Rattle.wopi_program.specs.Once.{OnceEnds}
 use Rattle.wopi_program.specs.Edit.{EditEnds}
 use Rattle.wopi_program.specs.Replay.{ReplayEnds}
@@ -21,4 +22,5 @@ RunEnds m words status old new command.Serve = ServeEnds m words status old new
 RunEnds m words status old new command.Edit = EditEnds m words status old new
 RunEnds m words status old new command.Replay = ReplayEnds m words status old new
 RunEnds m words status old new command.Token = TokenEnds m words status old new
+RunEnds m words status old new command.Ctoken = CtokenEnds m words status old new
 RunEnds m words status old new command.Upgrade = UpgradeEnds m status old new

@@ -2,6 +2,7 @@
 ghost use Rattle.std.specs.Prelude.{◌≡◌, ◌↔◌, [], ◌∷◌, map, string_bytes, IsTrue, Some};
 ghost use Rattle.wopi_program.specs.Words.{IsRow};
 
+use crate::ctoken_words::ctoken_words;
 use crate::edit_words::edit_words;
 use crate::once_words::once_words;
 use crate::replay_words::replay_words;
@@ -25,6 +26,8 @@ pub enum Command {
     Replay,
     /// The text of an access token, on the output.
     Token,
+    /// The text of a token of the container, on the output.
+    Ctoken,
     /// The journal of the input, in the second form on the output.
     Upgrade,
 }
@@ -84,6 +87,15 @@ fn is_token(words: &[String]) -> bool
     }
 }
 
+fn is_ctoken(words: &[String]) -> bool
+    ensures { IsTrue result ↔ IsRow (map string_bytes words.now) Command.Ctoken }
+{
+    match ctoken_words(words) {
+        Some(_) => true,
+        None => false,
+    }
+}
+
 /// The command whose row these words are, if they are one.
 pub fn read_words(words: &[String]) -> Option<Command>
     ensures { (command : Command) → (result ≡ Some command) ↔ IsRow (map string_bytes words.now) command }
@@ -102,6 +114,8 @@ pub fn read_words(words: &[String]) -> Option<Command>
         Some(Command::Replay)
     } else if is_token(words) {
         Some(Command::Token)
+    } else if is_ctoken(words) {
+        Some(Command::Ctoken)
     } else if is_word(words, "upgrade") {
         Some(Command::Upgrade)
     } else {

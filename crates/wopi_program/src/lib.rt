@@ -6,11 +6,13 @@
 //! output; `serve` answers those of many connections by workers, and then writes its host's journal
 //! on the output; `edit` runs the script of its input over a sheet at a host; `replay` runs a
 //! schedule of sessions in memory and writes what it shows; `token` writes the text of an access
-//! token; `upgrade` reads a journal from its input and writes it in the second form.
+//! token, and `ctoken` that of a token of the container; `upgrade` reads a journal from its input and writes it in the second form.
 #![tactic(auto)]
 
 mod asking;
 mod command;
+mod ctoken;
+mod ctoken_words;
 mod dispatch;
 mod edit;
 mod edit_words;
@@ -31,6 +33,7 @@ mod upgrade;
 
 pub use asking::{Asked, asked_by};
 pub use command::{Command, read_words};
+pub use ctoken::run_ctoken;
 pub use dispatch::run;
 pub use edit::run_edit;
 pub use notes::note;

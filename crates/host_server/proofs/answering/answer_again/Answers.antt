@@ -1,13 +1,19 @@
-use Rattle.host_server.proofs.TellLemmas.{is_kept, kept_answers, refused_answers}
+use Rattle.host_server.proofs.TellLemmas.{is_kept, kept_answers, contained_answers, refused_answers}
 use Rattle.host_server.proofs.answering.answer_again.Goals as goal
 
-pub returns-in-Ok-clause-answers : goal.returns-in-Ok-clause-answers
-returns-in-Ok-clause-answers g c =
-    kept_answers c.args.desk.now c.args.request c.args.moment g.C.Caller.always _ c.in-Ok.field-0 c.in-Ok.ensures.read (g.C.Caller.sight c.args.caller.now)
+pub returns-in-Ok-None-clause-answers : goal.returns-in-Ok-None-clause-answers
+returns-in-Ok-None-clause-answers g c =
+    kept_answers c.args.desk.now c.args.request c.args.moment g.C.Caller.always _ (rw c.in-Ok-None.field-0-is at c.in-Ok-None.ensures.read) (g.C.Caller.sight c.args.caller.now)
     (g.C.Caller.sight c.answer_kept.new.caller) c.answer_kept.result c.answer_kept.ensures.tells
 
 pub answer_kept-requires-clause-asked : goal.answer_kept-requires-clause-asked
-answer_kept-requires-clause-asked g c = is_kept c.args.request _ c.in-Ok.field-0 c.in-Ok.ensures.read
+answer_kept-requires-clause-asked g c = is_kept c.args.request _ (rw c.in-Ok-None.field-0-is at c.in-Ok-None.ensures.read)
+
+pub returns-in-Ok-Some-clause-answers : goal.returns-in-Ok-Some-clause-answers
+returns-in-Ok-Some-clause-answers g c =
+    let asks = rw c.in-Ok-Some.field-0-is at c.in-Ok-Some.ensures.read in
+    contained_answers c.args.desk.now c.args.request c.args.moment g.C.Caller.always c.in-Ok-Some.ask asks.0 asks.1 (g.C.Caller.sight c.args.caller.now)
+    (g.C.Caller.sight c.answer_container.new.caller) c.answer_container.result c.answer_container.ensures.tells
 
 pub returns-in-Err-Refused-clause-answers : goal.returns-in-Err-Refused-clause-answers
 returns-in-Err-Refused-clause-answers g c =

@@ -19,7 +19,7 @@ returns-clause-asked c =
       answers.0,
       answers.1,
       asked_ruled c.args.desk.now c.args.request ask body c.args.moment answers.0 a c.a_request_asks_for_one_thing.ensures
-          c.a_refused_request_asks_for_nothing.ensures.nothing asks same answers.2,
+          c.a_refused_request_asks_for_nothing.ensures.nothing c.a_request_for_a_file_is_not_for_the_container.ensures asks same answers.2,
     ) in
     exchanged c.args.desk.now ask body c.args.moment c.args.host.now.shard new.start new.shard a
     (c.answer.ensures.basis ∙ c.begin.ensures.start) tells c.now-time.ensures.grown c.now-time.ensures.legal c.now-time.ensures.stored

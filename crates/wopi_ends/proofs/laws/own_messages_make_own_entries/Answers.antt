@@ -10,4 +10,5 @@ returns c desk desktop client sent t at asks contents turn =
     t asks contents
     (λ other asks_other. c.a_request_asks_for_one_thing.ensures t.request other ask asks_other asks)
     (λ s refusal. c.a_refused_request_asks_for_nothing.ensures.nothing t.request ask s asks refusal)
+    (c.a_request_for_a_file_is_not_for_the_container.ensures t.request ask asks)
     turn.said

@@ -1,11 +1,12 @@
 use Rattle.std.proofs.Common.{Some, ap, ◌∙◌}
-use Rattle.wopi_program.specs.declared.command.Command.TheVariants.{Edit, Once, Replay, Serve, Token, Upgrade}
+use Rattle.wopi_program.specs.declared.command.Command.TheVariants.{Ctoken, Edit, Once, Replay, Serve, Token, Upgrade}
 use Rattle.wopi_program.proofs.Rows.{known}
 use Rattle.wopi_program.proofs.OnceLemmas.{OnceEnds-known}
 use Rattle.wopi_program.proofs.EditLemmas.{EditEnds-known}
 use Rattle.wopi_program.proofs.ReplayLemmas.{ReplayEnds-known}
 use Rattle.wopi_program.proofs.EndLemmas.{ServeEnds-known}
 use Rattle.wopi_program.proofs.TokenLemmas.{TokenEnds-known}
+use Rattle.wopi_program.proofs.CtokenLemmas.{CtokenEnds-known}
 use Rattle.wopi_program.proofs.UpgradeLemmas.{UpgradeEnds-known}
 use Rattle.wopi_program.proofs.dispatch.run.Goals as goal
 
@@ -31,6 +32,18 @@ returns-in-Some-Token-clause-usage g c =
 pub returns-in-Some-Token-clause-usage_leaves : goal.returns-in-Some-Token-clause-usage_leaves
 returns-in-Some-Token-clause-usage_leaves g c =
     λ none. absurd (none (Token, (c.read_words.ensures Token).0 (c.in-Some-Token.is ∙ ap Some c.in-Some-Token.field-0-is)))
+
+pub run_ctoken-requires-after_bounds : goal.run_ctoken-requires-after_bounds
+run_ctoken-requires-after_bounds g c κs within = (c.read_words.ensures Ctoken).0 (c.in-Some-Ctoken.is ∙ ap Some c.in-Some-Ctoken.field-0-is)
+
+pub returns-in-Some-Ctoken-clause-usage : goal.returns-in-Some-Ctoken-clause-usage
+returns-in-Some-Ctoken-clause-usage g c =
+    known _ Ctoken ((c.read_words.ensures Ctoken).0 (c.in-Some-Ctoken.is ∙ ap Some c.in-Some-Ctoken.field-0-is)) c.run_ctoken.result
+    (CtokenEnds-known _ _ _ _ _ c.run_ctoken.ensures)
+
+pub returns-in-Some-Ctoken-clause-usage_leaves : goal.returns-in-Some-Ctoken-clause-usage_leaves
+returns-in-Some-Ctoken-clause-usage_leaves g c =
+    λ none. absurd (none (Ctoken, (c.read_words.ensures Ctoken).0 (c.in-Some-Ctoken.is ∙ ap Some c.in-Some-Ctoken.field-0-is)))
 
 pub returns-in-Some-Once-clause-usage : goal.returns-in-Some-Once-clause-usage
 returns-in-Some-Once-clause-usage g c =
