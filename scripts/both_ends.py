@@ -4,15 +4,17 @@
     scripts/both_ends.py [PROGRAM]
 
 Starts PROGRAM (./mokdrai where it is left out) as `serve` over a folder with one sheet, and as `edit` over that sheet,
-with a relay between them. The relay passes each exchange on to the byte and keeps it; it loses the reply to one save,
+with a relay between them. The relay passes each request on to the byte, and each reply with a head that it writes
+anew: with another Content-Type and a field more. It keeps both as they were passed on. It loses the reply to one save,
 and brings one request once more after the lock has gone over to the next id. Beside them others read, and ask for the
 lock with an id of their own. Then the exchanges and the journal are looked at alone:
 
 - each premise of the law (docs/PROVED.md): every entry that presents one of the session's ids came of a request that
   had gone out before; every reply of 200 or 409 that was taken has the status, lock, reason, version and (but for
   CheckFileInfo) body of what the host says of such an entry; and there is an order of both that is true of time;
-- what the law then says: each line `saved` of the script has its accepted entry, and its contents are replaced by
-  nothing but a later save of the session.
+- what the law then says: the lines `saved` of the script are those of the replies that were taken of a Put and are 200,
+  one for each, in their order; each has its accepted entry, with the contents that its Put carried and the version that
+  was told; and these contents are replaced by nothing but a later save of the session.
 
 It writes the exchanges, the entries and what was found, and ends with status 0 where all holds. It is no part of the
 gate.
@@ -194,6 +196,13 @@ def request_of(method, text, behind="", **fields):
     return f"{method} /wopi/files/{ID}{behind}?access_token={text} HTTP/1.1\r\nHost: h\r\n{more}Connection: close\r\n\r\n".encode()
 
 
+def with_another_head(reply):
+    """The reply as a proxy may pass it on: all that a session sees of it is the same."""
+    head, _, body = reply.partition(b"\r\n\r\n")
+    head = re.sub(rb"(?mi)^Content-Type: [^\r]*", b"Content-Type: text/html", head)
+    return head + b"\r\nVia: 1.1 relay\r\n\r\n" + body
+
+
 class Relay:
     """Passes one exchange after another on, and keeps them. What `meanwhile` does comes behind an exchange's reply from
     the host and before that reply is passed on; where it answers False, the reply is lost."""
@@ -216,6 +225,7 @@ class Relay:
                 request = read_request(link)
                 reply = asks(self.to, request)
                 passed = self.meanwhile(request, reply)
+                reply = with_another_head(reply)
                 if passed:
                     link.sendall(reply)
                 ended_at = now()
@@ -361,15 +371,20 @@ def order_of(exchanges, entries, contents):
 # what the law says
 
 
-def check_saves(written, entries, contents):
-    """Each line `saved` has its accepted entry, and what it saved is replaced only by a later save of the session."""
+def check_saves(exchanges, written, entries, contents):
+    """Each line `saved` is that of a reply to a Put, and has its accepted entry with what that Put carried, which is
+    replaced only by a later save of the session."""
     saved = re.findall(r"^saved (v[0-9]+)$", written, re.M)
+    puts = [(parted(exchange.reply)[1].get("x-wopi-itemversion"), exchange.asked[1])
+            for exchange in exchanges if exchange.asked[0].startswith("put ") and exchange.reply and parted(exchange.reply)[0].split(" ")[1] == "200"]
+    must(saved == [version for version, _ in puts], f"the lines tell {saved}, and the replies {[version for version, _ in puts]}")
     accepted = [(int(bytes.fromhex(entry.act.split(" ")[1]).decode().rpartition("-")[2]), place)
                 for place, entry in enumerate(entries) if presents_own(entry) and entry.act.startswith("put ") and entry.status == "200"]
     must([number for number, _ in accepted] == sorted(number for number, _ in accepted), "a save is accepted behind a later one")
-    for version in saved:
+    for version, carried in puts:
         number, place = next(((number, place) for number, place in accepted if entries[place].version == version), (None, None))
         must(place is not None, f"{version} was told as saved and never accepted")
+        must(contents[place + 1] == carried, f"{version} was accepted with other contents than its Put carried")
         for later in range(place + 1, len(entries)):
             if contents[later + 1] != contents[place + 1]:
                 must(any(n > number and p == later for n, p in accepted), f"{version} was replaced by {entries[later]}")
@@ -386,7 +401,7 @@ def main():
         contents = contents_after(entries, opening)
         print("written by edit:", *(f"    {line}" for line in written.splitlines()), sep="\n")
         print("in an order that is true of time:", *order_of(exchanges, entries, contents), sep="\n")
-        saved = check_saves(written, entries, contents)
+        saved = check_saves(exchanges, written, entries, contents)
         print(f"premises hold; {len(saved)} saves were told, each accepted and replaced only by a later one")
         return 0
     except Wrong as wrong:

@@ -30,7 +30,7 @@ use Rattle.save_session.specs.declared.state.Effect.TheVariants.{Sends, Tells, I
 use Rattle.save_session.specs.declared.state.Turn.{Turn}
 use Rattle.save_session.specs.declared.state.Waiting.{Waiting}
 use Rattle.save_session.specs.LockIds.{lock_id}
-use Rattle.save_session.specs.Session.{stepped, op_of, saves, puts, relocks, settles_then, sends, tells, ends, loses, ignores, refused, was_read, continues, continues_with, has_next, names, says_spent, reply_to, answered_while, unanswered_while, is_new, is_free}
+use Rattle.save_session.specs.Session.{stepped, op_of, saves, puts, relocks, settles_then, sends, tells, ends, loses, ignores, refused, was_read, continues, continues_with, has_next, names, says_spent, reply_to, answered_while, unanswered_while, is_new, is_free, body_of}
 use Rattle.wopi_world.specs.Requests.{Client, Sent, operation, body, sent_with, call_of, input_of}
 use Rattle.wopi_world.specs.History.{Item, Ran, Restarted, last_run, names_after, opening_names}
 use Rattle.wopi_world.specs.World as in_world
@@ -263,7 +263,7 @@ module _ (count : ℕ) (world : World) (h : IsWithin count world) where
       let new : Member = record {
         session = session;
         asked = None;
-        told = (world.members s).told ++ record { number = session.number; outcome = told; contents = unwrap_or session.contents [] } ∷ [];
+        told = (world.members s).told ++ record { number = session.number; outcome = told; contents = unwrap_or session.contents []; saved = body_of (world.members s).session } ∷ [];
       } in
       record {
         held = (adds_none count world h.held h.files).0;

@@ -1,7 +1,8 @@
 -- A talk, and a drive, is what a session hears.
-use Rattle.std.proofs.Common.{◌≡◌, ℕ, List, [], ◌∷◌, ◌++◌, map, Option, Some, None, Result, Ok, Err, unwrap_or, refl, sym, ap, subst, ◌∙◌}
+use Rattle.std.proofs.Common.{◌≡◌, ℕ, List, [], ◌∷◌, ◌++◌, Option, Some, None, Result, Ok, Err, unwrap_or, refl, sym, ap, subst, ◌∙◌}
 use Rattle.std.proofs.lemmas.List.{append_assoc, append-nil}
-use Rattle.std.proofs.lemmas.List.Elements.{Contains-push}
+use Rattle.std.proofs.lemmas.List.Elements.{Contains-append_left, Contains-append_right, Contains-push}
+use Rattle.std.specs.List.{AllByRecursion}
 use Rattle.outside.specs.declared.dialer.Exchange.{Exchange}
 use Rattle.save_session.specs.declared.input.Input.{Input}
 use Rattle.save_session.specs.declared.input.Input.TheVariants.{Reply, NoAnswer}
@@ -18,7 +19,7 @@ use Rattle.save_session.proofs.Ignoring.{stepped_leaves}
 use Rattle.wopi_client.specs.declared.desktop.Desktop.{Desktop}
 use Rattle.wopi_client.specs.declared.driving.DriveFault.{DriveFault}
 use Rattle.wopi_client.specs.declared.driving.DriveFault.TheVariants.{BadReply, Memory}
-use Rattle.wopi_client.specs.Asking.{request_bytes, TellsAnswer}
+use Rattle.wopi_client.specs.Asking.{request_bytes, TellsAnswer, IsBadAnswer}
 use Rattle.wopi_client.specs.Talk.{after, Asks, Talk, Drive, tells, ignores, unsent, lost, answered, bad, unread}
 use Rattle.wopi_client.specs.Talk as of_drive
 use Rattle.wopi_world.specs.Requests.{Client, Sent, sent_with, operation, body}
@@ -26,7 +27,7 @@ use Rattle.wopi_world.specs.World.{Told}
 use Rattle.wopi_world.specs.Talks.{Speaker, IsNoReply, does, hears, hears_all}
 use Rattle.wopi_world.proofs.Waiting.{WaitsFor, stepped_waits}
 use Rattle.wopi_ends.specs.Messages.{bytes_of}
-use Rattle.wopi_ends.specs.Hearing.{Spoken, own, exchange_of, exchanges_of, IsAsked, Hears, HasHeard, TellsAtEnd, IsTalkHeard, IsDriveHeard}
+use Rattle.wopi_ends.specs.Hearing.{Spoken, own, aside, exchange_of, exchanges_of, IsAsked, Ending, behind_all, at_bad, at_want, Hears, HasHeard, IsReplyHeard, ending_of, TellsAtEnd, IsTalkHeard, IsDriveHeard}
 use Rattle.wopi_ends.specs.Hearing as hearing
 
 pub operation_is : (contents : Option (List ℕ)) (asked : SessionOp) → operation (sent_with contents asked) ≡ asked
@@ -93,7 +94,7 @@ module _ (desktop : Desktop) (client : Client) where
     told : List Told
     spoken : List Spoken
     heard : List Input
-    goes : Hears desktop client (hears client speaker input) spoken heard
+    goes : Hears desktop client (ending_of result) (hears client speaker input) spoken heard
     exchanges_are : exchanges_of spoken ≡ exchanges
     told_is : (hears_all client (hears client speaker input) heard).told ≡ speaker.told ++ told
     session_is : (hears_all client (hears client speaker input) heard).session ≡ left
@@ -102,8 +103,8 @@ module _ (desktop : Desktop) (client : Client) where
   -- an exchange before the rest of a talk
   goes_on : (speaker : Speaker) (input next : Input) (asked : SessionOp) (exchange : Exchange) (later : List Exchange) (left : State) (result : Result Outcome DriveFault) →
       (turn speaker input).effect ≡ Sends asked →
-      ((spoken : List Spoken) (heard : List Input) → Hears desktop client (hears client (having_sent speaker input asked) next) spoken heard →
-      Hears desktop client (having_sent speaker input asked) (own (sent_by speaker input asked) exchange ∷ spoken) (next ∷ heard)) →
+      ((spoken : List Spoken) (heard : List Input) → Hears desktop client (ending_of result) (hears client (having_sent speaker input asked) next) spoken heard →
+      Hears desktop client (ending_of result) (having_sent speaker input asked) (own (sent_by speaker input asked) exchange ∷ spoken) (next ∷ heard)) →
       Follows (having_sent speaker input asked) next later left result → Follows speaker input (exchange ∷ later) left result
   goes_on speaker input next asked exchange later left result sends step f =
       let is = hears-sends speaker input asked sends in
@@ -112,7 +113,7 @@ module _ (desktop : Desktop) (client : Client) where
         told = f.told;
         spoken = own sent exchange ∷ f.spoken;
         heard = next ∷ f.heard;
-        goes = subst (λ (s : Speaker). Hears desktop client s (own sent exchange ∷ f.spoken) (next ∷ f.heard)) (sym is) (step f.spoken f.heard f.goes);
+        goes = subst (λ (s : Speaker). Hears desktop client (ending_of result) s (own sent exchange ∷ f.spoken) (next ∷ f.heard)) (sym is) (step f.spoken f.heard f.goes);
         exchanges_are = ap (λ (l : List Exchange). exchange ∷ l) f.exchanges_are;
         told_is = ap (λ (s : Speaker). (hears_all client s (next ∷ f.heard)).told) is ∙ f.told_is;
         session_is = ap (λ (s : Speaker). (hears_all client s (next ∷ f.heard)).session) is ∙ f.session_is;
@@ -121,29 +122,42 @@ module _ (desktop : Desktop) (client : Client) where
 
   -- a talk that ends with a request of which nothing is heard
   stops : (speaker : Speaker) (input : Input) (asked : SessionOp) (spoken : List Spoken) (exchanges : List Exchange) (why : DriveFault) → (turn speaker input).effect ≡ Sends asked →
-      Hears desktop client (having_sent speaker input asked) spoken [] → exchanges_of spoken ≡ exchanges → Follows speaker input exchanges (after client.nonce speaker.session input) (Err why)
+      Hears desktop client (ending_of (Err why)) (having_sent speaker input asked) spoken [] → exchanges_of spoken ≡ exchanges → Follows speaker input exchanges (after client.nonce speaker.session input) (Err why)
   stops speaker input asked spoken exchanges why sends goes are =
       let is = hears-sends speaker input asked sends in
       record {
         told = [];
         spoken = spoken;
         heard = [];
-        goes = subst (λ (s : Speaker). Hears desktop client s spoken []) (sym is) goes;
+        goes = subst (λ (s : Speaker). Hears desktop client (ending_of (Err why)) s spoken []) (sym is) goes;
         exchanges_are = are;
         told_is = ap (λ (s : Speaker). s.told) is ∙ sym (append-nil speaker.told);
         session_is = ap (λ (s : Speaker). s.session) is;
         at_end = refl;
       }
 
-  -- the same where an exchange was made
-  stops_behind : (speaker : Speaker) (input : Input) (asked : SessionOp) (bytes reply : List ℕ) (why : DriveFault) → Asks desktop client.nonce speaker.session input asked bytes →
-      Follows speaker input (record { request = bytes; reply = Some reply } ∷ []) (after client.nonce speaker.session input) (Err why)
-  stops_behind speaker input asked bytes reply why asks =
+  -- the same where the last reply tells no answer
+  stops_at_bad : (speaker : Speaker) (input : Input) (asked : SessionOp) (bytes reply : List ℕ) (at : ℕ) → Asks desktop client.nonce speaker.session input asked bytes →
+      IsBadAnswer (op_of client.nonce asked) reply at →
+      Follows speaker input (record { request = bytes; reply = Some reply } ∷ []) (after client.nonce speaker.session input) (Err (BadReply at))
+  stops_at_bad speaker input asked bytes reply at asks says =
       let exchange : Exchange = record { request = bytes; reply = Some reply } in
       let mid = having_sent speaker input asked in
       let sent = sent_by speaker input asked in
-      stops speaker input asked (own sent exchange ∷ []) (exchange ∷ []) why asks.sends
-      (hearing.unheard mid sent exchange [] [] (asked_by speaker input asked exchange asks) (hearing.over mid)) refl
+      let is_bad : IsBadAnswer (op_of client.nonce (operation sent)) reply at =
+      subst (λ (o : SessionOp). IsBadAnswer (op_of client.nonce o) reply at) (sym (operation_is (turn speaker input).session.body asked)) says in
+      stops speaker input asked (own sent exchange ∷ []) (exchange ∷ []) (BadReply at) asks.sends
+      (hearing.bad mid sent exchange reply at (asked_by speaker input asked exchange asks) refl is_bad) refl
+
+  -- and where memory for its answer was wanting
+  stops_unread : (speaker : Speaker) (input : Input) (asked : SessionOp) (bytes reply : List ℕ) → Asks desktop client.nonce speaker.session input asked bytes →
+      Follows speaker input (record { request = bytes; reply = Some reply } ∷ []) (after client.nonce speaker.session input) (Err Memory)
+  stops_unread speaker input asked bytes reply asks =
+      let exchange : Exchange = record { request = bytes; reply = Some reply } in
+      let mid = having_sent speaker input asked in
+      let sent = sent_by speaker input asked in
+      stops speaker input asked (own sent exchange ∷ []) (exchange ∷ []) Memory asks.sends
+      (hearing.unread mid sent exchange reply (asked_by speaker input asked exchange asks) refl) refl
 
   tells_answer : (speaker : Speaker) (input : Input) (asked : SessionOp) (reply : List ℕ) (answer : _) → TellsAnswer (op_of client.nonce asked) reply answer →
       TellsAnswer (op_of client.nonce (operation (sent_by speaker input asked))) reply answer
@@ -155,7 +169,7 @@ module _ (desktop : Desktop) (client : Client) where
   follows speaker session same input [] left result (tells _ _ outcome e) =
       let effect : (turn speaker input).effect ≡ Tells outcome = ap (λ (s : State). (stepped client.nonce s input).effect) same ∙ e in
       let is : hears client speaker input ≡ does speaker (turn speaker input).session (Tells outcome) = ap (λ (f : Effect). does speaker (turn speaker input).session f) effect in
-      let one : Told = record { number = (turn speaker input).session.number; outcome = outcome; contents = (unwrap_or (turn speaker input).session.contents []) } in
+      let one : Told = record { number = (turn speaker input).session.number; outcome = outcome; contents = (unwrap_or (turn speaker input).session.contents []); saved = body_of speaker.session } in
       record {
         told = one ∷ [];
         spoken = [];
@@ -182,27 +196,27 @@ module _ (desktop : Desktop) (client : Client) where
   follows speaker session same input [] left result (unsent _ _ asked e) =
       let effect : (turn speaker input).effect ≡ Sends asked = ap (λ (s : State). (stepped client.nonce s input).effect) same ∙ e in
       subst (λ (s : State). Follows speaker input [] (after client.nonce s input) result) same
-      (stops speaker input asked [] [] Memory effect (hearing.over (having_sent speaker input asked)) refl)
+      (stops speaker input asked [] [] Memory effect (hearing.unsent (having_sent speaker input asked)) refl)
   follows speaker session same input (exchange ∷ later) left result (lost _ _ asked bytes _ _ _ asks more) =
       let one : Exchange = record { request = bytes; reply = None } in
       let own_asks = subst (λ (s : State). Asks desktop client.nonce s input asked bytes) (sym same) asks in
       let mid = having_sent speaker input asked in
       goes_on speaker input NoAnswer asked one later left result own_asks.sends
-      (λ spoken heard h. hearing.lost mid (sent_by speaker input asked) one spoken heard (asked_by speaker input asked one own_asks) refl h)
+      (λ spoken heard h. hearing.lost (ending_of result) mid (sent_by speaker input asked) one spoken heard (asked_by speaker input asked one own_asks) refl h)
       (follows mid (after client.nonce session input) (ap (λ (s : State). (stepped client.nonce s input).session) same) NoAnswer later left result more)
   follows speaker session same input (exchange ∷ later) left result (answered _ _ asked bytes reply answer _ _ _ asks says more) =
       let one : Exchange = record { request = bytes; reply = Some reply } in
       let own_asks = subst (λ (s : State). Asks desktop client.nonce s input asked bytes) (sym same) asks in
       let mid = having_sent speaker input asked in
       goes_on speaker input (Reply answer) asked one later left result own_asks.sends
-      (λ spoken heard h. hearing.answered mid (sent_by speaker input asked) one reply answer spoken heard (asked_by speaker input asked one own_asks) refl (tells_answer speaker input asked reply answer says) h)
+      (λ spoken heard h. hearing.answered (ending_of result) mid (sent_by speaker input asked) one reply answer spoken heard (asked_by speaker input asked one own_asks) refl (tells_answer speaker input asked reply answer says) h)
       (follows mid (after client.nonce session input) (ap (λ (s : State). (stepped client.nonce s input).session) same) (Reply answer) later left result more)
   follows speaker session same input exchanges left result (bad _ _ asked bytes reply at asks says) =
       subst (λ (s : State). Follows speaker input exchanges (after client.nonce s input) result) same
-      (stops_behind speaker input asked bytes reply (BadReply at) (subst (λ (s : State). Asks desktop client.nonce s input asked bytes) (sym same) asks))
+      (stops_at_bad speaker input asked bytes reply at (subst (λ (s : State). Asks desktop client.nonce s input asked bytes) (sym same) asks) says)
   follows speaker session same input exchanges left result (unread _ _ asked bytes reply asks) =
       subst (λ (s : State). Follows speaker input exchanges (after client.nonce s input) result) same
-      (stops_behind speaker input asked bytes reply Memory (subst (λ (s : State). Asks desktop client.nonce s input asked bytes) (sym same) asks))
+      (stops_unread speaker input asked bytes reply (subst (λ (s : State). Asks desktop client.nonce s input asked bytes) (sym same) asks))
 
 pub talk_heard : (desktop : Desktop) (client : Client) (speaker : Speaker) (input : Input) (exchanges : List Exchange) (left : State) (result : Result Outcome DriveFault) → IsNoReply input →
     Talk desktop client.nonce speaker.session input exchanges left result → IsTalkHeard desktop client speaker exchanges left result
@@ -213,7 +227,7 @@ talk_heard desktop client speaker input exchanges left result none talk =
       has = record {
         spoken = f.spoken;
         heard = input ∷ f.heard;
-        heard_is = hearing.prompted speaker input f.spoken f.heard none f.goes;
+        heard_is = hearing.prompted (ending_of result) speaker input f.spoken f.heard none f.goes;
         exchanges_are = f.exchanges_are;
         told_is = f.told_is;
       };
@@ -232,31 +246,70 @@ exchanges-append [] second = refl
 exchanges-append (one ∷ first) second = ap (λ (l : List Exchange). exchange_of one ∷ l) (exchanges-append first second)
 
 module _ (desktop : Desktop) (client : Client) where
-  pub hear-append : (speaker : Speaker) (first second : List Spoken) (heard more : List Input) → Hears desktop client speaker first heard → Hears desktop client (hears_all client speaker heard) second more →
-      Hears desktop client speaker (first ++ second) (heard ++ more)
-  hear-append speaker [] second [] more (hearing.over _) h = h
-  hear-append speaker first second (input ∷ heard) more (hearing.prompted _ _ _ _ none rest) h =
-      hearing.prompted speaker input (first ++ second) (heard ++ more) none (hear-append (hears client speaker input) first second heard more rest h)
-  hear-append speaker (one ∷ first) second (input ∷ heard) more (hearing.answered _ sent exchange reply answer _ _ asked is says rest) h =
-      hearing.answered speaker sent exchange reply answer (first ++ second) (heard ++ more) asked is says (hear-append (hears client speaker (Reply answer)) first second heard more rest h)
-  hear-append speaker (one ∷ first) second (input ∷ heard) more (hearing.lost _ sent exchange _ _ asked is rest) h =
-      hearing.lost speaker sent exchange (first ++ second) (heard ++ more) asked is (hear-append (hears client speaker NoAnswer) first second heard more rest h)
-  hear-append speaker (one ∷ first) second heard more (hearing.unheard _ sent exchange _ _ asked rest) h =
-      hearing.unheard speaker sent exchange (first ++ second) (heard ++ more) asked (hear-append speaker first second heard more rest h)
-  hear-append speaker (one ∷ first) second heard more (hearing.copied _ name text exchange _ _ is rest) h =
-      hearing.copied speaker name text exchange (first ++ second) (heard ++ more) is (hear-append speaker first second heard more rest h)
+  pub hear-append : (ending : Ending) (speaker : Speaker) (first second : List Spoken) (heard more : List Input) → Hears desktop client behind_all speaker first heard →
+      Hears desktop client ending (hears_all client speaker heard) second more → Hears desktop client ending speaker (first ++ second) (heard ++ more)
+  hear-append ending speaker [] second [] more (hearing.over _) h = h
+  hear-append ending speaker first second (input ∷ heard) more (hearing.prompted _ _ _ _ _ none rest) h =
+      hearing.prompted ending speaker input (first ++ second) (heard ++ more) none (hear-append ending (hears client speaker input) first second heard more rest h)
+  hear-append ending speaker (one ∷ first) second (input ∷ heard) more (hearing.answered _ _ sent exchange reply answer _ _ asked is says rest) h =
+      hearing.answered ending speaker sent exchange reply answer (first ++ second) (heard ++ more) asked is says
+      (hear-append ending (hears client speaker (Reply answer)) first second heard more rest h)
+  hear-append ending speaker (one ∷ first) second (input ∷ heard) more (hearing.lost _ _ sent exchange _ _ asked is rest) h =
+      hearing.lost ending speaker sent exchange (first ++ second) (heard ++ more) asked is (hear-append ending (hears client speaker NoAnswer) first second heard more rest h)
+  hear-append ending speaker (one ∷ first) second heard more (hearing.copied _ _ name text exchange _ _ is rest) h =
+      hearing.copied ending speaker name text exchange (first ++ second) (heard ++ more) is (hear-append ending speaker first second heard more rest h)
 
-  abbrev pub joined : (speaker : Speaker) (first second : List Exchange) (told more : List Told) (h : HasHeard desktop client speaker first told) →
-      HasHeard desktop client (hears_all client speaker h.heard) second more → HasHeard desktop client speaker (first ++ second) (told ++ more)
-  joined speaker first second told more h g =
+  abbrev pub joined : (ending : Ending) (speaker : Speaker) (first second : List Exchange) (told more : List Told) (h : HasHeard desktop client behind_all speaker first told) →
+      HasHeard desktop client ending (hears_all client speaker h.heard) second more → HasHeard desktop client ending speaker (first ++ second) (told ++ more)
+  joined ending speaker first second told more h g =
       record {
         spoken = h.spoken ++ g.spoken;
         heard = h.heard ++ g.heard;
-        heard_is = hear-append speaker h.spoken g.spoken h.heard g.heard h.heard_is g.heard_is;
+        heard_is = hear-append ending speaker h.spoken g.spoken h.heard g.heard h.heard_is g.heard_is;
         exchanges_are = exchanges-append h.spoken g.spoken ∙ ap (λ (l : List Exchange). l ++ exchanges_of g.spoken) h.exchanges_are ∙ ap (λ (l : List Exchange). first ++ l) g.exchanges_are;
         told_is = ap (λ (s : Speaker). s.told) (hears-append client speaker h.heard g.heard) ∙ g.told_is
             ∙ ap (λ (l : List Told). l ++ more) h.told_is ∙ append_assoc speaker.told told more;
       }
+
+  -- a hearing that ends behind all
+  abbrev pub to_the_end : (ending : Ending) (speaker : Speaker) (exchanges : List Exchange) (told : List Told) → HasHeard desktop client ending speaker exchanges told →
+      ending ≡ behind_all → HasHeard desktop client behind_all speaker exchanges told
+  to_the_end ending speaker exchanges told h is =
+      record {
+        spoken = h.spoken;
+        heard = h.heard;
+        heard_is = subst (λ (e : Ending). Hears desktop client e speaker h.spoken h.heard) is h.heard_is;
+        exchanges_are = h.exchanges_are;
+        told_is = h.told_is;
+      }
+
+  -- what is heard of the rest is heard of all
+  later_heard : (input : Input) (heard : List Input) (spoken : List Spoken) → AllByRecursion (IsReplyHeard client heard) spoken → AllByRecursion (IsReplyHeard client (input ∷ heard)) spoken
+  later_heard input heard [] h = tt
+  later_heard input heard (own sent exchange ∷ spoken) h =
+      ((λ reply is. let k = h.0 reply is in (k.0, Contains-append_right (input ∷ []) heard (Reply k.0) k.1, k.2)), later_heard input heard spoken h.1)
+  later_heard input heard (aside exchange ∷ spoken) h = (tt, later_heard input heard spoken h.1)
+
+  -- no reply is passed over
+  pub all_heard : (speaker : Speaker) (spoken : List Spoken) (heard : List Input) → Hears desktop client behind_all speaker spoken heard →
+      AllByRecursion (IsReplyHeard client heard) spoken
+  all_heard speaker [] [] (hearing.over _) = tt
+  all_heard speaker spoken (input ∷ heard) (hearing.prompted _ _ _ _ _ none rest) = later_heard input heard spoken (all_heard (hears client speaker input) spoken heard rest)
+  all_heard speaker (one ∷ spoken) (input ∷ heard) (hearing.answered _ _ sent exchange reply answer _ _ asked is says rest) = (
+    (λ other other_is.
+        let both : Some reply ≡ Some other = sym is ∙ other_is in
+        let same : reply ≡ other = cc in (
+          answer,
+          Contains-append_left (Reply answer ∷ []) heard (Reply answer) (Contains-push [] (Reply answer)),
+          subst (λ (b : List ℕ). TellsAnswer (op_of client.nonce (operation sent)) b answer) same says,
+        )),
+    later_heard (Reply answer) heard spoken (all_heard (hears client speaker (Reply answer)) spoken heard rest),
+  )
+  all_heard speaker (one ∷ spoken) (input ∷ heard) (hearing.lost _ _ sent exchange _ _ asked is rest) = (
+    (λ other other_is. let bad : None ≡ Some other = sym is ∙ other_is in cc),
+    later_heard NoAnswer heard spoken (all_heard (hears client speaker NoAnswer) spoken heard rest),
+  )
+  all_heard speaker (one ∷ spoken) heard (hearing.copied _ _ name text exchange _ _ is rest) = (tt, all_heard speaker spoken heard rest)
 
   at_end_err : (result : Result Outcome DriveFault) (why : DriveFault) (told : List Told) → result ≡ Err why → TellsAtEnd (Err why) told → TellsAtEnd result told
   at_end_err result why told is h = subst (λ (r : Result Outcome DriveFault). TellsAtEnd r told) (sym is) h
@@ -274,10 +327,22 @@ module _ (desktop : Desktop) (client : Client) where
       record {
         before = h.told;
         last = g.told;
-        has = joined speaker first second h.told g.told h.has g.has;
+        has = joined (ending_of result) speaker first second h.told g.told h.has g.has;
         session_is = ap (λ (s : Speaker). s.session) (hears-append client speaker h.has.heard g.has.heard) ∙ g.session_is;
         at_end = g.at_end;
       }
   drive_heard speaker input left result exchanges none (of_drive.unsettled waiting _ why waits is talk) =
       let h = talk_heard desktop client speaker NoAnswer exchanges left (Err why) tt talk in
-      record { before = []; last = h.told; has = h.has; session_is = h.session_is; at_end = at_end_err result why h.told is h.at_end }
+      record {
+        before = [];
+        last = h.told;
+        has = record {
+          spoken = h.has.spoken;
+          heard = h.has.heard;
+          heard_is = subst (λ (r : Result Outcome DriveFault). Hears desktop client (ending_of r) speaker h.has.spoken h.has.heard) (sym is) h.has.heard_is;
+          exchanges_are = h.has.exchanges_are;
+          told_is = h.has.told_is;
+        };
+        session_is = h.session_is;
+        at_end = at_end_err result why h.told is h.at_end;
+      }

@@ -1,12 +1,11 @@
 -- What passes between a client and a host is a talk of the client's session over the shard's history.
-use Rattle.std.proofs.Common.{◌≡◌, ◌≢◌, ℕ, List, [], ◌∷◌, ◌++◌, Option, None, Some, refl, sym, ap, subst, ◌∙◌, inl, inr, arith}
+use Rattle.std.proofs.Common.{◌≡◌, ◌≢◌, ℕ, List, [], ◌∷◌, ◌++◌, Some, sym, ap, subst, ◌∙◌, inl, inr, arith}
 use Rattle.std.proofs.lemmas.List.Elements.{Contains-append_left, Contains-push, Contains-push_cases}
 use Rattle.std.specs.List.{Contains}
 use Rattle.outside.specs.declared.dialer.Exchange.{Exchange}
 use Rattle.wopi_model.specs.declared.calls.Ruling.{Ruling}
 use Rattle.wopi_model.specs.Shard.{Step, Entry}
 use Rattle.wopi_headers.specs.declared.answer.Answer.{Answer}
-use Rattle.wopi_headers.specs.AnswerReads.{told}
 use Rattle.wopi_acts.specs.Answers.{ruling_told}
 use Rattle.save_session.specs.declared.input.Input.{Input}
 use Rattle.save_session.specs.declared.input.Input.TheVariants.{Reply, NoAnswer}
@@ -15,9 +14,8 @@ use Rattle.save_session.specs.declared.state.SessionOp.TheVariants as op
 use Rattle.save_session.specs.declared.state.State.{State}
 use Rattle.save_session.specs.declared.state.Effect.{Effect}
 use Rattle.save_session.specs.declared.state.Effect.TheVariants.{Sends, Tells, Ignores}
-use Rattle.save_session.specs.Session.{op_of, stepped}
+use Rattle.save_session.specs.Session.{stepped}
 use Rattle.wopi_client.specs.declared.desktop.Desktop.{Desktop}
-use Rattle.wopi_client.specs.Asking.{TellsAnswer}
 use Rattle.host_server.specs.Deeds.{made}
 use Rattle.host_server.specs.Turns.{Turn, Said, answer, no_memory}
 use Rattle.wopi_world.specs.History.{Item, Ran}
@@ -25,7 +23,7 @@ use Rattle.wopi_world.specs.Requests.{Client, Sent, sent_with, operation, call_o
 use Rattle.wopi_world.specs.Talks.{LooksSame, IsSameText, Speaker, first_speaker, does, hears, Awaits, Came, TalksOver, IsTalkOver}
 use Rattle.wopi_world.specs.Talks as talks
 use Rattle.wopi_ends.specs.Messages.{TellsNone, TellsEntry, IsOwnTurn, unmade, makes}
-use Rattle.wopi_ends.specs.Hearing.{Spoken, own, aside, IsAsked, Hears}
+use Rattle.wopi_ends.specs.Hearing.{Spoken, own, aside, IsAsked, Ending, behind_all, at_bad, at_want, Hears}
 use Rattle.wopi_ends.specs.Hearing as hearing
 use Rattle.wopi_ends.specs.Crossing.{IsOwn, IsReadAs, Arrival, ComesOf, told_entry, told_none, IsReplyTo, Crosses, AreExchangedOver}
 use Rattle.wopi_ends.specs.Crossing as crossing
@@ -40,19 +38,20 @@ hears_stays : (client : Client) (speaker : Speaker) (input : Input) (sent : Sent
 hears_stays client speaker input sent h =
     let turn = stepped client.nonce speaker.session input in sent_stays speaker turn.session turn.effect sent h
 
--- what is read looks like what was said
+-- what looks like what was said looks like what that looks like
 
-same_text : (asked : SessionOp) (a other : Answer) → IsSameText asked a other → IsSameText asked (told a) other
-same_text op.Info a other h = tt
-same_text op.TakeLock a other h = h
-same_text op.Get a other h = h
-same_text (op.Put number) a other h = h
-same_text (op.Relock number) a other h = h
-same_text (op.Refresh number) a other h = h
-same_text (op.Unlock number) a other h = h
+same_text : (asked : SessionOp) (got a other : Answer) → IsSameText asked got a → IsSameText asked a other → IsSameText asked got other
+same_text op.Info got a other g h = tt
+same_text op.TakeLock got a other g h = (g.0 ∙ h.0, g.1 ∙ h.1)
+same_text op.Get got a other g h = (g.0 ∙ h.0, g.1 ∙ h.1)
+same_text (op.Put number) got a other g h = (g.0 ∙ h.0, g.1 ∙ h.1)
+same_text (op.Relock number) got a other g h = (g.0 ∙ h.0, g.1 ∙ h.1)
+same_text (op.Refresh number) got a other g h = (g.0 ∙ h.0, g.1 ∙ h.1)
+same_text (op.Unlock number) got a other g h = (g.0 ∙ h.0, g.1 ∙ h.1)
 
-told_looks : (asked : SessionOp) (a other : Answer) → LooksSame asked a other → LooksSame asked (told a) other
-told_looks asked a other h = record { status = h.status; lock = h.lock; reason = h.reason; text = same_text asked a other h.text }
+looks_through : (asked : SessionOp) (got a other : Answer) → LooksSame asked got a → LooksSame asked a other → LooksSame asked got other
+looks_through asked got a other g h =
+    record { status = g.status ∙ h.status; lock = g.lock ∙ h.lock; reason = g.reason ∙ h.reason; text = same_text asked got a other g.text h.text }
 
 fault_ok : (status : ℕ) → status ≡ 503 → status ≢ 200
 fault_ok status is e = omega (arith, is, e)
@@ -65,16 +64,16 @@ data Reads (sent : Sent) (ruling : Ruling) (got : Answer) : Type 0 where
   tells : LooksSame (operation sent) got (ruling_told ruling) → Reads sent ruling got
   fails : got.status ≢ 200 → got.status ≢ 409 → Reads sent ruling got
 
-reads_entry : (sent : Sent) (entry : Entry) (said : Said) (got : Answer) → TellsEntry sent entry said → IsReadAs said got → Reads sent entry.ruling got
+reads_entry : (sent : Sent) (entry : Entry) (said : Said) (got : Answer) → TellsEntry sent entry said → IsReadAs sent said got → Reads sent entry.ruling got
 reads_entry sent entry (answer a) got looks is =
-    tells (subst (λ (x : Answer). LooksSame (operation sent) x (ruling_told entry.ruling)) (sym is) (told_looks (operation sent) a (ruling_told entry.ruling) looks))
+    tells (looks_through (operation sent) got a (ruling_told entry.ruling) is looks)
 reads_entry sent entry no_memory got looks is = fails (fault_ok got.status is) (fault_conflict got.status is)
 
-reads_none : (said : Said) (got : Answer) → TellsNone said → IsReadAs said got → (got.status ≢ 200) × (got.status ≢ 409)
-reads_none (answer a) got none is =
-    let status : got.status ≡ a.status = ap (λ (x : Answer). x.status) is in
+reads_none : (sent : Sent) (said : Said) (got : Answer) → TellsNone said → IsReadAs sent said got → (got.status ≢ 200) × (got.status ≢ 409)
+reads_none sent (answer a) got none is =
+    let status : got.status ≡ a.status = is.status in
     ((λ e. none.0 (sym status ∙ e)), (λ e. none.1 (sym status ∙ e)))
-reads_none no_memory got none is = (fault_ok got.status is, fault_conflict got.status is)
+reads_none sent no_memory got none is = (fault_ok got.status is, fault_conflict got.status is)
 
 -- one entry was made
 one_entry : (one other : Entry) (rest : List Entry) → one ∷ [] ≡ other ∷ rest → one ≡ other
@@ -103,7 +102,7 @@ module _ (desktop : Desktop) (client : Client) (own_turns : (sent : Sent) (t : T
   record IsKnown (came : List Came) (sent : Sent) (t : Turn) : Type 0 where
     ruling : Ruling
     there : Contains came (record { sent = sent; ruling = ruling })
-    reads : (got : Answer) → IsReadAs t.said got → Reads sent ruling got
+    reads : (got : Answer) → IsReadAs sent t.said got → Reads sent ruling got
 
   abbrev AreKnown : List Arrival → List Came → Type 0
   AreKnown arrivals came = (sent : Sent) (t : Turn) → Contains arrivals (record { sent = sent; turn = t }) → IsKnown came sent t
@@ -140,7 +139,7 @@ module _ (desktop : Desktop) (client : Client) (own_turns : (sent : Sent) (t : T
       let k = known sent t there in
       answers speaker came sent awaits k.ruling got heard items k.there (k.reads got reads) more
   hears_reply speaker arrivals came sent awaits got heard items known (told_none t own_t none reads) more =
-      let r = reads_none t.said got (says_none sent t none (own_turns sent t own_t)) reads in
+      let r = reads_none sent t.said got (says_none sent t none (own_turns sent t own_t)) reads in
       talks.refused speaker came got heard items r.0 r.1 more
   hears_reply speaker arrivals came sent awaits got heard items known (crossing.refused ok conflict) more = talks.refused speaker came got heard items ok conflict more
 
@@ -206,36 +205,43 @@ module _ (desktop : Desktop) (client : Client) (own_turns : (sent : Sent) (t : T
   afterwards speaker requests arrivals came (item ∷ items) (crossing.passes _ _ _ _ _ other c) were known =
       talks.passes speaker came item [] items other (afterwards speaker requests arrivals came items c were known)
 
-  joins : (speaker : Speaker) (spoken : List Spoken) (heard : List Input) → Hears desktop client speaker spoken heard → Rest speaker spoken heard (λ arrivals. Unit {0})
-  joins speaker [] [] (hearing.over _) requests arrivals came items all c were known = afterwards speaker requests arrivals came items c were known
-  joins speaker spoken (input ∷ heard) (hearing.prompted _ _ _ _ none h) requests arrivals came items all c were known =
+  -- a reply of which nothing is heard is the last one
+  unheard : (speaker : Speaker) (sent : Sent) (exchange : Exchange) → Contains speaker.sent sent → Rest speaker (own sent exchange ∷ []) [] (λ arrivals. Unit {0})
+  unheard speaker sent exchange was requests arrivals came items all c were known =
+      while_asked speaker sent exchange [] [] was (λ requests' arrivals' came' items' reply c' were' known'. afterwards speaker requests' arrivals' came' items' c' were' known')
+      requests arrivals came items c were known
+
+  joins : (ending : Ending) (speaker : Speaker) (spoken : List Spoken) (heard : List Input) → Hears desktop client ending speaker spoken heard → Rest speaker spoken heard (λ arrivals. Unit {0})
+  joins behind_all speaker [] [] (hearing.over _) requests arrivals came items all c were known = afterwards speaker requests arrivals came items c were known
+  joins at_want speaker [] [] (hearing.unsent _) requests arrivals came items all c were known = afterwards speaker requests arrivals came items c were known
+  joins ending speaker spoken (input ∷ heard) (hearing.prompted _ _ _ _ _ none h) requests arrivals came items all c were known =
       talks.prompted speaker came input heard items none
-      (joins (hears client speaker input) spoken heard h requests arrivals came items tt c (were_sent_hears requests speaker input were) known)
-  joins speaker (one ∷ spoken) (input ∷ heard) (hearing.answered _ sent exchange bytes got _ _ asked is reads h) requests arrivals came items all c were known =
+      (joins ending (hears client speaker input) spoken heard h requests arrivals came items tt c (were_sent_hears requests speaker input were) known)
+  joins ending speaker (one ∷ spoken) (input ∷ heard) (hearing.answered _ _ sent exchange bytes got _ _ asked is reads h) requests arrivals came items all c were known =
       while_asked speaker sent exchange spoken (Reply got ∷ heard) asked.was_sent
       (λ requests' arrivals' came' items' reply c' were' known'.
       let of_reply : IsReplyTo desktop client arrivals' sent (Some bytes) = subst (IsReplyTo desktop client arrivals' sent) is reply in
       hears_reply speaker arrivals' came' sent asked.awaits got heard items' known' (of_reply got reads)
-      (joins (hears client speaker (Reply got)) spoken heard h requests' arrivals' came' items' tt c' (were_sent_hears requests' speaker (Reply got) were') known'))
+      (joins ending (hears client speaker (Reply got)) spoken heard h requests' arrivals' came' items' tt c' (were_sent_hears requests' speaker (Reply got) were') known'))
       requests arrivals came items c were known
-  joins speaker (one ∷ spoken) (input ∷ heard) (hearing.lost _ sent exchange _ _ asked is h) requests arrivals came items all c were known =
+  joins ending speaker (one ∷ spoken) (input ∷ heard) (hearing.lost _ _ sent exchange _ _ asked is h) requests arrivals came items all c were known =
       while_asked speaker sent exchange spoken (NoAnswer ∷ heard) asked.was_sent
       (λ requests' arrivals' came' items' reply c' were' known'.
       talks.prompted speaker came' NoAnswer heard items' tt
-      (joins (hears client speaker NoAnswer) spoken heard h requests' arrivals' came' items' tt c' (were_sent_hears requests' speaker NoAnswer were') known'))
+      (joins ending (hears client speaker NoAnswer) spoken heard h requests' arrivals' came' items' tt c' (were_sent_hears requests' speaker NoAnswer were') known'))
       requests arrivals came items c were known
-  joins speaker (one ∷ spoken) heard (hearing.unheard _ sent exchange _ _ asked h) requests arrivals came items all c were known =
-      while_asked speaker sent exchange spoken heard asked.was_sent
-      (λ requests' arrivals' came' items' reply c' were' known'. joins speaker spoken heard h requests' arrivals' came' items' tt c' were' known')
-      requests arrivals came items c were known
-  joins speaker (one ∷ spoken) heard (hearing.copied _ name text exchange _ _ is h) requests arrivals came items all c were known =
+  joins (at_bad at) speaker (one ∷ []) [] (hearing.bad _ sent exchange reply _ asked is bad) requests arrivals came items all c were known =
+      unheard speaker sent exchange asked.was_sent requests arrivals came items tt c were known
+  joins at_want speaker (one ∷ []) [] (hearing.unread _ sent exchange reply asked is) requests arrivals came items all c were known =
+      unheard speaker sent exchange asked.was_sent requests arrivals came items tt c were known
+  joins ending speaker (one ∷ spoken) heard (hearing.copied _ _ name text exchange _ _ is h) requests arrivals came items all c were known =
       while_copying speaker exchange spoken heard
-      (λ requests' arrivals' came' items' any c' were' known'. joins speaker spoken heard h requests' arrivals' came' items' tt c' were' known')
+      (λ requests' arrivals' came' items' any c' were' known'. joins ending speaker spoken heard h requests' arrivals' came' items' tt c' were' known')
       requests arrivals came items c were known
 
   none_sent : (speaker : Speaker) → WereSent [] speaker
   none_sent speaker sent there = absurd (omega (arith, there.1))
 
-  pub crossing_is_talk : (spoken : List Spoken) (heard : List Input) (history : List Item) → Hears desktop client first_speaker spoken heard →
+  pub crossing_is_talk : (ending : Ending) (spoken : List Spoken) (heard : List Input) (history : List Item) → Hears desktop client ending first_speaker spoken heard →
       AreExchangedOver desktop client spoken history → IsTalkOver client heard history
-  crossing_is_talk spoken heard history h c = joins first_speaker spoken heard h [] [] [] history tt c (none_sent first_speaker) known_none
+  crossing_is_talk ending spoken heard history h c = joins ending first_speaker spoken heard h [] [] [] history tt c (none_sent first_speaker) known_none

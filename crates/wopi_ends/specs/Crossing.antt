@@ -4,7 +4,6 @@ use Rattle.std.specs.List.{Contains}
 use Rattle.outside.specs.declared.dialer.Exchange.{Exchange}
 use Rattle.wopi_model.specs.Shard.{Step, Entry}
 use Rattle.wopi_headers.specs.declared.answer.Answer.{Answer}
-use Rattle.wopi_headers.specs.AnswerReads.{told}
 use Rattle.wopi_headers.specs.Operations.{AsksFor}
 use Rattle.save_session.specs.Session.{op_of}
 use Rattle.wopi_client.specs.declared.desktop.Desktop.{Desktop}
@@ -14,7 +13,7 @@ use Rattle.host_server.specs.Deeds.{made}
 use Rattle.host_server.specs.Turns.{Turn, IsTurn, Said, answer, no_memory}
 use Rattle.wopi_world.specs.History.{Item, Ran}
 use Rattle.wopi_world.specs.Requests.{Client, Sent, operation, body}
-use Rattle.wopi_world.specs.Talks.{IsOfOthers}
+use Rattle.wopi_world.specs.Talks.{IsOfOthers, LooksSame}
 use Rattle.wopi_ends.specs.Messages.{IsAt, ask_of}
 use Rattle.wopi_ends.specs.Hearing.{Spoken, own, aside}
 
@@ -27,10 +26,11 @@ pub record IsOwn (desktop : Desktop) (client : Client) (sent : Sent) (t : Turn) 
   pub asks : AsksFor t.request (ask_of desktop client sent)
   pub body_is : t.request.body ≡ body sent
 
--- what is read of what was said, where its bytes came whole
-abbrev pub IsReadAs : Said → Answer → Type 0
-IsReadAs (answer a) got = got ≡ told a
-IsReadAs no_memory got = got.status ≡ 503
+-- What is read is what was said, in all that the session sees of it: the status, the lock, the reason, and, but of CheckFileInfo, the version and
+-- the body. What else a reply's fields say doesn't count.
+abbrev pub IsReadAs : Sent → Said → Answer → Type 0
+IsReadAs sent (answer a) got = LooksSame (operation sent) got a
+IsReadAs sent no_memory got = got.status ≡ 503
 
 -- a message that came of a request, and made an entry
 pub record Arrival : Type 0 where
@@ -40,9 +40,9 @@ pub record Arrival : Type 0 where
 -- where an answer to a request comes from
 pub data ComesOf (desktop : Desktop) (client : Client) (arrivals : List Arrival) (sent : Sent) (got : Answer) : Type 0 where
   -- it is what the host said to a message that came of the request before
-  told_entry : (t : Turn) → Contains arrivals (record { sent = sent; turn = t }) → IsReadAs t.said got → ComesOf desktop client arrivals sent got
+  told_entry : (t : Turn) → Contains arrivals (record { sent = sent; turn = t }) → IsReadAs sent t.said got → ComesOf desktop client arrivals sent got
   -- the same of a message that made no entry
-  told_none : (t : Turn) → IsOwn desktop client sent t → made t.part ≡ [] → IsReadAs t.said got → ComesOf desktop client arrivals sent got
+  told_none : (t : Turn) → IsOwn desktop client sent t → made t.part ≡ [] → IsReadAs sent t.said got → ComesOf desktop client arrivals sent got
   -- it comes from elsewhere, as where the host refuses the bytes of a message, and is neither 200 nor 409
   refused : got.status ≢ 200 → got.status ≢ 409 → ComesOf desktop client arrivals sent got
 

@@ -11,6 +11,7 @@ ghost use Rattle.wopi_headers.specs.Operations.{AsksFor};
 ghost use Rattle.wopi_headers.specs.Requests.{IsReadable};
 ghost use Rattle.save_session.specs.declared.input.Input.{Input};
 ghost use Rattle.save_session.specs.declared.output.Outcome.{Outcome};
+ghost use Rattle.save_session.specs.declared.state.SessionOp.{SessionOp};
 ghost use Rattle.save_session.specs.declared.state.State.{State};
 ghost use Rattle.wopi_client.specs.declared.desktop.Desktop.{Desktop};
 ghost use Rattle.wopi_client.specs.declared.driving.DriveFault.{DriveFault};
@@ -32,9 +33,9 @@ ghost use Rattle.wopi_model.specs.Shard as shard;
 ghost use Rattle.wopi_model.specs.Shard.{Opening, Entry, Legal, opened_shard};
 ghost use Rattle.wopi_world.specs.History.{Item, Ran};
 ghost use Rattle.wopi_world.specs.Requests.{Client, Sent, body};
-ghost use Rattle.wopi_world.specs.Talks.{Speaker, IsNoReply, IsTalkOver, IsSafeFor, first_speaker, told_by};
+ghost use Rattle.wopi_world.specs.Talks.{Speaker, IsNoReply, LooksSame, IsTalkOver, IsSafeFor, first_speaker, told_by};
 ghost use Rattle.wopi_ends.specs.Crossing.{AreExchangedOver};
-ghost use Rattle.wopi_ends.specs.Hearing.{Spoken, Hears, IsTalkHeard, IsDriveHeard, IsEditorOf, IsScriptHeard};
+ghost use Rattle.wopi_ends.specs.Hearing.{Spoken, Ending, behind_all, Hears, IsReplyHeard, IsTalkHeard, IsDriveHeard, IsEditorOf, IsScriptHeard};
 ghost use Rattle.wopi_ends.specs.Messages.{IsAt, ask_of, bytes_of, IsOwnTurn};
 ghost use Rattle.wopi_ends.specs.Sources.{IsOfMessage};
 
@@ -62,11 +63,14 @@ pub fn a_drive_is_heard()
 {}
 
 /// What an editor's script exchanges with a host is heard by its session, drive after drive, while of
-/// a copy it hears nothing; and the lines tell what the session told.
+/// a copy it hears nothing; each command's line tells what the session told of that command's
+/// exchanges. Where the script ended well, or with a fault of writing, no reply is passed over.
 pub fn a_script_is_heard()
-    ensures { (desktop : Desktop) (client : Client) (speaker : Speaker) (old : Editor) (asked : List Command) (new : Editor) (result : Result Went EditFault) (written : List ℕ)
+    ensures heard { (desktop : Desktop) (client : Client) (speaker : Speaker) (old : Editor) (asked : List Command) (new : Editor) (result : Result Went EditFault) (written : List ℕ)
         (exchanges : List Exchange) → IsEditorOf desktop client speaker old → Runs old asked new result written exchanges →
-        IsScriptHeard desktop client speaker asked written exchanges new }
+        IsScriptHeard desktop client speaker old asked new result written exchanges }
+    ensures none_is_passed_over { (desktop : Desktop) (client : Client) (speaker : Speaker) (spoken : List Spoken) (heard : List Input) →
+        Hears desktop client behind_all speaker spoken heard → AllByRecursion (IsReplyHeard client heard) spoken }
 {}
 
 /// A message of just the bytes of a session's request, within the limits of a host, asks for what the
@@ -92,17 +96,21 @@ pub fn own_messages_make_own_entries()
     a_text_has_one_reading();
 }
 
-/// Each entry that a host made on a connection was made for a message of that connection.
+/// Each entry that a host made on a connection was made for a message of that connection, and is
+/// among the deeds that were done for it.
 pub fn entries_come_of_messages()
     ensures { (desk : Desk) (end : ConnEnd) (input : List ℕ) (left : Option (List ℕ)) (moments : List ℕ) (deeds : List Deed) (output : List ℕ) →
         IsConnEnd desk end input left moments deeds output →
-        AllByRecursion (IsOfMessage desk input) (made deeds) }
+        AllByRecursion (IsOfMessage desk input deeds) (made deeds) }
 {}
 
-/// Of the bytes that a host wrote for an answer a client reads just that answer, whatever follows.
+/// Of the bytes that a host wrote for an answer a client reads just that answer, whatever follows; so
+/// a session sees of it what was said.
 pub fn what_was_said_is_read()
-    ensures { (op : Op) (a got : Answer) (close : Bool) (more : List ℕ) → IsAnswer a → 0 < length (phrase_of a.status) → length a.body ≤ body_limit →
+    ensures told { (op : Op) (a got : Answer) (close : Bool) (more : List ℕ) → IsAnswer a → 0 < length (phrase_of a.status) → length a.body ≤ body_limit →
         TellsAnswer op (answer_text a close ++ more) got → got ≡ told a }
+    ensures looks { (op : Op) (a got : Answer) (close : Bool) (more : List ℕ) (asked : SessionOp) → IsAnswer a → 0 < length (phrase_of a.status) → length a.body ≤ body_limit →
+        TellsAnswer op (answer_text a close ++ more) got → LooksSame asked got a }
 {
     an_answer_comes_back();
     what_is_replied_is_read();
@@ -112,16 +120,16 @@ pub fn what_was_said_is_read()
 /// Where a client's exchanges and a shard's history stand in an order that is true of time, with the
 /// messages of the requests behind them and before the replies that were taken of them, what the
 /// client's session heard is a talk over that history. So it is safe for the session: what it told as
-/// saved was accepted with that version, and is replaced only by its later save or after its lock
-/// ended, never by its earlier one.
+/// saved was accepted with the contents that its Put carried and that version, and these contents are
+/// replaced only by its later save or after its lock ended, never by its earlier one.
 pub fn both_ends_are_safe()
-    ensures talk { (desktop : Desktop) (client : Client) (spoken : List Spoken) (heard : List Input) (history : List Item) →
-        Hears desktop client first_speaker spoken heard → AreExchangedOver desktop client spoken history → IsTalkOver client heard history }
-    ensures shard { (desktop : Desktop) (client : Client) (spoken : List Spoken) (heard : List Input) (opening : Opening) (opened first : ℕ) (history : List shard.Item) →
-        Legal opening opened first history → Hears desktop client first_speaker spoken heard → AreExchangedOver desktop client spoken (map Ran history) →
+    ensures talk { (desktop : Desktop) (client : Client) (ending : Ending) (spoken : List Spoken) (heard : List Input) (history : List Item) →
+        Hears desktop client ending first_speaker spoken heard → AreExchangedOver desktop client spoken history → IsTalkOver client heard history }
+    ensures shard { (desktop : Desktop) (client : Client) (ending : Ending) (spoken : List Spoken) (heard : List Input) (opening : Opening) (opened first : ℕ) (history : List shard.Item) →
+        Legal opening opened first history → Hears desktop client ending first_speaker spoken heard → AreExchangedOver desktop client spoken (map Ran history) →
         IsSafeFor client (told_by client heard) (opened_shard opening opened first) (map Ran history) }
-    ensures host { (desktop : Desktop) (client : Client) (spoken : List Spoken) (heard : List Input) (opening : Opening) (opened first : ℕ) (merge : List Entry) (shard : ℕ) →
-        shard < 16 → LegalHost opening opened first merge → Hears desktop client first_speaker spoken heard → AreExchangedOver desktop client spoken (map Ran (part_of shard merge)) →
+    ensures host { (desktop : Desktop) (client : Client) (ending : Ending) (spoken : List Spoken) (heard : List Input) (opening : Opening) (opened first : ℕ) (merge : List Entry) (shard : ℕ) →
+        shard < 16 → LegalHost opening opened first merge → Hears desktop client ending first_speaker spoken heard → AreExchangedOver desktop client spoken (map Ran (part_of shard merge)) →
         IsSafeFor client (told_by client heard) (opened_shard (opening_of shard opening) opened first) (map Ran (part_of shard merge)) }
 {
     own_messages_make_own_entries();

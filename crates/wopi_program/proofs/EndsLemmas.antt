@@ -15,7 +15,7 @@ use Rattle.wopi_world.specs.History.{Ran}
 use Rattle.wopi_world.specs.Requests.{Client}
 use Rattle.wopi_world.specs.Talks.{IsSafeFor, first_speaker, told_by}
 use Rattle.wopi_ends.specs.Crossing.{AreExchangedOver}
-use Rattle.wopi_ends.specs.Hearing.{Spoken, Hears, IsEditorOf}
+use Rattle.wopi_ends.specs.Hearing.{Spoken, Ending, Hears, IsEditorOf}
 use Rattle.wopi_program.specs.BothEnds.{history_at, start_at}
 use Rattle.wopi_program.specs.Edit.{EditRow, IsNewEditor}
 
@@ -28,16 +28,16 @@ editor_of row client first nonce new = record { desktop_is = refl; nonce = new.n
 -- what the law of both ends says of each shard's part of a journal
 abbrev HostLaw : Type 0
 HostLaw =
-    (desktop : Desktop) (client : Client) (spoken : List Spoken) (heard : List Input) (opening : Opening) (opened first : ℕ) (merge : List Entry) (number : ℕ) →
-    number < 16 → LegalHost opening opened first merge → Hears desktop client first_speaker spoken heard → AreExchangedOver desktop client spoken (map Ran (part_of number merge)) →
+    (desktop : Desktop) (client : Client) (ending : Ending) (spoken : List Spoken) (heard : List Input) (opening : Opening) (opened first : ℕ) (merge : List Entry) (number : ℕ) →
+    number < 16 → LegalHost opening opened first merge → Hears desktop client ending first_speaker spoken heard → AreExchangedOver desktop client spoken (map Ran (part_of number merge)) →
     IsSafeFor client (told_by client heard) (opened_shard (opening_of number opening) opened first) (map Ran (part_of number merge))
 
 pub at_serve : {F : Type 0} → HostLaw → (journal : JournalView F) (opened first : ℕ) → journal.opened ≡ opened → journal.first ≡ first →
-    LegalHost (openings journal.parts) opened first (steps_of journal.merge) → (desktop : Desktop) (client : Client) (spoken : List Spoken) (heard : List Input) →
-    Hears desktop client first_speaker spoken heard → AreExchangedOver desktop client spoken (history_at journal client) →
+    LegalHost (openings journal.parts) opened first (steps_of journal.merge) → (desktop : Desktop) (client : Client) (ending : Ending) (spoken : List Spoken) (heard : List Input) →
+    Hears desktop client ending first_speaker spoken heard → AreExchangedOver desktop client spoken (history_at journal client) →
     IsSafeFor client (told_by client heard) (start_at journal client) (history_at journal client)
-at_serve law journal opened first opened_is first_is legal desktop client spoken heard hears crosses =
-    law desktop client spoken heard (openings journal.parts) journal.opened journal.first (steps_of journal.merge) (shard_of client.token.file) (shard_below client.token.file)
+at_serve law journal opened first opened_is first_is legal desktop client ending spoken heard hears crosses =
+    law desktop client ending spoken heard (openings journal.parts) journal.opened journal.first (steps_of journal.merge) (shard_of client.token.file) (shard_below client.token.file)
     (subst (λ (n : ℕ). LegalHost (openings journal.parts) n journal.first (steps_of journal.merge)) (sym opened_is)
     (subst (λ (n : ℕ). LegalHost (openings journal.parts) opened n (steps_of journal.merge)) (sym first_is) legal))
     hears crosses

@@ -1,9 +1,9 @@
 -- Each entry of a journal comes of a message of a link that a worker served.
-use Rattle.std.proofs.Common.{◌≡◌, ℕ, zero, suc, ◌+◌, ◌<◌, ◌≤◌, ◌==◌, Bool, true, false, cond, List, [], ◌∷◌, ◌++◌, length, Option, refl, sym, ap, subst, ◌∙◌, inl, inr, arith}
-use Rattle.std.proofs.lemmas.Bool.{cases_eq, eq-eqb}
-use Rattle.std.proofs.lemmas.List.Elements.{Contains-append_right}
+use Rattle.std.proofs.Common.{◌≡◌, ℕ, zero, suc, ◌+◌, ◌<◌, ◌≤◌, ◌==◌, Bool, true, false, cond, List, [], ◌∷◌, ◌++◌, length, Option, Some, refl, sym, ap, subst, ◌∙◌, inl, inr, arith}
+use Rattle.std.proofs.lemmas.Bool.{cases_eq, eq-eqb, eqb-true}
+use Rattle.std.proofs.lemmas.List.{append_assoc, length-append}
 use Rattle.std.specs.Prelude.{filter}
-use Rattle.std.specs.List.{AllByRecursion, Contains}
+use Rattle.std.specs.List.{AllByRecursion, slice_get}
 use Rattle.outside.specs.Stream.{Are}
 use Rattle.wopi_model.specs.Shard.{Entry}
 use Rattle.host_core.specs.Entries.{Made}
@@ -17,7 +17,7 @@ use Rattle.host_server.specs.Visits.{Visit, IsVisit, deeds_of}
 use Rattle.host_table.specs.Journal.{JournalView}
 use Rattle.wopi_ends.specs.Sources.{IsOfMessage}
 use Rattle.wopi_ends.proofs.Sourcing.{all_append, made-append}
-use Rattle.wopi_program.specs.BothEnds.{CameOnLink}
+use Rattle.wopi_program.specs.BothEnds.{CameBy, CameOnLink}
 use Rattle.wopi_program.specs.Journal.{IsWorker, AreWorkers}
 use Rattle.wopi_program.specs.Meanings.{Meanings}
 
@@ -40,63 +40,84 @@ of_passes P count (one ∷ merge) each whose = (first, of_passes P count merge r
         let others = filter (λ entry. entry.pass == pass) (steps_of merge) in
         (elim (one.step.pass == pass) as (λ b. AllByRecursion P (cond b (one.step ∷ others) others) → AllByRecursion P others) [ true ↦ λ h. h.1 | false ↦ λ h. h ]) (each pass within)
 
+-- what holds of a pass's entries by its number holds of them by their pass
+by_pass : (P : ℕ → Entry → Type 0) (number : ℕ) (entries : List Entry) → AllByRecursion (P number) (filter (λ entry. entry.pass == number) entries) →
+    AllByRecursion (λ entry. P entry.pass entry) (filter (λ entry. entry.pass == number) entries)
+by_pass P number [] h = tt
+by_pass P number (entry ∷ entries) h =
+    let rest = filter (λ other. other.pass == number) entries in
+    (elim (entry.pass == number) as (λ b. (entry.pass == number) ≡ b → AllByRecursion (P number) (cond b (entry ∷ rest) rest) →
+    AllByRecursion (λ one. P one.pass one) (cond b (entry ∷ rest) rest)) [
+      | true ↦ λ e k. (subst (λ (n : ℕ). P n entry) (sym (eqb-true entry.pass number e)) k.0, by_pass P number entries k.1)
+      | false ↦ λ e k. by_pass P number entries k
+    ]) refl h
+
+-- the element behind a front
+get_behind : {T : Type 0} (front : List T) (one : T) (later whole : List T) → front ++ one ∷ later ≡ whole → slice_get whole (length front) ≡ Some one
+get_behind front one later whole e = subst (λ (l : List _). slice_get l (length front) ≡ Some one) e (there front)
+  where
+    there : (xs : List _) → slice_get (xs ++ one ∷ later) (length xs) ≡ Some one
+    there [] = refl
+    there (x ∷ xs) = there xs
+
 module _ {S K F N D C L : Type 0} (m : Meanings S K F N D C L) (desk : Desk)
     (come : (end : ConnEnd) (input : List ℕ) (left : Option (List ℕ)) (moments : List ℕ) (deeds : List Deed) (output : List ℕ) → IsConnEnd desk end input left moments deeds output →
-    AllByRecursion (IsOfMessage desk input) (made deeds))
+    AllByRecursion (IsOfMessage desk input deeds) (made deeds))
     (all : List (List (Visit L))) where
-  abbrev Came : Entry → Type 0
-  Came entry = CameOnLink m desk all entry
+  abbrev Came : ℕ → Entry → Type 0
+  Came number entry = CameBy m desk all number entry
 
-  of_visit : (worker : List (Visit L)) (visit : Visit L) (input : List ℕ) → Contains all worker → Contains worker visit → Are (m.work.left visit.came) input →
-      (entries : List Entry) → AllByRecursion (IsOfMessage desk input) entries → AllByRecursion Came entries
-  of_visit worker visit input known there reads [] h = tt
-  of_visit worker visit input known there reads (entry ∷ entries) h = (
-    record { worker = worker; is_worker = known; visit = visit; is_visit = there; input = input; reads = reads; message = h.0 },
-    of_visit worker visit input known there reads entries h.1,
+  of_visit : (number : ℕ) (worker : List (Visit L)) (place : ℕ) (visit : Visit L) (input : List ℕ) → slice_get all number ≡ Some worker → slice_get worker place ≡ Some visit →
+      Are (m.work.left visit.came) input → (entries : List Entry) → AllByRecursion (IsOfMessage desk input visit.deeds) entries → AllByRecursion (Came number) entries
+  of_visit number worker place visit input known there reads [] h = tt
+  of_visit number worker place visit input known there reads (entry ∷ entries) h = (
+    record { worker = worker; is_worker = known; place = place; visit = visit; is_visit = there; input = input; reads = reads; message = h.0 },
+    of_visit number worker place visit input known there reads entries h.1,
   )
 
-  of_visits : (worker front visits : List (Visit L)) → Contains all worker → front ++ visits ≡ worker →
-      AllByRecursion (IsVisit m.work desk) visits → AllByRecursion Came (made (deeds_of visits))
-  of_visits worker front [] known whole h = tt
-  of_visits worker front (visit ∷ visits) known whole h =
+  of_visits : (number : ℕ) (worker front visits : List (Visit L)) → slice_get all number ≡ Some worker → front ++ visits ≡ worker →
+      AllByRecursion (IsVisit m.work desk) visits → AllByRecursion (Came number) (made (deeds_of visits))
+  of_visits number worker front [] known whole h = tt
+  of_visits number worker front (visit ∷ visits) known whole h =
       let v = h.0 in
-      let there : Contains worker visit = subst (λ (l : List (Visit L)). Contains l visit) whole (Contains-append_right front (visit ∷ visits) visit (0, omega arith, refl)) in
-      subst (AllByRecursion Came) (sym (made-append visit.deeds (deeds_of visits)))
-      (all_append Came (made visit.deeds) (made (deeds_of visits))
-      (of_visit worker visit v.input known there v.reads (made visit.deeds) (come visit.end v.input (m.work.left visit.went) visit.moments visit.deeds v.output v.says))
-      (of_visits worker (front ++ visit ∷ []) visits known (Rattle.std.proofs.lemmas.List.append_assoc front (visit ∷ []) visits ∙ whole) h.1))
+      let there : slice_get worker (length front) ≡ Some visit = get_behind front visit visits worker whole in
+      subst (AllByRecursion (Came number)) (sym (made-append visit.deeds (deeds_of visits)))
+      (all_append (Came number) (made visit.deeds) (made (deeds_of visits))
+      (of_visit number worker (length front) visit v.input known there v.reads (made visit.deeds) (come visit.end v.input (m.work.left visit.went) visit.moments visit.deeds v.output v.says))
+      (of_visits number worker (front ++ visit ∷ []) visits known (append_assoc front (visit ∷ []) visits ∙ whole) h.1))
 
   module _ (capacity : ℕ) (journal : JournalView F) where
     abbrev PassCame : ℕ → Type 0
-    PassCame pass = AllByRecursion Came (filter (λ entry. entry.pass == pass) (steps_of journal.merge))
+    PassCame pass = AllByRecursion (CameOnLink m desk all) (filter (λ entry. entry.pass == pass) (steps_of journal.merge))
 
-    of_worker : (number : ℕ) (worker : List (Visit L)) (end : WorkEnd) (listener listener' : N) (clock clock' : C) → Contains all worker →
+    of_worker : (number : ℕ) (worker : List (Visit L)) (end : WorkEnd) (listener listener' : N) (clock clock' : C) → slice_get all number ≡ Some worker →
         IsWorker m desk capacity journal number worker end listener listener' clock clock' → PassCame number
     of_worker number worker end listener listener' clock clock' known w =
-        subst (AllByRecursion Came) (sym w.entries) (of_visits worker [] worker known refl w.each)
+        by_pass Came number (steps_of journal.merge) (subst (AllByRecursion (Came number)) (sym w.entries) (of_visits number worker [] worker known refl w.each))
 
-    of_workers : (number : ℕ) (front visits : List (List (Visit L))) (ends : List WorkEnd) (listeners listeners' : List N) (clocks clocks' : List C) → front ++ visits ≡ all →
-        AreWorkers m desk capacity journal number visits ends listeners listeners' clocks clocks' → (pass : ℕ) → number ≤ pass → pass < number + length listeners → PassCame pass
-    of_workers number front visits ends [] listeners' clocks clocks' whole w pass low high = absurd (omega (arith, low, high))
-    of_workers number front [] [] (listener ∷ listeners) listeners' clocks clocks' whole w pass low high = absurd w
-    of_workers number front [] (end ∷ ends) (listener ∷ listeners) listeners' clocks clocks' whole w pass low high = absurd w
-    of_workers number front (visits ∷ rest) [] (listener ∷ listeners) listeners' clocks clocks' whole w pass low high = absurd w
-    of_workers number front (visits ∷ rest) (end ∷ ends) (listener ∷ listeners) [] clocks clocks' whole w pass low high = absurd w
-    of_workers number front (visits ∷ rest) (end ∷ ends) (listener ∷ listeners) (listener' ∷ listeners') [] clocks' whole w pass low high = absurd w
-    of_workers number front (visits ∷ rest) (end ∷ ends) (listener ∷ listeners) (listener' ∷ listeners') (clock ∷ clocks) [] whole w pass low high = absurd w
-    of_workers number front (visits ∷ rest) (end ∷ ends) (listener ∷ listeners) (listener' ∷ listeners') (clock ∷ clocks) (clock' ∷ clocks') whole w pass low high =
+    of_workers : (number : ℕ) (front visits : List (List (Visit L))) (ends : List WorkEnd) (listeners listeners' : List N) (clocks clocks' : List C) → number ≡ length front →
+        front ++ visits ≡ all → AreWorkers m desk capacity journal number visits ends listeners listeners' clocks clocks' → (pass : ℕ) → number ≤ pass →
+        pass < number + length listeners → PassCame pass
+    of_workers number front visits ends [] listeners' clocks clocks' at whole w pass low high = absurd (omega (arith, low, high))
+    of_workers number front [] [] (listener ∷ listeners) listeners' clocks clocks' at whole w pass low high = absurd w
+    of_workers number front [] (end ∷ ends) (listener ∷ listeners) listeners' clocks clocks' at whole w pass low high = absurd w
+    of_workers number front (visits ∷ rest) [] (listener ∷ listeners) listeners' clocks clocks' at whole w pass low high = absurd w
+    of_workers number front (visits ∷ rest) (end ∷ ends) (listener ∷ listeners) [] clocks clocks' at whole w pass low high = absurd w
+    of_workers number front (visits ∷ rest) (end ∷ ends) (listener ∷ listeners) (listener' ∷ listeners') [] clocks' at whole w pass low high = absurd w
+    of_workers number front (visits ∷ rest) (end ∷ ends) (listener ∷ listeners) (listener' ∷ listeners') (clock ∷ clocks) [] at whole w pass low high = absurd w
+    of_workers number front (visits ∷ rest) (end ∷ ends) (listener ∷ listeners) (listener' ∷ listeners') (clock ∷ clocks) (clock' ∷ clocks') at whole w pass low high =
         elim (cases_eq number pass) [
           | inl same ↦
-              let known : Contains all visits = subst (λ (l : List (List (Visit L))). Contains l visits) whole (Contains-append_right front (visits ∷ rest) visits (0, omega arith, refl)) in
+              let known : slice_get all number ≡ Some visits = subst (λ (n : ℕ). slice_get all n ≡ Some visits) (sym at) (get_behind front visits rest all whole) in
               subst PassCame same (of_worker number visits end listener listener' clock clock' known w.0)
           | inr apart ↦
-              of_workers (number + 1) (front ++ visits ∷ []) rest ends listeners listeners' clocks clocks'
-              (Rattle.std.proofs.lemmas.List.append_assoc front (visits ∷ []) rest ∙ whole) w.1 pass (omega (arith, low, apart)) (omega (arith, high))
+              of_workers (number + 1) (front ++ visits ∷ []) rest ends listeners listeners' clocks clocks' (omega (arith, at, length-append front (visits ∷ [])))
+              (append_assoc front (visits ∷ []) rest ∙ whole) w.1 pass (omega (arith, low, apart)) (omega (arith, high))
         ]
 
   pub served_come : (capacity : ℕ) (journal : JournalView F) (ends : List WorkEnd) (listeners listeners' : List N) (clocks clocks' : List C) →
       AreWorkers m desk capacity journal 0 all ends listeners listeners' clocks clocks' → AllByRecursion (λ one. one.step.pass < length listeners) journal.merge →
-      AllByRecursion (λ one. Came one.step) journal.merge
+      AllByRecursion (λ one. CameOnLink m desk all one.step) journal.merge
   served_come capacity journal ends listeners listeners' clocks clocks' workers whose =
-      of_passes Came (length listeners) journal.merge
-      (λ pass within. of_workers capacity journal 0 [] all ends listeners listeners' clocks clocks' refl workers pass (omega arith) (omega (arith, within))) whose
+      of_passes (CameOnLink m desk all) (length listeners) journal.merge
+      (λ pass within. of_workers capacity journal 0 [] all ends listeners listeners' clocks clocks' refl refl workers pass (omega arith) (omega (arith, within))) whose

@@ -12,7 +12,7 @@ ghost use Rattle.wopi_model.specs.Shard.{opened_shard};
 ghost use Rattle.wopi_world.specs.Requests.{Client};
 ghost use Rattle.wopi_world.specs.Talks.{IsSafeFor, first_speaker, told_by};
 ghost use Rattle.wopi_ends.specs.Crossing.{AreExchangedOver};
-ghost use Rattle.wopi_ends.specs.Hearing.{Spoken, Hears, IsScriptHeard};
+ghost use Rattle.wopi_ends.specs.Hearing.{Spoken, Ending, Hears, IsScriptHeard};
 ghost use Rattle.wopi_program.specs.declared.outside_world.Outside.{Outside};
 ghost use Rattle.wopi_program.specs.declared.serve_words.ServeAsk.{ServeAsk};
 ghost use Rattle.wopi_program.specs.Meanings.{Meanings};
@@ -24,19 +24,20 @@ ghost use Rattle.wopi_program.specs.Serve.{HasServed};
 use wopi_ends::laws::{a_script_is_heard, both_ends_are_safe, entries_come_of_messages};
 
 /// An `edit` that ran its script, and the `serve` that it spoke with. The editor's session heard what
-/// was read of the replies, and its lines tell what the session told. Where the exchanges and the
-/// journal stand in an order that is true of time, with the messages of the requests behind them and
-/// before the replies that were taken of them, the journal is safe for that session: what it told as
-/// saved was accepted with that version, and is replaced only by its later save or after its lock
-/// ended, never by its earlier one.
+/// was read of the replies, and each command's line tells what the session told of its exchanges.
+/// Where the exchanges and the journal stand in an order that is true of time, with the messages of
+/// the requests behind them and before the replies that were taken of them, the journal is safe for
+/// that session: what it told as saved was accepted with the contents that its Put carried and that
+/// version, and these contents are replaced only by its later save or after its lock ended, never by
+/// its earlier one.
 pub fn edits_at_a_serve_are_safe<S, K, F, N, D, C, L>()
     ensures heard { (m : Meanings S K F N D C L) (words : List (List ℕ)) (status : ℕ) (old new : Outside S K F N D C) (client : Client)
         (edit : EditRan m words status old new) (run : IsRun m edit.first status old new) → edit.asked.nonce ≡ client.nonce →
-        IsScriptHeard (desktop_of edit.first) client first_speaker run.commands run.ran.written run.ran.sent run.ran.last }
+        IsScriptHeard (desktop_of edit.first) client first_speaker edit.first run.commands run.ran.last run.ran.result run.ran.written run.ran.sent }
     ensures safe { (m : Meanings S K F N D C L) (words : List (List ℕ)) (status : ℕ) (old new host host' : Outside S K F N D C) (keys : Keys) (base : List ℕ) (ask : ServeAsk)
         (ends : List WorkEnd) (journal : JournalView F) (client : Client)
         (edit : EditRan m words status old new) (run : IsRun m edit.first status old new) →
-        HasServed m keys base ask ends journal host host' → (h : IsScriptHeard (desktop_of edit.first) client first_speaker run.commands run.ran.written run.ran.sent run.ran.last) →
+        HasServed m keys base ask ends journal host host' → (h : IsScriptHeard (desktop_of edit.first) client first_speaker edit.first run.commands run.ran.last run.ran.result run.ran.written run.ran.sent) →
         AreExchangedOver (desktop_of edit.first) client h.has.spoken (history_at journal client) →
         IsSafeFor client h.told (start_at journal client) (history_at journal client) }
 {
@@ -47,8 +48,8 @@ pub fn edits_at_a_serve_are_safe<S, K, F, N, D, C, L>()
 /// The same of any client's exchanges with a `serve`.
 pub fn exchanges_with_a_serve_are_safe<S, K, F, N, D, C, L>()
     ensures { (m : Meanings S K F N D C L) (keys : Keys) (base : List ℕ) (ask : ServeAsk) (ends : List WorkEnd) (journal : JournalView F) (old new : Outside S K F N D C)
-        (desktop : Desktop) (client : Client) (spoken : List Spoken) (heard : List Input) → HasServed m keys base ask ends journal old new →
-        Hears desktop client first_speaker spoken heard →
+        (desktop : Desktop) (client : Client) (ending : Ending) (spoken : List Spoken) (heard : List Input) → HasServed m keys base ask ends journal old new →
+        Hears desktop client ending first_speaker spoken heard →
         AreExchangedOver desktop client spoken (history_at journal client) →
         IsSafeFor client (told_by client heard) (start_at journal client) (history_at journal client) }
 {
@@ -58,15 +59,17 @@ pub fn exchanges_with_a_serve_are_safe<S, K, F, N, D, C, L>()
 /// The same of a client's exchanges with a `once`.
 pub fn exchanges_with_a_once_are_safe<S, K, F, N, D, C, L>()
     ensures { (m : Meanings S K F N D C L) (keys : Keys) (base : List ℕ) (end : ConnEnd) (folder folder' : F) (clock clock' : C) (old new : Outside S K F N D C)
-        (desktop : Desktop) (client : Client) (spoken : List Spoken) (heard : List Input) (served : OpensAndServes m keys base end folder folder' clock clock' old new) →
-        Hears desktop client first_speaker spoken heard →
+        (desktop : Desktop) (client : Client) (ending : Ending) (spoken : List Spoken) (heard : List Input) (served : OpensAndServes m keys base end folder folder' clock clock' old new) →
+        Hears desktop client ending first_speaker spoken heard →
         AreExchangedOver desktop client spoken (history_by served.serves.serves.deeds) →
         IsSafeFor client (told_by client heard) (opened_shard served.first.opening served.desk.opened 1) (history_by served.serves.serves.deeds) }
 {
     both_ends_are_safe();
 }
 
-/// Each entry of a `serve`'s journal was made for a message that came on a link which a worker served.
+/// Each entry of a `serve`'s journal was made for a message that came on a link which a worker served:
+/// the worker whose number is the entry's pass. It is among the deeds that were done on that link for
+/// that message.
 pub fn entries_of_a_serve_come_of_messages<S, K, F, N, D, C, L>()
     ensures { (m : Meanings S K F N D C L) (keys : Keys) (base : List ℕ) (ask : ServeAsk) (ends : List WorkEnd) (journal : JournalView F) (old new : Outside S K F N D C)
         (served : HasServed m keys base ask ends journal old new) → AllByRecursion (λ one. CameOnLink m served.desk served.visits one.step) journal.merge }

@@ -1,6 +1,6 @@
 -- From what each item does: what holds of the saves under one id.
-use Rattle.std.proofs.Common.{◌≡◌, ◌≢◌, ◌⊎◌, ℕ, ◌<◌, ◌≤◌, max, Bool, true, false, not, ◌&&◌, cond, List, [], ◌∷◌, ◌++◌, Option, None, Some, is_some, is_none, refl, sym, ap, subst, ◌∙◌, inl, inr, arith}
-use Rattle.std.proofs.lemmas.Bool.{cases_lt, not-false, true≢false}
+use Rattle.std.proofs.Common.{◌≡◌, ◌⊎◌, ℕ, ◌<◌, ◌≤◌, max, Bool, true, false, not, ◌&&◌, cond, List, [], ◌∷◌, ◌++◌, Option, None, Some, is_some, refl, sym, ap, subst, ◌∙◌, inl, inr, arith}
+use Rattle.std.proofs.lemmas.Bool.{cases_lt, not-false}
 use Rattle.std.proofs.lemmas.Slice.Eq.{bytes_eq-Decides}
 use Rattle.std.specs.Str.{bytes_eq}
 use Rattle.wopi_model.specs.declared.calls.Act.{Act}
@@ -9,19 +9,18 @@ use Rattle.wopi_model.specs.declared.calls.Call.{Call}
 use Rattle.wopi_model.specs.declared.calls.Ruling.{Ruling}
 use Rattle.wopi_model.specs.declared.locks.Lock.{Lock}
 use Rattle.wopi_model.specs.declared.locks.Spent.{Spent}
-use Rattle.wopi_model.specs.declared.locks.LockAct.TheVariants as asks
 use Rattle.wopi_model.specs.Act.{lock_act}
 use Rattle.wopi_model.specs.File.{File, exists}
 use Rattle.wopi_model.specs.Host.{LegalHost, part_of, opening_of}
 use Rattle.wopi_model.specs.LockTable as table
 use Rattle.wopi_model.specs.LockTable.{lock_after, spent_by}
-use Rattle.wopi_model.specs.Safety.{IsSpentUntil, HasEnded, RefusesEnded}
-use Rattle.wopi_model.specs.Settle.{is_over, standing, expired, with_spent, still_spent, settled}
+use Rattle.wopi_model.specs.Safety.{IsSpentUntil, HasEnded}
+use Rattle.wopi_model.specs.Settle.{is_over, standing, expired, with_spent, settled}
 use Rattle.wopi_model.specs.Shard.{Shard, Opening, Item, Tick, Step, Entry, opened_shard, at_moment, after_entry, happens, after, IsAllowed, Along}
 use Rattle.wopi_model.specs.Step.{Accept, decision, effect, contents_after, after_step, IsOutcome}
-use Rattle.wopi_model.proofs.Ended.{stays-still, stays-with, ended-entry, ended-happens, refuses_ended}
+use Rattle.wopi_model.proofs.Ended.{stays-still, stays-with, ended-happens, refuses_ended}
 use Rattle.wopi_model.proofs.Replacing.{acceptance-status}
-use Rattle.wopi_model.proofs.Soundness.{Passes, passes, same_bytes}
+use Rattle.wopi_model.proofs.Soundness.{passes, same_bytes}
 use Rattle.wopi_world.specs.Foreign.{IsHeldOn, IsSaveUnder, LeavesHeld, SavesStand}
 use Rattle.wopi_world.proofs.Moving.{stepped}
 

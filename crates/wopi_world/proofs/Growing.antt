@@ -1,6 +1,6 @@
 -- What holds of one session beside a history, and that it goes on as the history grows, as requests of the session arrive, and as it sends
 -- and tells.
-use Rattle.std.proofs.Common.{◌≡◌, ◌≢◌, ◌⊎◌, ℕ, ◌+◌, ◌<◌, Bool, List, [], ◌∷◌, ◌++◌, length, Option, None, Some, unwrap_or, sym, ap, subst, ◌∙◌, inl, inr, arith}
+use Rattle.std.proofs.Common.{◌≡◌, ℕ, ◌+◌, Bool, List, [], ◌∷◌, ◌++◌, Option, None, Some, unwrap_or, sym, ap, subst, ◌∙◌, inl, inr, arith}
 use Rattle.std.proofs.lemmas.List.Elements.{Contains-append_left, Contains-push, Contains-push_cases}
 use Rattle.std.specs.List.{slice_get, Contains}
 use Rattle.wopi_model.specs.declared.calls.Ruling.{Ruling}
@@ -9,11 +9,10 @@ use Rattle.wopi_world.specs.History.{Item, Ran, IsAllowed, Along, happens, after
 use Rattle.wopi_world.proofs.Lengthening.{after-append, Along-append, Along-weaker}
 use Rattle.save_session.specs.declared.state.Phase.{Phase}
 use Rattle.save_session.specs.declared.output.Outcome.{Outcome}
-use Rattle.save_session.specs.declared.state.Waiting.{Waiting}
 use Rattle.save_session.specs.declared.state.State.{State}
 use Rattle.save_session.specs.declared.state.Phase.TheVariants.{New, Working, Ended}
 use Rattle.save_session.specs.declared.output.Outcome.TheVariants.{Opened, Read as WasRead, Saved, Refreshed, Closed, Conflict as InConflict, LockLost, TooLarge, HostFault, TokenDead, Gone, NoAnswer}
-use Rattle.wopi_world.specs.Requests.{sent_with, Sent, Info, TakeLock, Get, Put, Relock, RefreshLock, Unlock}
+use Rattle.wopi_world.specs.Requests.{Sent, Info, TakeLock, Get, Put, Relock, RefreshLock, Unlock}
 use Rattle.wopi_world.specs.Requests.{Client}
 use Rattle.wopi_world.specs.World.{Told}
 use Rattle.wopi_world.specs.Talks.{Speaker, Came}
@@ -22,7 +21,7 @@ use Rattle.wopi_world.proofs.Held.{same_holder, not_both}
 use Rattle.wopi_world.proofs.Moving.{own_file, IsUnder, IsGone, IsStaged, Moves, remains_out, taken, kept, saved, relocked, ended, ComesAt, staged-happens, gone-moves, HasMark, mark-happens, moves}
 use Rattle.wopi_world.proofs.OneRun.{WasUsed, used-push, used-new}
 use Rattle.wopi_world.proofs.Positions.{carries-moves, carried, saves_under, AtFirstSave, first_save_push, first_save_weaker}
-use Rattle.wopi_world.proofs.Lists.{get_left, get_new, get_back}
+use Rattle.wopi_world.proofs.Lists.{get_left, get_back}
 use Rattle.wopi_world.proofs.Machine.{WasHeldIn, HasOpened, IsFresh, WasSaved, OpHolds, ReplyHolds, OutcomeHolds, PhaseHolds, WaitHolds, told_with, Knows, IsSameAsSent, SendHolds, TellHolds}
 
 -- the history, as the session sees it
@@ -48,7 +47,7 @@ pub record Holds (client : Client) (start shard : Shard) (history : List Item) (
   pub knows : Knows client start shard history (Contains speaker.sent) speaker.told speaker.session
   pub saves_sent : SavesSent client start history speaker.sent
   pub came_holds : (one : Came) → Contains came one → ReplyHolds client start shard history one.sent one.ruling
-  pub told_holds : (place : ℕ) (one : Told) → slice_get speaker.told place ≡ Some one → OutcomeHolds client start shard history one.number one.contents one.outcome
+  pub told_holds : (place : ℕ) (one : Told) → slice_get speaker.told place ≡ Some one → OutcomeHolds client start shard history one.number one.saved one.contents one.outcome
   pub first : AtFirstSave client (OpenedWith client speaker.told) start history
 
 -- the history grows
@@ -71,7 +70,7 @@ was_held-moves client j shard item (ended m b a g h n x) (inl u) =
 pub record Later (client : Client) (start shard : Shard) (history : List Item) (next : Shard) (longer : List Item) : Type 0 where
   pub held : (j : ℕ) → WasHeldIn client j shard → WasHeldIn client j next
   pub fresh : (contents : List ℕ) → IsFresh client start shard history contents → IsFresh client start next longer contents
-  pub saved : (number : ℕ) (version : Option ℕ) → WasSaved client history number version → WasSaved client longer number version
+  pub saved : (number : ℕ) (contents : List ℕ) (version : Option ℕ) → WasSaved client history number contents version → WasSaved client longer number contents version
 
 pub Along-unpush : (P : Shard → Item → Type 0) (start : Shard) (history : List Item) (item : Item) → Along P start (history ++ item ∷ []) → Along P start history × P (after start history) item
 Along-unpush P start [] item h = (tt, h.0)
@@ -85,7 +84,7 @@ later-push client start shard history item mv =
       fresh = λ contents h none.
           let before = Along-unpush (λ at one. IsNoSave client one) start history item none in
           carries-moves client contents shard item mv before.1 (h before.0);
-      saved = λ number version h. (h.0, h.1, h.2, get_left history (item ∷ []) h.0 (Ran (Step h.1)) h.3, h.4, h.5);
+      saved = λ number contents version h. (h.0, h.1, get_left history (item ∷ []) h.0 (Ran (Step h.1)) h.2, h.3, h.4);
     }
 
 op-later : (client : Client) (start shard : Shard) (history : List Item) (next : Shard) (longer : List Item) → Later client start shard history next longer →
@@ -103,25 +102,25 @@ reply-later : (client : Client) (start shard : Shard) (history : List Item) (nex
 reply-later client start shard history next longer l Info reply h = h
 reply-later client start shard history next longer l TakeLock reply h = λ s. l.held 1 (h s)
 reply-later client start shard history next longer l Get reply h = λ s. l.fresh (unwrap_or reply.contents []) (h s)
-reply-later client start shard history next longer l (Put j d) reply h = λ s. l.saved j reply.version (h s)
+reply-later client start shard history next longer l (Put j d) reply h = λ s. l.saved j d reply.version (h s)
 reply-later client start shard history next longer l (Relock j) reply h = (λ s. l.held (j + 1) (h.0 s), λ s n. l.held (j + 1) (h.1 s n))
 reply-later client start shard history next longer l (RefreshLock j) reply h = h
 reply-later client start shard history next longer l (Unlock j) reply h = h
 
 outcome-later : (client : Client) (start shard : Shard) (history : List Item) (next : Shard) (longer : List Item) → Later client start shard history next longer →
-    (number : ℕ) (contents : List ℕ) (outcome : Outcome) → OutcomeHolds client start shard history number contents outcome → OutcomeHolds client start next longer number contents outcome
-outcome-later client start shard history next longer l number contents (Opened version) h = l.fresh contents h
-outcome-later client start shard history next longer l number contents (Saved version) h = l.saved number version h
-outcome-later client start shard history next longer l number contents (WasRead version) h = h
-outcome-later client start shard history next longer l number contents Refreshed h = h
-outcome-later client start shard history next longer l number contents Closed h = h
-outcome-later client start shard history next longer l number contents (InConflict lock reason) h = h
-outcome-later client start shard history next longer l number contents (LockLost lock reason) h = h
-outcome-later client start shard history next longer l number contents TooLarge h = h
-outcome-later client start shard history next longer l number contents (HostFault status) h = h
-outcome-later client start shard history next longer l number contents TokenDead h = h
-outcome-later client start shard history next longer l number contents Gone h = h
-outcome-later client start shard history next longer l number contents NoAnswer h = h
+    (number : ℕ) (put contents : List ℕ) (outcome : Outcome) → OutcomeHolds client start shard history number put contents outcome → OutcomeHolds client start next longer number put contents outcome
+outcome-later client start shard history next longer l number put contents (Opened version) h = l.fresh contents h
+outcome-later client start shard history next longer l number put contents (Saved version) h = l.saved number put version h
+outcome-later client start shard history next longer l number put contents (WasRead version) h = h
+outcome-later client start shard history next longer l number put contents Refreshed h = h
+outcome-later client start shard history next longer l number put contents Closed h = h
+outcome-later client start shard history next longer l number put contents (InConflict lock reason) h = h
+outcome-later client start shard history next longer l number put contents (LockLost lock reason) h = h
+outcome-later client start shard history next longer l number put contents TooLarge h = h
+outcome-later client start shard history next longer l number put contents (HostFault status) h = h
+outcome-later client start shard history next longer l number put contents TokenDead h = h
+outcome-later client start shard history next longer l number put contents Gone h = h
+outcome-later client start shard history next longer l number put contents NoAnswer h = h
 
 phase-later : (client : Client) (start shard : Shard) (history : List Item) (next : Shard) (longer : List Item) → Later client start shard history next longer →
     (told : List Told) (number : ℕ) (phase : Phase) → PhaseHolds client shard told number phase → PhaseHolds client next told number phase
@@ -162,12 +161,12 @@ holds-push client start shard history speaker came item h allowed comes sends =
       };
       saves_sent = Along-append (λ at one. (j : ℕ) (d : List ℕ) → IsSave client j d one → Contains speaker.sent (Put j d)) start history (item ∷ []) h.saves_sent (sends, tt);
       came_holds = λ one there. reply-later client start shard history next longer l one.sent one.ruling (h.came_holds one there);
-      told_holds = λ place one e. outcome-later client start shard history next longer l one.number one.contents one.outcome (h.told_holds place one e);
+      told_holds = λ place one e. outcome-later client start shard history next longer l one.number one.saved one.contents one.outcome (h.told_holds place one e);
       first = first_save_push client (OpenedWith client speaker.told) start history item h.first (λ none j d save.
           let op = h.knows.ops (Put j d) (sends j d save) in
           let opened : HasOpened speaker.told = op.3 in
           let fresh : IsFresh client start shard history opened.1.contents =
-          subst (OutcomeHolds client start shard history opened.1.number opened.1.contents) opened.4 (h.told_holds opened.0 opened.1 opened.3) in
+          subst (OutcomeHolds client start shard history opened.1.number opened.1.saved opened.1.contents) opened.4 (h.told_holds opened.0 opened.1 opened.3) in
           let found = carried client opened.1.contents shard j (saves_under client shard item j d mv save).before (fresh none) in
           (opened.0, opened.1, opened.2, opened.3, opened.4, subst (λ (x : Shard). contents_in client x ≡ Some opened.1.contents) (sym h.ground.is_after) found));
     }
@@ -236,11 +235,11 @@ holds-send client start shard history speaker came session op h sh =
 
 -- the session tells
 
-pub holds-tell : (client : Client) (start shard : Shard) (history : List Item) (speaker : Speaker) (came : List Came) (session : State) (outcome : Outcome) →
-    Holds client start shard history speaker came → TellHolds client start shard history (Contains speaker.sent) speaker.told session outcome →
-    Holds client start shard history (record { session = session; sent = speaker.sent; told = told_with speaker.told session outcome }) came
-holds-tell client start shard history speaker came session outcome h th =
-    let one : Told = record { number = session.number; outcome = outcome; contents = (unwrap_or session.contents []) } in
+pub holds-tell : (client : Client) (start shard : Shard) (history : List Item) (speaker : Speaker) (came : List Came) (put : List ℕ) (session : State) (outcome : Outcome) →
+    Holds client start shard history speaker came → TellHolds client start shard history (Contains speaker.sent) speaker.told put session outcome →
+    Holds client start shard history (record { session = session; sent = speaker.sent; told = told_with speaker.told put session outcome }) came
+holds-tell client start shard history speaker came put session outcome h th =
+    let one : Told = record { number = session.number; outcome = outcome; contents = (unwrap_or session.contents []); saved = put } in
     record {
       ground = h.ground;
       knows = record {
@@ -253,8 +252,8 @@ holds-tell client start shard history speaker came session outcome h th =
       came_holds = h.came_holds;
       told_holds = λ place other e. elim (get_back speaker.told one place other e) [
         | inl old ↦ h.told_holds place other old
-        | inr new ↦ subst (λ (x : Told). OutcomeHolds client start shard history x.number x.contents x.outcome) new.1 th.true_told
+        | inr new ↦ subst (λ (x : Told). OutcomeHolds client start shard history x.number x.saved x.contents x.outcome) new.1 th.true_told
       ];
-      first = first_save_weaker client (OpenedWith client speaker.told) (OpenedWith client (told_with speaker.told session outcome))
+      first = first_save_weaker client (OpenedWith client speaker.told) (OpenedWith client (told_with speaker.told put session outcome))
           (λ at p. (p.0, p.1, p.2, get_left speaker.told (one ∷ []) p.0 p.1 p.3, p.4, p.5)) start history h.first;
     }

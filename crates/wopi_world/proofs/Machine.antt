@@ -23,7 +23,7 @@ use Rattle.save_session.specs.declared.state.SessionOp.{SessionOp}
 use Rattle.save_session.specs.declared.state.SessionOp.TheVariants as op_of
 use Rattle.save_session.specs.declared.state.Turn.{Turn}
 use Rattle.wopi_world.specs.Requests.{Client, Wish, Start, Read, Save, Refresh, Close, input_of, sent_with, Sent, Info, TakeLock, Get, Put, Relock, RefreshLock, Unlock}
-use Rattle.save_session.specs.Session.{ignores, sends, tells, ends, has_next, relocks, puts, saves, settles_then, is_new_phase, is_new, is_working_phase, is_free, unanswered_while, unanswered, refused, was_read, continues_with, with_next, continues, names, says_spent, reply_to, answered_while, answered, stepped}
+use Rattle.save_session.specs.Session.{ignores, sends, tells, ends, has_next, relocks, puts, saves, settles_then, is_new_phase, is_new, is_working_phase, is_free, unanswered_while, unanswered, refused, was_read, continues_with, with_next, continues, names, says_spent, reply_to, answered_while, answered, stepped, contents_with, body_while, body_of}
 use Rattle.save_session.specs.declared.input.Input.{Input}
 use Rattle.save_session.specs.declared.input.Input.TheVariants as input
 use Rattle.wopi_world.specs.World.{Told}
@@ -43,9 +43,9 @@ HasOpened told = (place : ℕ) × (one : Told) × (version : Option ℕ) × (sli
 abbrev pub IsFresh : Client → Shard → Shard → List Item → List ℕ → Type 0
 IsFresh client start shard history contents = Along (λ at item. IsNoSave client item) start history → Carries client contents shard
 
-abbrev pub WasSaved : Client → List Item → ℕ → Option ℕ → Type 0
-WasSaved client history number version =
-    (at : ℕ) × (entry : Entry) × (contents : List ℕ) × (slice_get history at ≡ Some (Ran (Step entry))) × IsSave client number contents (Ran (Step entry)) × (entry.ruling.version ≡ version)
+abbrev pub WasSaved : Client → List Item → ℕ → List ℕ → Option ℕ → Type 0
+WasSaved client history number contents version =
+    (at : ℕ) × (entry : Entry) × (slice_get history at ≡ Some (Ran (Step entry))) × IsSave client number contents (Ran (Step entry)) × (entry.ruling.version ≡ version)
 
 -- what holds of each operation that was sent; number and used are the session's now
 abbrev pub OpHolds : Client → Shard → List Told → ℕ → Bool → Sent → Type 0
@@ -60,14 +60,14 @@ ReplyHolds client start shard history (Relock j) reply =
     (reply.status ≡ 200 → WasHeldIn client (j + 1) shard)
     × (reply.status ≡ 409 → names reply.lock (lock_id client.nonce (j + 1)) ≡ true → WasHeldIn client (j + 1) shard)
 ReplyHolds client start shard history Get reply = reply.status ≡ 200 → IsFresh client start shard history (unwrap_or reply.contents [])
-ReplyHolds client start shard history (Put j contents) reply = reply.status ≡ 200 → WasSaved client history j reply.version
+ReplyHolds client start shard history (Put j contents) reply = reply.status ≡ 200 → WasSaved client history j contents reply.version
 ReplyHolds client start shard history _ reply = Unit {0}
 
 -- what holds of each outcome that was told
-abbrev pub OutcomeHolds : Client → Shard → Shard → List Item → ℕ → List ℕ → Outcome → Type 0
-OutcomeHolds client start shard history number contents (Opened version) = IsFresh client start shard history contents
-OutcomeHolds client start shard history number contents (Saved version) = WasSaved client history number version
-OutcomeHolds client start shard history number contents _ = Unit {0}
+abbrev pub OutcomeHolds : Client → Shard → Shard → List Item → ℕ → List ℕ → List ℕ → Outcome → Type 0
+OutcomeHolds client start shard history number saved contents (Opened version) = IsFresh client start shard history contents
+OutcomeHolds client start shard history number saved contents (Saved version) = WasSaved client history number saved version
+OutcomeHolds client start shard history number saved contents _ = Unit {0}
 
 abbrev pub PhaseHolds : Client → Shard → List Told → ℕ → Phase → Type 0
 PhaseHolds client shard told number New = number ≡ 1
@@ -82,8 +82,8 @@ WaitHolds phase number (Put j contents) = (phase ≡ Working) × (j ≡ number)
 WaitHolds phase number (Relock j) = (phase ≡ Working) × (j ≡ number)
 WaitHolds phase number _ = Unit {0}
 
-abbrev pub told_with : List Told → State → Outcome → List Told
-told_with told session outcome = told ++ record { number = session.number; outcome = outcome; contents = (unwrap_or session.contents []) } ∷ []
+abbrev pub told_with : List Told → List ℕ → State → Outcome → List Told
+told_with told saved session outcome = told ++ record { number = session.number; outcome = outcome; contents = (unwrap_or session.contents []); saved = saved } ∷ []
 
 pub record Knows (client : Client) (start shard : Shard) (history : List Item) (sent : Sent → Type 0) (told : List Told) (session : State) : Type 0 where
   pub ops : (op : Sent) → sent op → OpHolds client shard told session.number session.used op
@@ -104,19 +104,19 @@ pub record SendHolds (client : Client) (start shard : Shard) (history : List Ite
   pub waits : (w : Waiting) → session.waits ≡ Some w → sent_with session.body w.op ≡ op
   pub waits_for : WaitHolds session.phase session.number op
 
-pub record TellHolds (client : Client) (start shard : Shard) (history : List Item) (sent : Sent → Type 0) (told : List Told) (session : State) (outcome : Outcome) : Type 0 where
-  pub ops : (o : Sent) → sent o → OpHolds client shard (told_with told session outcome) session.number session.used o
-  pub true_told : OutcomeHolds client start shard history session.number (unwrap_or session.contents []) outcome
-  pub phase : PhaseHolds client shard (told_with told session outcome) session.number session.phase
+pub record TellHolds (client : Client) (start shard : Shard) (history : List Item) (sent : Sent → Type 0) (told : List Told) (saved : List ℕ) (session : State) (outcome : Outcome) : Type 0 where
+  pub ops : (o : Sent) → sent o → OpHolds client shard (told_with told saved session outcome) session.number session.used o
+  pub true_told : OutcomeHolds client start shard history session.number saved (unwrap_or session.contents []) outcome
+  pub phase : PhaseHolds client shard (told_with told saved session outcome) session.number session.phase
   pub quiet : session.waits ≡ None
 
-abbrev pub OutputHolds : Client → Shard → Shard → List Item → (Sent → Type 0) → List Told → State → Effect → Type 0
-OutputHolds client start shard history sent told session (Sends op) = SendHolds client start shard history sent told session (sent_with session.body op)
-OutputHolds client start shard history sent told session (Tells outcome) = TellHolds client start shard history sent told session outcome
-OutputHolds client start shard history sent told session (Ignores input) = Unit {0}
+abbrev pub OutputHolds : Client → Shard → Shard → List Item → (Sent → Type 0) → List Told → List ℕ → State → Effect → Type 0
+OutputHolds client start shard history sent told saved session (Sends op) = SendHolds client start shard history sent told session (sent_with session.body op)
+OutputHolds client start shard history sent told saved session (Tells outcome) = TellHolds client start shard history sent told saved session outcome
+OutputHolds client start shard history sent told saved session (Ignores input) = Unit {0}
 
-abbrev pub TurnHolds : Client → Shard → Shard → List Item → (Sent → Type 0) → List Told → Turn → Type 0
-TurnHolds client start shard history sent told turn = OutputHolds client start shard history sent told turn.session turn.effect
+abbrev pub TurnHolds : Client → Shard → Shard → List Item → (Sent → Type 0) → List Told → List ℕ → Turn → Type 0
+TurnHolds client start shard history sent told saved turn = OutputHolds client start shard history sent told saved turn.session turn.effect
 
 opened_more : (told : List Told) (one : Told) → HasOpened told → HasOpened (told ++ one ∷ [])
 opened_more told one h = (h.0, h.1, h.2, get_left told (one ∷ []) h.0 h.1 h.3, h.4)
@@ -159,26 +159,26 @@ op_next client shard told number used again (Relock j) h = h
 op_next client shard told number used again (RefreshLock j) h = h
 op_next client shard told number used again (Unlock j) h = h
 
-module _ (client : Client) (start shard : Shard) (history : List Item) (sent : Sent → Type 0) (told : List Told) where
+module _ (client : Client) (start shard : Shard) (history : List Item) (sent : Sent → Type 0) (told : List Told) (saved : List ℕ) where
   abbrev Holds : Turn → Type 0
-  Holds turn = TurnHolds client start shard history sent told turn
+  Holds turn = TurnHolds client start shard history sent told saved turn
 
   abbrev Known : State → Type 0
   Known session = Knows client start shard history sent told session
 
-  tells_holds : (session : State) → Known session → (outcome : Outcome) → OutcomeHolds client start shard history session.number (unwrap_or session.contents []) outcome → Holds (tells session outcome)
+  tells_holds : (session : State) → Known session → (outcome : Outcome) → OutcomeHolds client start shard history session.number saved (unwrap_or session.contents []) outcome → Holds (tells session outcome)
   tells_holds session k outcome so =
       record {
-        ops = λ o s. op_more client shard told (record { number = session.number; outcome = outcome; contents = (unwrap_or session.contents []) }) session.number session.used o (k.ops o s);
+        ops = λ o s. op_more client shard told (record { number = session.number; outcome = outcome; contents = (unwrap_or session.contents []); saved = saved }) session.number session.used o (k.ops o s);
         true_told = so;
-        phase = phase_more client shard told (record { number = session.number; outcome = outcome; contents = (unwrap_or session.contents []) }) session.number session.phase k.phase;
+        phase = phase_more client shard told (record { number = session.number; outcome = outcome; contents = (unwrap_or session.contents []); saved = saved }) session.number session.phase k.phase;
         quiet = refl;
       }
 
-  ends_holds : (session : State) → Known session → (outcome : Outcome) → OutcomeHolds client start shard history session.number (unwrap_or session.contents []) outcome → Holds (ends session outcome)
+  ends_holds : (session : State) → Known session → (outcome : Outcome) → OutcomeHolds client start shard history session.number saved (unwrap_or session.contents []) outcome → Holds (ends session outcome)
   ends_holds session k outcome so =
       record {
-        ops = λ o s. op_more client shard told (record { number = session.number; outcome = outcome; contents = (unwrap_or session.contents []) }) session.number session.used o (k.ops o s);
+        ops = λ o s. op_more client shard told (record { number = session.number; outcome = outcome; contents = (unwrap_or session.contents []); saved = saved }) session.number session.used o (k.ops o s);
         true_told = so;
         phase = tt;
         quiet = refl;
@@ -325,16 +325,16 @@ module _ (client : Client) (start shard : Shard) (history : List Item) (sent : S
   read_only : (session : State) → Known session → (contents : Option (List ℕ)) (version : Option ℕ) → Holds (tells (record session { contents = contents }) (WasRead version))
   read_only session k contents version =
       record {
-        ops = λ o s. op_more client shard told (record { number = session.number; outcome = WasRead version; contents = unwrap_or contents [] }) session.number session.used o (k.ops o s);
+        ops = λ o s. op_more client shard told (record { number = session.number; outcome = WasRead version; contents = unwrap_or contents []; saved = saved }) session.number session.used o (k.ops o s);
         true_told = tt;
-        phase = phase_more client shard told (record { number = session.number; outcome = WasRead version; contents = unwrap_or contents [] }) session.number session.phase k.phase;
+        phase = phase_more client shard told (record { number = session.number; outcome = WasRead version; contents = unwrap_or contents []; saved = saved }) session.number session.phase k.phase;
         quiet = refl;
       }
 
   was_read_holds : (session : State) → Known session → session.phase ≢ Ended → sent Get → (goal : Goal) (reply : Answer) →
       IsFresh client start shard history reply.body → Holds (was_read session goal reply)
   was_read_holds session k not get ForStart reply fresh =
-      let one : Told = record { number = session.number; outcome = Opened reply.version; contents = reply.body } in
+      let one : Told = record { number = session.number; outcome = Opened reply.version; contents = reply.body; saved = saved } in
       let first : WasHeldIn client 1 shard = k.ops Get get in
       record {
         ops = λ o s. op_more client shard told one session.number session.used o (k.ops o s);
@@ -377,29 +377,30 @@ module _ (client : Client) (start shard : Shard) (history : List Item) (sent : S
       (λ e. relocked_holds session k working held goal reply) (λ e. tt)
 
   reply_holds : (session : State) → Known session → (goal : Goal) (op : SessionOp) (reply : Ruling) → WaitHolds session.phase session.number (sent_with session.body op) →
-      sent (sent_with session.body op) → ReplyHolds client start shard history (sent_with session.body op) reply → Holds (reply_to client.nonce session goal op (ruling_told reply))
-  reply_holds session k goal op_of.Info reply wait s r =
+      sent (sent_with session.body op) → ReplyHolds client start shard history (sent_with session.body op) reply → saved ≡ contents_with session.body op → Holds (reply_to client.nonce session goal op (ruling_told reply))
+  reply_holds session k goal op_of.Info reply wait s r is =
       cond_both (reply.status == 200) (sends session goal op_of.TakeLock) (refused session (ruling_told reply)) Holds
       (λ e. sends_holds session k goal op_of.TakeLock tt tt wait) (λ e. refused_holds session k reply)
-  reply_holds session k goal op_of.TakeLock reply wait s r =
+  reply_holds session k goal op_of.TakeLock reply wait s r is =
       cond_both (reply.status == 200) (sends session goal op_of.Get) (cond (reply.status == 409) (tells session (InConflict reply.lock reply.reason)) (refused session (ruling_told reply))) Holds
       (λ e. sends_holds session k goal op_of.Get (r (eqb-true reply.status 200 e)) tt wait)
       (λ e. cond_both (reply.status == 409) (tells session (InConflict reply.lock reply.reason)) (refused session (ruling_told reply)) Holds
       (λ e2. tells_holds session k (InConflict reply.lock reply.reason) tt) (λ e2. refused_holds session k reply))
-  reply_holds session k goal op_of.Get reply wait s r =
+  reply_holds session k goal op_of.Get reply wait s r is =
       cond_both (reply.status == 200) (was_read session goal (ruling_told reply)) (refused session (ruling_told reply)) Holds
       (λ e. let ok = eqb-true reply.status 200 e in
       was_read_holds session k wait s goal (ruling_told reply) (subst (IsFresh client start shard history) (sym (told_body reply (λ fault. omega (arith, ok, fault)))) (r ok)))
       (λ e. refused_holds session k reply)
-  reply_holds session k goal (op_of.Put j) reply wait s r =
+  reply_holds session k goal (op_of.Put j) reply wait s r is =
       cond_both (reply.status == 200) (tells session (Saved reply.version))
       (cond (reply.status == 409) (ends session (LockLost reply.lock reply.reason)) (cond (reply.status == 413) (tells session TooLarge) (refused session (ruling_told reply)))) Holds
-      (λ e. tells_holds session k (Saved reply.version) (subst (λ (n : ℕ). WasSaved client history n reply.version) wait.1 (r (eqb-true reply.status 200 e))))
+      (λ e. tells_holds session k (Saved reply.version) (subst (λ (c : List ℕ). WasSaved client history session.number c reply.version) (sym is)
+      (subst (λ (n : ℕ). WasSaved client history n (unwrap_or session.body []) reply.version) wait.1 (r (eqb-true reply.status 200 e)))))
       (λ e. cond_both (reply.status == 409) (ends session (LockLost reply.lock reply.reason)) (cond (reply.status == 413) (tells session TooLarge) (refused session (ruling_told reply))) Holds
       (λ e2. ends_holds session k (LockLost reply.lock reply.reason) tt)
       (λ e2. cond_both (reply.status == 413) (tells session TooLarge) (refused session (ruling_told reply)) Holds
       (λ e3. tells_holds session k TooLarge tt) (λ e3. refused_holds session k reply)))
-  reply_holds session k goal (op_of.Relock j) reply wait s r =
+  reply_holds session k goal (op_of.Relock j) reply wait s r is =
       let held : WasHeldIn client (j + 1) shard → WasHeldIn client (session.number + 1) shard = λ h. subst (λ (n : ℕ). WasHeldIn client (n + 1) shard) wait.1 h in
       let lost : Turn = ends session (LockLost reply.lock reply.reason) in
       let named : Bool = names reply.lock (lock_id client.nonce (session.number + 1)) in
@@ -414,12 +415,12 @@ module _ (client : Client) (start shard : Shard) (history : List Item) (sent : S
       (subst (λ (n : ℕ). names reply.lock (lock_id client.nonce (n + 1)) ≡ true) (sym wait.1) (and_parts (has_next session.number) named e3).1))) goal reply)
       (λ e3. ends_holds session k (LockLost reply.lock reply.reason) tt))
       (λ e2. refused_holds session k reply))
-  reply_holds session k goal (op_of.Refresh j) reply wait s r =
+  reply_holds session k goal (op_of.Refresh j) reply wait s r is =
       cond_both (reply.status == 200) (tells session Refreshed) (cond (reply.status == 409) (ends session (LockLost reply.lock reply.reason)) (refused session (ruling_told reply))) Holds
       (λ e. tells_holds session k Refreshed tt)
       (λ e. cond_both (reply.status == 409) (ends session (LockLost reply.lock reply.reason)) (refused session (ruling_told reply)) Holds
       (λ e2. ends_holds session k (LockLost reply.lock reply.reason) tt) (λ e2. refused_holds session k reply))
-  reply_holds session k goal (op_of.Unlock j) reply wait s r =
+  reply_holds session k goal (op_of.Unlock j) reply wait s r is =
       let lost : Turn = ends session (LockLost reply.lock reply.reason) in
       cond_both (reply.status == 200) (ends session Closed)
       (cond (reply.status == 409) (cond (says_spent reply.reason) (ends session Closed) lost) (refused session (ruling_told reply))) Holds
@@ -430,12 +431,13 @@ module _ (client : Client) (start shard : Shard) (history : List Item) (sent : S
       (λ e2. refused_holds session k reply))
 
   answered_while_holds : (waits : Option Waiting) (session : State) → Known session → session.waits ≡ waits → (reply : Ruling) →
-      ((w : Waiting) → session.waits ≡ Some w → ReplyHolds client start shard history (sent_with session.body w.op) reply) → Holds (answered_while client.nonce waits session (ruling_told reply))
-  answered_while_holds None session k e reply r = tt
-  answered_while_holds (Some w) session k e reply r =
+      ((w : Waiting) → session.waits ≡ Some w → ReplyHolds client start shard history (sent_with session.body w.op) reply) → saved ≡ body_while waits session.body →
+      Holds (answered_while client.nonce waits session (ruling_told reply))
+  answered_while_holds None session k e reply r is = tt
+  answered_while_holds (Some w) session k e reply r is =
       let wait = k.waits w e in
-      reply_holds session k w.goal w.op reply wait.0 wait.1 (r w e)
+      reply_holds session k w.goal w.op reply wait.0 wait.1 (r w e) is
 
   pub answered_holds : (session : State) → Known session → (reply : Ruling) →
-      ((w : Waiting) → session.waits ≡ Some w → ReplyHolds client start shard history (sent_with session.body w.op) reply) → Holds (answered client.nonce session (ruling_told reply))
-  answered_holds session k reply r = answered_while_holds session.waits session k refl reply r
+      ((w : Waiting) → session.waits ≡ Some w → ReplyHolds client start shard history (sent_with session.body w.op) reply) → saved ≡ body_of session → Holds (answered client.nonce session (ruling_told reply))
+  answered_holds session k reply r is = answered_while_holds session.waits session k refl reply r is

@@ -19,8 +19,8 @@ use Rattle.save_session.specs.declared.state.Waiting.{Waiting}
 use Rattle.save_session.specs.declared.input.Input.TheVariants.{Start, Save, Reply}
 use Rattle.save_session.specs.declared.output.Outcome.TheVariants.{Opened, Saved}
 use Rattle.wopi_world.specs.History.{Item, Ran, IsAllowed, Along}
-use Rattle.wopi_world.specs.Requests.{Client, Sent, Info, TakeLock, Get, Put, Relock, operation, call_of}
-use Rattle.wopi_world.specs.Talks.{LooksSame, Speaker, first_speaker, hears, told_by, Came, TalksOver, ends, prompted, answered, arrives, passes, IsTalkOver}
+use Rattle.wopi_world.specs.Requests.{Client, Sent, Info, TakeLock, Get, Put, Relock, call_of}
+use Rattle.wopi_world.specs.Talks.{Speaker, first_speaker, hears, told_by, Came, TalksOver, ends, prompted, answered, arrives, passes, IsTalkOver}
 use Rattle.wopi_world.proofs.Lists.{contains_at}
 use Rattle.wopi_world.proofs.Seeing.{looks_itself}
 
@@ -158,8 +158,8 @@ unfolding lock_id
 is_allowed = (inl refl, (inl refl, (inl refl, (inl refl, (inl refl, (inl refl, (inl refl, (inl refl, (inl refl, tt)))))))))
 
 tells : told_by client heard_0
-    ≡ record { number = 1; outcome = Opened (Some 1); contents = 49 ∷ [] }
-    ∷ (record { number = 1; outcome = Saved (Some 2); contents = 49 ∷ [] } ∷ (record { number = 2; outcome = Saved (Some 4); contents = 49 ∷ [] } ∷ []))
+    ≡ record { number = 1; outcome = Opened (Some 1); contents = 49 ∷ []; saved = [] }
+    ∷ (record { number = 1; outcome = Saved (Some 2); contents = 49 ∷ []; saved = 65 ∷ [] } ∷ (record { number = 2; outcome = Saved (Some 4); contents = 49 ∷ []; saved = 66 ∷ [] } ∷ []))
 unfolding lock_id
 tells = refl
 

@@ -2,7 +2,7 @@
 use Rattle.std.proofs.Common.{◌≡◌, ◌≢◌, ◌⊎◌, ℕ, ◌+◌, ◌<◌, max, true, false, cond, List, [], ◌∷◌, ◌++◌, length, map, Option, None, Some, refl, sym, ap, subst, ◌∙◌, inl, inr, arith}
 use Rattle.std.proofs.lemmas.List.{append_assoc, append-nil}
 use Rattle.std.specs.Str.{bytes_eq}
-use Rattle.std.specs.List.{slice_get, Contains}
+use Rattle.std.specs.List.{Contains}
 use Rattle.wopi_model.specs.declared.calls.Act.{Act}
 use Rattle.wopi_model.specs.declared.calls.Act.TheVariants as act
 use Rattle.wopi_model.specs.declared.calls.Call.{Call}
@@ -26,9 +26,9 @@ use Rattle.save_session.specs.declared.state.Waiting.{Waiting}
 use Rattle.save_session.specs.declared.state.Effect.{Effect}
 use Rattle.save_session.specs.declared.state.Effect.TheVariants.{Sends, Tells, Ignores}
 use Rattle.save_session.specs.declared.state.Turn.{Turn}
-use Rattle.save_session.specs.Session.{stepped}
+use Rattle.save_session.specs.Session.{stepped, body_of}
 use Rattle.wopi_world.specs.History.{Item, Ran, Restarted, IsAllowed, Along, happens, after}
-use Rattle.wopi_world.specs.Requests.{Client, Start, Read, Save, Refresh, Close, Sent, Info, TakeLock, Get, Put, Relock, RefreshLock, Unlock, sent_with, act_sent, call_of, PresentsNone}
+use Rattle.wopi_world.specs.Requests.{Client, Start, Read, Save, Refresh, Close, Sent, Info, TakeLock, Get, Put, Relock, RefreshLock, Unlock, sent_with, act_sent, call_of}
 use Rattle.wopi_world.specs.World.{Told}
 use Rattle.wopi_world.specs.Safe.{IsSave, SavesAreOrdered}
 use Rattle.wopi_world.specs.Sessions.{IsDead}
@@ -152,7 +152,7 @@ ordered client start shard history speaker came h =
           let there = Along-split (λ at item. (j : ℕ) (d : List ℕ) → IsSave client j d item → Contains speaker.sent (Put j d)) (happens (after start first) p) middle (q ∷ last) here.1 in
           replaced_lem client start first middle last p q i c (rw e moved) (λ d b. h.knows.same i c d (here.0 i c a) (there.0 i d b)) a keeps differs;
       over = λ first last p e end. over_lem client start first last p (rw e moved) end;
-      acknowledged = λ place one version e saved. subst (OutcomeHolds client start shard history one.number one.contents) saved (h.told_holds place one e);
+      acknowledged = λ place one version e saved. subst (OutcomeHolds client start shard history one.number one.saved one.contents) saved (h.told_holds place one e);
       upon_save = λ first middle last p q i j c d e a none b. upon_save_lem client start first middle last p q i j c d (rw e moved) a none b;
       upon_open = λ first last q j d e none b. first_save_at client (OpenedWith client speaker.told) start first last q j d (rw e h.first) none b;
     }
@@ -161,29 +161,29 @@ module _ (client : Client) (start : Shard) where
   -- turns
 
   kept-does : (shard : Shard) (history : List Item) (speaker : Speaker) (came : List Came) (session : State) (effect : Effect) → Holds client start shard history speaker came →
-      OutputHolds client start shard history (Contains speaker.sent) speaker.told session effect → Holds client start shard history (does speaker session effect) came
+      OutputHolds client start shard history (Contains speaker.sent) speaker.told (body_of speaker.session) session effect → Holds client start shard history (does speaker session effect) came
   kept-does shard history speaker came session (Sends asked) h o = holds-send client start shard history speaker came session (sent_with session.body asked) h o
-  kept-does shard history speaker came session (Tells outcome) h o = holds-tell client start shard history speaker came session outcome h o
+  kept-does shard history speaker came session (Tells outcome) h o = holds-tell client start shard history speaker came (body_of speaker.session) session outcome h o
   kept-does shard history speaker came session (Ignores given) h o = h
 
   output_same : (shard : Shard) (history : List Item) (sent : Sent → Type 0) (speaker : Speaker) (one other : State) (effect effect' : Effect) → one ≡ other → IsSameEffect effect effect' →
-      OutputHolds client start shard history sent speaker.told other effect' → OutputHolds client start shard history sent speaker.told one effect
+      OutputHolds client start shard history sent speaker.told (body_of speaker.session) other effect' → OutputHolds client start shard history sent speaker.told (body_of speaker.session) one effect
   output_same shard history sent speaker one other (Sends asked) (Sends asked') e f h =
-      subst (λ (s : State). OutputHolds client start shard history sent speaker.told s (Sends asked)) (sym e)
-      (subst (λ (o : SessionOp). OutputHolds client start shard history sent speaker.told other (Sends o)) (sym f) h)
+      subst (λ (s : State). OutputHolds client start shard history sent speaker.told (body_of speaker.session) s (Sends asked)) (sym e)
+      (subst (λ (o : SessionOp). OutputHolds client start shard history sent speaker.told (body_of speaker.session) other (Sends o)) (sym f) h)
   output_same shard history sent speaker one other (Sends asked) (Tells told) e f h = absurd f
   output_same shard history sent speaker one other (Sends asked) (Ignores given) e f h = absurd f
   output_same shard history sent speaker one other (Tells told) (Sends asked) e f h = absurd f
   output_same shard history sent speaker one other (Tells told) (Tells told') e f h =
-      subst (λ (s : State). OutputHolds client start shard history sent speaker.told s (Tells told)) (sym e)
-      (subst (λ (o : Outcome). OutputHolds client start shard history sent speaker.told other (Tells o)) (sym f) h)
+      subst (λ (s : State). OutputHolds client start shard history sent speaker.told (body_of speaker.session) s (Tells told)) (sym e)
+      (subst (λ (o : Outcome). OutputHolds client start shard history sent speaker.told (body_of speaker.session) other (Tells o)) (sym f) h)
   output_same shard history sent speaker one other (Tells told) (Ignores given) e f h = absurd f
   output_same shard history sent speaker one other (Ignores given) (Sends asked) e f h = absurd f
   output_same shard history sent speaker one other (Ignores given) (Tells told) e f h = absurd f
   output_same shard history sent speaker one other (Ignores given) (Ignores given') e f h = tt
 
   kept-turns : (shard : Shard) (history : List Item) (speaker : Speaker) (came : List Came) (turn other : Turn) → Holds client start shard history speaker came → IsSameTurn turn other →
-      TurnHolds client start shard history (Contains speaker.sent) speaker.told other → Holds client start shard history (turns speaker turn) came
+      TurnHolds client start shard history (Contains speaker.sent) speaker.told (body_of speaker.session) other → Holds client start shard history (turns speaker turn) came
   kept-turns shard history speaker came turn other h same holds =
       kept-does shard history speaker came turn.session turn.effect h
       (output_same shard history (Contains speaker.sent) speaker turn.session other.session turn.effect other.effect same.session same.effect holds)
@@ -195,28 +195,28 @@ module _ (client : Client) (start : Shard) where
   kept-asked shard history speaker came input.Start h none =
       let turn = stepped client.nonce speaker.session input.Start in
       kept-does shard history speaker came turn.session turn.effect h
-      (asked_holds client start shard history (Contains speaker.sent) speaker.told speaker.session h.knows Start)
+      (asked_holds client start shard history (Contains speaker.sent) speaker.told (body_of speaker.session) speaker.session h.knows Start)
   kept-asked shard history speaker came input.Read h none =
       let turn = stepped client.nonce speaker.session input.Read in
       kept-does shard history speaker came turn.session turn.effect h
-      (asked_holds client start shard history (Contains speaker.sent) speaker.told speaker.session h.knows Read)
+      (asked_holds client start shard history (Contains speaker.sent) speaker.told (body_of speaker.session) speaker.session h.knows Read)
   kept-asked shard history speaker came (input.Save contents) h none =
       let turn = stepped client.nonce speaker.session (input.Save contents) in
       kept-does shard history speaker came turn.session turn.effect h
-      (asked_holds client start shard history (Contains speaker.sent) speaker.told speaker.session h.knows (Save contents))
+      (asked_holds client start shard history (Contains speaker.sent) speaker.told (body_of speaker.session) speaker.session h.knows (Save contents))
   kept-asked shard history speaker came input.Refresh h none =
       let turn = stepped client.nonce speaker.session input.Refresh in
       kept-does shard history speaker came turn.session turn.effect h
-      (asked_holds client start shard history (Contains speaker.sent) speaker.told speaker.session h.knows Refresh)
+      (asked_holds client start shard history (Contains speaker.sent) speaker.told (body_of speaker.session) speaker.session h.knows Refresh)
   kept-asked shard history speaker came input.Close h none =
       let turn = stepped client.nonce speaker.session input.Close in
       kept-does shard history speaker came turn.session turn.effect h
-      (asked_holds client start shard history (Contains speaker.sent) speaker.told speaker.session h.knows Close)
+      (asked_holds client start shard history (Contains speaker.sent) speaker.told (body_of speaker.session) speaker.session h.knows Close)
   kept-asked shard history speaker came (input.Reply answer) h none = absurd none
   kept-asked shard history speaker came input.NoAnswer h none =
       let turn = stepped client.nonce speaker.session input.NoAnswer in
       kept-does shard history speaker came turn.session turn.effect h
-      (unanswered_holds client start shard history (Contains speaker.sent) speaker.told speaker.session h.knows)
+      (unanswered_holds client start shard history (Contains speaker.sent) speaker.told (body_of speaker.session) speaker.session h.knows)
 
   -- an answer that looks like the one that tells a ruling which holds
   kept-told : (shard : Shard) (history : List Item) (speaker : Speaker) (came : List Came) (answer : Answer) (ruling : Ruling) → Holds client start shard history speaker came →
@@ -227,7 +227,7 @@ module _ (client : Client) (start : Shard) where
   kept-told shard history speaker came answer ruling h f =
       kept-turns shard history speaker came (stepped client.nonce speaker.session (input.Reply answer)) (stepped client.nonce speaker.session (input.Reply (ruling_told ruling))) h
       (same speaker.session.waits refl)
-      (answered_holds client start shard history (Contains speaker.sent) speaker.told speaker.session h.knows ruling (λ w e. (f w e).0))
+      (answered_holds client start shard history (Contains speaker.sent) speaker.told (body_of speaker.session) speaker.session h.knows ruling (λ w e. (f w e).0) refl)
     where
       same : (waits : Option Waiting) → speaker.session.waits ≡ waits →
           IsSameTurn (stepped client.nonce speaker.session (input.Reply answer)) (stepped client.nonce speaker.session (input.Reply (ruling_told ruling)))
@@ -299,7 +299,6 @@ module _ (client : Client) (start : Shard) where
   own_reply shard history speaker came (Put j d) stamp pass moment ruling allowed was h = λ status. (
     length history,
     entry_by stamp pass moment (Put j d) ruling,
-    d,
     get_new history (Ran (Step (entry_by stamp pass moment (Put j d) ruling))),
     (refl, refl, status),
     refl,

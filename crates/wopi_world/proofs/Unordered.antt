@@ -62,10 +62,10 @@ unfolding lock_id
 is_allowed = (inl refl, (inl refl, (inl refl, (inl refl, (inl refl, tt)))))
 
 abbrev opened : Told
-opened = record { number = 1; outcome = Opened (Some 1); contents = 49 ∷ [] }
+opened = record { number = 1; outcome = Opened (Some 1); contents = 49 ∷ []; saved = [] }
 
 abbrev saved : Told
-saved = record { number = 1; outcome = Saved (Some 3); contents = 49 ∷ [] }
+saved = record { number = 1; outcome = Saved (Some 3); contents = 49 ∷ []; saved = 65 ∷ [] }
 
 tells : told_by client heard ≡ opened ∷ (saved ∷ [])
 unfolding lock_id

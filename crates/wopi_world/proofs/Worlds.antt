@@ -1,5 +1,5 @@
 -- Each session of a valid world is a talk over the world's history, and so every valid world is safe.
-use Rattle.std.proofs.Common.{◌≡◌, ◌≢◌, ◌⊎◌, ◌==◌, ℕ, ◌+◌, ◌<◌, Bool, true, false, cond, List, [], ◌∷◌, ◌++◌, length, Option, None, Some, unwrap_or, refl, sym, ap, subst, ◌∙◌, inl, inr, arith}
+use Rattle.std.proofs.Common.{◌≡◌, ◌≢◌, ◌⊎◌, ◌==◌, ℕ, ◌<◌, Bool, true, cond, List, [], ◌∷◌, ◌++◌, length, Option, None, Some, unwrap_or, refl, sym, ap, subst, ◌∙◌, inl, inr, arith}
 use Rattle.std.proofs.lemmas.Bool.{cond_both, cases_eq, eqb-true, eq-eqb, ne_eqb}
 use Rattle.std.proofs.lemmas.List.{append_assoc, append-nil, length-append}
 use Rattle.std.proofs.lemmas.List.Elements.{Contains-append_left, Contains-push}
@@ -8,13 +8,10 @@ use Rattle.std.specs.List.{slice_get, AllByRecursion, Contains}
 use Rattle.wopi_model.specs.declared.calls.Call.{Call}
 use Rattle.wopi_model.specs.declared.calls.Ruling.{Ruling}
 use Rattle.wopi_model.specs.Step.{bare}
-use Rattle.wopi_model.specs.Safety.{Presents}
 use Rattle.wopi_model.specs.Shard.{Shard, Tick}
 use Rattle.wopi_model.proofs.Replacing.{keeps_contents}
 use Rattle.wopi_model.proofs.Conflicts.{tells_why}
-use Rattle.wopi_headers.specs.declared.answer.Answer.{Answer}
 use Rattle.wopi_acts.specs.Answers.{ruling_told}
-use Rattle.save_session.specs.LockIds.{lock_id}
 use Rattle.save_session.specs.declared.input.Input.{Input}
 use Rattle.save_session.specs.declared.input.Input.TheVariants.{Reply as Replies, NoAnswer}
 use Rattle.save_session.specs.declared.state.SessionOp.{SessionOp}
@@ -23,13 +20,13 @@ use Rattle.save_session.specs.declared.state.Waiting.{Waiting}
 use Rattle.save_session.specs.declared.state.Effect.{Effect}
 use Rattle.save_session.specs.declared.state.Effect.TheVariants.{Sends, Tells, Ignores}
 use Rattle.save_session.specs.declared.state.Turn.{Turn}
-use Rattle.save_session.specs.Session.{stepped}
-use Rattle.wopi_world.specs.History.{Item, Ran, Restarted, IsAllowed, Along}
+use Rattle.save_session.specs.Session.{stepped, body_of}
+use Rattle.wopi_world.specs.History.{Item, Ran, Restarted, IsAllowed}
 use Rattle.wopi_world.specs.Requests.{Client, Wish, Start, Read, Save, Refresh, Close, input_of, sent_with, call_of, Sent, PresentsNone}
 use Rattle.wopi_world.specs.World.{Setting, Request, Reply, Told, Member, World, first_shard, first_world, Event, Asks, Deliver, Answer as Answers, Lose, Foreign, Ticks, Entry, Restarts, Fault, Refused, next_first, ruling_in, item_of, with_item, enters, delivered_by, delivered, replied, Ask, Unread, One, Copy, asks_one, is_taken, tries, foreign, takes, turns, for_client, is_asked, answers_sender, answers_place, answers, refuses, comes, run_from, run}
 use Rattle.wopi_world.specs.Valid.{IsOfNoSession, AskIsOfNoSession, IsValidEvent, AreValid, IsValid}
-use Rattle.wopi_world.specs.Safe.{SavesAreOrdered, KeepsAll, TellsAll, IsSafe}
-use Rattle.wopi_world.specs.Sessions.{KeepsIds, IsUse}
+use Rattle.wopi_world.specs.Safe.{KeepsAll, TellsAll, IsSafe}
+use Rattle.wopi_world.specs.Sessions.{KeepsIds}
 use Rattle.wopi_world.specs.Talks.{Speaker, first_speaker, does, hears, hears_all, told_by, Awaits, Came, IsNoReply, IsOfOthers, TalksOver, IsTalkOver, RestartsLater, IsSafeFor}
 use Rattle.wopi_world.specs.Talks as talk
 use Rattle.wopi_world.proofs.Lists.{get_left, get_new, get_back}
@@ -153,13 +150,13 @@ agrees-send s requests replies member speaker came session asked h waits =
     }
 
 -- the session tells
-agrees-tell : (s : ℕ) (requests : List Request) (replies : List Reply) (member : Member) (speaker : Speaker) (came : List Came) (session : State) (one : Told) →
+agrees-tell : (s : ℕ) (requests : List Request) (replies : List Reply) (member : Member) (speaker : Speaker) (came : List Came) (session : State) (one other : Told) → one ≡ other →
     Agrees s requests replies member speaker came →
-    Agrees s requests replies (record { session = session; asked = None; told = member.told ++ one ∷ [] }) (record { session = session; sent = speaker.sent; told = speaker.told ++ one ∷ [] }) came
-agrees-tell s requests replies member speaker came session one h =
+    Agrees s requests replies (record { session = session; asked = None; told = member.told ++ one ∷ [] }) (record { session = session; sent = speaker.sent; told = speaker.told ++ other ∷ [] }) came
+agrees-tell s requests replies member speaker came session one other same h =
     record {
       session_is = refl;
-      told_is = ap (λ (l : List Told). l ++ one ∷ []) h.told_is;
+      told_is = ap (λ (l : List Told). l ++ one ∷ []) h.told_is ∙ ap (λ (x : Told). speaker.told ++ x ∷ []) same;
       was_sent = h.was_sent;
       asked = λ r e. cc;
       replied = h.replied;
@@ -255,10 +252,11 @@ module _ (setting : Setting) (client : Client) (s : ℕ) where
       subst (λ (b : Bool). Agrees s (world.requests ++ record { sender = s; op = sent_with session.body asked } ∷ []) world.replies (cond b member (world.members s)) (does speaker session (Sends asked)) came)
       (sym (eq-eqb s s refl)) (agrees-send s world.requests world.replies (world.members s) speaker came session asked h waits)
   own_takes world speaker came session (Tells outcome) h waits =
-      let one : Told = record { number = session.number; outcome = outcome; contents = (unwrap_or session.contents []) } in
+      let told_after : State → Told = λ before. record { number = session.number; outcome = outcome; contents = (unwrap_or session.contents []); saved = body_of before } in
+      let one : Told = told_after (world.members s).session in
       let member : Member = record { session = session; asked = None; told = (world.members s).told ++ one ∷ [] } in
       subst (λ (b : Bool). Agrees s world.requests world.replies (cond b member (world.members s)) (does speaker session (Tells outcome)) came)
-      (sym (eq-eqb s s refl)) (agrees-tell s world.requests world.replies (world.members s) speaker came session one h)
+      (sym (eq-eqb s s refl)) (agrees-tell s world.requests world.replies (world.members s) speaker came session one (told_after speaker.session) (ap told_after h.session_is) h)
   own_takes world speaker came session (Ignores input) h waits = h
 
   own_turns : (world : World) (speaker : Speaker) (came : List Came) (input : Input) → In world speaker came →
@@ -284,7 +282,7 @@ module _ (setting : Setting) (client : Client) (s : ℕ) where
       let member : Member = record {
         session = session;
         asked = None;
-        told = (world.members t).told ++ record { number = session.number; outcome = outcome; contents = (unwrap_or session.contents []) } ∷ [];
+        told = (world.members t).told ++ record { number = session.number; outcome = outcome; contents = (unwrap_or session.contents []); saved = body_of (world.members t).session } ∷ [];
       } in
       subst (λ (b : Bool). Agrees s world.requests world.replies (cond b member (world.members s)) speaker came)
       (sym (ne_eqb s t (λ e. apart (sym e)))) h

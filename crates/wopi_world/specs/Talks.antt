@@ -14,7 +14,7 @@ use Rattle.save_session.specs.declared.state.Waiting.{Waiting}
 use Rattle.save_session.specs.declared.state.Effect.{Effect}
 use Rattle.save_session.specs.declared.state.Effect.TheVariants.{Sends, Tells, Ignores}
 use Rattle.save_session.specs.declared.state.Turn.{Turn}
-use Rattle.save_session.specs.Session.{new_session, stepped}
+use Rattle.save_session.specs.Session.{new_session, stepped, body_of}
 use Rattle.wopi_world.specs.History.{Item, Ran, Restarted}
 use Rattle.wopi_world.specs.Requests.{Client, Sent, sent_with, call_of, PresentsNone}
 use Rattle.wopi_world.specs.World.{Told}
@@ -48,7 +48,7 @@ does speaker session (Tells outcome) =
     record {
       session = session;
       sent = speaker.sent;
-      told = speaker.told ++ record { number = session.number; outcome = outcome; contents = (unwrap_or session.contents []) } ∷ [];
+      told = speaker.told ++ record { number = session.number; outcome = outcome; contents = (unwrap_or session.contents []); saved = body_of speaker.session } ∷ [];
     }
 does speaker session (Ignores input) = speaker
 

@@ -16,7 +16,7 @@ use Rattle.save_session.specs.declared.state.Effect.{Effect}
 use Rattle.save_session.specs.declared.state.Effect.TheVariants.{Sends, Tells, Ignores}
 use Rattle.save_session.specs.declared.state.Turn.{Turn}
 use Rattle.save_session.specs.declared.input.Input.TheVariants.{Reply as Replies, NoAnswer}
-use Rattle.save_session.specs.Session.{new_session, stepped}
+use Rattle.save_session.specs.Session.{new_session, stepped, body_of}
 use Rattle.wopi_world.specs.History.{Item, Ran, Restarted, last_run, happens, opening_names, names_after, greatest}
 use Rattle.wopi_world.specs.Requests.{Client, Wish, Sent, input_of, sent_with, call_of}
 
@@ -38,11 +38,13 @@ pub record Reply : Type 0 where
   pub after : ℕ
   pub ruling : Ruling
 
--- an outcome, the session's number then, and the contents that it had read last
+-- An outcome, the session's number then, the contents that it had read last, and those that the Put carried for whose answer it waited: none
+-- where it waited for no Put.
 pub record Told : Type 0 where
   pub number : ℕ
   pub outcome : Outcome
   pub contents : List ℕ
+  pub saved : List ℕ
 
 -- a session, the place of the request that it waits for, and what it told
 pub record Member : Type 0 where
@@ -175,7 +177,7 @@ takes world s member session (Tells outcome) =
     with_member world s (record {
       session = session;
       asked = None;
-      told = member.told ++ record { number = session.number; outcome = outcome; contents = (unwrap_or session.contents []) } ∷ [];
+      told = member.told ++ record { number = session.number; outcome = outcome; contents = (unwrap_or session.contents []); saved = body_of member.session } ∷ [];
     })
 takes world s member session (Ignores input) = world
 

@@ -19,7 +19,7 @@ ghost use Rattle.wopi_world.specs.Talks.{IsTalkOver, RestartsLater, IsSafeFor, t
 /// In a valid world, whatever is delivered, lost, repeated, delayed or expires, non-empty contents
 /// change only under the lock that is held or, where none is, by a Create that overwrites or a
 /// Delete; and what was acknowledged to a session is replaced only by its later save, or after its
-/// lock has ended.
+/// lock has ended. What was told as saved was accepted with the contents that its Put carried.
 pub fn safe_always()
     ensures { (setting : Setting) (events : List Event) → IsValid setting events → IsSafe setting (run setting events) }
 {}
@@ -78,8 +78,9 @@ pub fn counted_entries_run()
 {}
 
 /// Where the inputs that a session heard and the items of a legal history stand in an order that is
-/// true of time, the history is safe for the session: what it told as saved was accepted with that
-/// version, and is replaced only by its later save or after its lock ended, never by its earlier one.
+/// true of time, the history is safe for the session: what it told as saved was accepted with the
+/// contents that its Put carried and that version, and these contents are replaced only by its later
+/// save or after its lock ended, never by its earlier one.
 pub fn talks_are_safe()
     ensures { (opening : Opening) (opened first : ℕ) (client : Client) (heard : List Input) (history : List world.Item) →
         world.Legal opening opened first history → RestartsLater client history → IsTalkOver client heard history →
