@@ -48,3 +48,32 @@ never_had text name version lines None same stood given = λ contents had. elim 
   | inl there ↦ stood contents there
   | inr one ↦ given contents (subst (λ (l : List Line). IsGiven name version l contents) (sym same) one.1)
 ]
+
+-- ---- one version, one contents
+
+module _ (name : List ℕ) (version : ℕ) where
+  first_gives : (before other : List Line) (line one : Line) (after behind : List Line) (contents others : List ℕ) → before ++ line ∷ after ≡ other ++ one ∷ behind →
+      AllByRecursion (GivesNone name version) before → AllByRecursion (GivesNone name version) other → Gives name version line contents → Gives name version one others →
+      contents ≡ others
+  first_gives [] [] line one after behind contents others same none nor a b =
+      let is : line ≡ one = cc same in
+      let told : Some contents ≡ Some others = sym a.contents_are ∙ ap (λ (l : Line). l.contents) is ∙ b.contents_are in
+      cc told
+  first_gives [] (x ∷ other) line one after behind contents others same none nor a b =
+      let is : line ≡ x = cc same in
+      absurd (nor.0 contents (subst (λ (l : Line). Gives name version l contents) is a))
+  first_gives (x ∷ before) [] line one after behind contents others same none nor a b =
+      let is : one ≡ x = cc same in
+      absurd (none.0 others (subst (λ (l : Line). Gives name version l others) is b))
+  first_gives (x ∷ before) (y ∷ other) line one after behind contents others same none nor a b =
+      let rest : before ++ line ∷ after ≡ other ++ one ∷ behind = cc same in
+      first_gives before other line one after behind contents others rest none.1 nor.1 a b
+
+  pub one_contents : (text : JournalText) (contents others : List ℕ) → HadContents text name version contents → HadContents text name version others → contents ≡ others
+  one_contents text contents others (inl a) (inl b) = let same : Some contents ≡ Some others = sym a.1 ∙ b.1 in cc same
+  one_contents text contents others (inl a) (inr b) = absurd (b.0 contents a)
+  one_contents text contents others (inr a) (inl b) = absurd (a.0 others b)
+  one_contents text contents others (inr a) (inr b) =
+      let x = a.1 in
+      let y = b.1 in
+      first_gives x.before y.before x.line y.line x.after y.after contents others (sym x.lines_are ∙ y.lines_are) x.first y.first x.gives y.gives
