@@ -8,3 +8,4 @@ mod Merges
 mod Hosts
 mod Ordering
 mod Auditing
+mod Givings

@@ -7,3 +7,4 @@ pub mod Tracks
 pub mod Orders
 pub mod Audits
 pub mod Merges
+pub mod Contents

@@ -9,6 +9,7 @@ ghost use Rattle.journal_text.specs.declared.text.JournalText.{JournalText};
 ghost use Rattle.journal_text.specs.declared.text.Line.{Line};
 ghost use Rattle.journal_text.specs.Told.{line_of, told_by};
 ghost use Rattle.journal_audit.specs.declared.verdict.AuditFault.{AuditFault};
+ghost use Rattle.journal_audit.specs.Contents.{HadContents};
 ghost use Rattle.journal_audit.specs.Lines.{Begun, IsBadLine, KeepsBounds, LegalLines, LegalText, behind_lines};
 ghost use Rattle.journal_audit.specs.Merges.{GoesOn, IsOfHost, IsSafe};
 ghost use Rattle.journal_audit.specs.Tracks.{IsSound};
@@ -48,4 +49,9 @@ pub fn journals_are_legal<F: Folder>()
 /// Each 409 in it tells the lock that stands, and a reason that holds.
 pub fn legal_texts_are_safe()
     ensures { (text : JournalText) (made : List Made) → IsOfHost text made → IsSafe text.files text.opened text.first made }
+{}
+
+/// A file had one contents at a version, whatever journal it is.
+pub fn a_version_has_one_contents()
+    ensures { (text : JournalText) (name : List ℕ) (version : ℕ) (contents others : List ℕ) → HadContents text name version contents → HadContents text name version others → contents ≡ others }
 {}

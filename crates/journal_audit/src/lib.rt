@@ -1,7 +1,8 @@
-//! Journals, judged by the rules of a host.
+//! Journals, judged by the rules of a host, and the contents that they keep.
 #![tactic(auto)]
 
 mod auditor;
+mod contents;
 mod file;
 mod judging;
 pub mod laws;
@@ -11,6 +12,7 @@ mod track;
 mod verdict;
 
 pub use auditor::{Auditor, audit};
+pub use contents::contents_at;
 pub use file::KnownFile;
 pub use track::Track;
 pub use verdict::{AuditFault, Verdict};

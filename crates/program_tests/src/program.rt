@@ -1,5 +1,6 @@
 //! The program over fakes in memory: each request and its reply to the byte.
 mod answers;
+mod audits;
 mod chunks;
 mod containers;
 mod demos;

@@ -19,5 +19,9 @@ pub mod Edit
 pub mod ReplayWords
 pub mod Replay
 pub mod Upgrade
+pub mod JournalRuns
+pub mod Audit
+pub mod ContentsWords
+pub mod Contents
 pub mod Asking
 pub mod BothEnds

@@ -12,6 +12,8 @@ use Rattle.wopi_program.specs.Replay.{ReplayEnds}
 use Rattle.wopi_program.specs.ServeEnds.{ServeEnds}
 use Rattle.wopi_program.specs.Token.{TokenEnds}
 use Rattle.wopi_program.specs.Upgrade.{UpgradeEnds}
+use Rattle.wopi_program.specs.Audit.{AuditEnds}
+use Rattle.wopi_program.specs.Contents.{ContentsEnds}
 
 -- how a run of a command ends, with which status and what it leaves
 abbrev pub RunEnds : {S K F N D C L : Type 0} → Meanings S K F N D C L → List (List ℕ) → ℕ → Outside S K F N D C → Outside S K F N D C → Command → Type 0
@@ -24,3 +26,5 @@ RunEnds m words status old new command.Replay = ReplayEnds m words status old ne
 RunEnds m words status old new command.Token = TokenEnds m words status old new
 RunEnds m words status old new command.Ctoken = CtokenEnds m words status old new
 RunEnds m words status old new command.Upgrade = UpgradeEnds m status old new
+RunEnds m words status old new command.Audit = AuditEnds m status old new
+RunEnds m words status old new command.Contents = ContentsEnds m words status old new

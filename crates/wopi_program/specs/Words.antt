@@ -6,6 +6,7 @@ use Rattle.host_server.specs.Bases.{is_base}
 use Rattle.wopi_model.specs.declared.token.Token.{Token}
 use Rattle.wopi_program.specs.declared.command.Command.{Command}
 use Rattle.wopi_program.specs.declared.command.Command.TheVariants as command
+use Rattle.wopi_program.specs.ContentsWords.{IsContents}
 use Rattle.wopi_program.specs.CtokenWords.{IsCtoken}
 use Rattle.wopi_program.specs.EditWords.{IsEdit}
 use Rattle.wopi_program.specs.ReplayWords.{IsReplay}
@@ -44,6 +45,8 @@ IsRow words command.Replay = IsReplay words
 IsRow words command.Token = (keys : Keys) × (token : Token) × IsTokenRow words keys token
 IsRow words command.Ctoken = IsCtoken words
 IsRow words command.Upgrade = words ≡ codes "upgrade" ∷ []
+IsRow words command.Audit = words ≡ codes "audit" ∷ []
+IsRow words command.Contents = IsContents words
 
 -- the words are a row of some command
 abbrev pub IsCommand : List (List ℕ) → Type 0

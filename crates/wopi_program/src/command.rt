@@ -2,6 +2,7 @@
 ghost use Rattle.std.specs.Prelude.{◌≡◌, ◌↔◌, [], ◌∷◌, map, string_bytes, IsTrue, Some};
 ghost use Rattle.wopi_program.specs.Words.{IsRow};
 
+use crate::contents_words::contents_words;
 use crate::ctoken_words::ctoken_words;
 use crate::edit_words::edit_words;
 use crate::once_words::once_words;
@@ -30,6 +31,10 @@ pub enum Command {
     Ctoken,
     /// The journal of the input, in the second form on the output.
     Upgrade,
+    /// Whether the journal of the input is legal, on the output.
+    Audit,
+    /// The contents that a file of the input's journal had at a version, on the output.
+    Contents,
 }
 
 /// Whether the words are this one alone.
@@ -78,6 +83,15 @@ fn is_replay(words: &[String]) -> bool
     }
 }
 
+fn is_contents(words: &[String]) -> bool
+    ensures { IsTrue result ↔ IsRow (map string_bytes words.now) Command.Contents }
+{
+    match contents_words(words) {
+        Some(_) => true,
+        None => false,
+    }
+}
+
 fn is_token(words: &[String]) -> bool
     ensures { IsTrue result ↔ IsRow (map string_bytes words.now) Command.Token }
 {
@@ -118,6 +132,10 @@ pub fn read_words(words: &[String]) -> Option<Command>
         Some(Command::Ctoken)
     } else if is_word(words, "upgrade") {
         Some(Command::Upgrade)
+    } else if is_word(words, "audit") {
+        Some(Command::Audit)
+    } else if is_contents(words) {
+        Some(Command::Contents)
     } else {
         None
     }

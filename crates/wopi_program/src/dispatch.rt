@@ -10,8 +10,8 @@ ghost use Rattle.access_tokens.specs.declared.keys.Keys.{Keys};
 use crate::serve::run_serve;
 use crate::serve_words::ServeAsk;
 use crate::{
-    Command, Meant, Outside, help, read_words, refuse, run_ctoken, run_edit, run_once, run_replay,
-    run_token, run_upgrade, tell, version,
+    Command, Meant, Outside, help, read_words, refuse, run_audit, run_contents, run_ctoken,
+    run_edit, run_once, run_replay, run_token, run_upgrade, tell, version,
 };
 use outside::{Clock, Dialer, Folder, Listener, Sink, Source};
 use std::alloc::Global;
@@ -50,6 +50,8 @@ pub fn run<
         Some(Command::Token) => run_token(alloc, words, outside),
         Some(Command::Ctoken) => run_ctoken(alloc, words, outside),
         Some(Command::Upgrade) => run_upgrade(alloc, words, outside),
+        Some(Command::Audit) => run_audit(alloc, words, outside),
+        Some(Command::Contents) => run_contents(alloc, words, outside),
         Some(Command::Help) => tell(outside, help()),
         Some(Command::Version) => tell(outside, version()),
         None => refuse(outside),

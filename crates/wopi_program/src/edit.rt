@@ -73,7 +73,7 @@ fn bad_line(alloc: Global, number: u64) -> Result<Vec<u8>, Memory>
 
 /// Writes a last line, and gives the status: the one that is wanted, or 4 where the write failed.
 #[tactic(auto, using(crate::proofs::EditLemmas::tells_whole, crate::proofs::EditLemmas::tells_cut))]
-fn say<K: Sink>(output: &mut K, line: &[u8], wanted: u8) -> u8
+pub(crate) fn say<K: Sink>(output: &mut K, line: &[u8], wanted: u8) -> u8
     requires { 0 < length line.now }
     ensures tells { (lines : List ℕ) (start : Option (List ℕ)) → Appends start (K.held output.old) lines → Tells start (K.held output.new) result wanted lines line.now }
     ensures never_falls { K.write_faults output.old ≤ K.write_faults output.new }

@@ -6,11 +6,16 @@
 //! output; `serve` answers those of many connections by workers, and then writes its host's journal
 //! on the output; `edit` runs the script of its input over a sheet at a host; `replay` runs a
 //! schedule of sessions in memory and writes what it shows; `token` writes the text of an access
-//! token, and `ctoken` that of a token of the container; `upgrade` reads a journal from its input and writes it in the second form.
+//! token, and `ctoken` that of a token of the container; `upgrade` reads a journal from its input and
+//! writes it in the second form; `audit` tells whether it is legal; `contents` writes what a file of it
+//! had at a version.
 #![tactic(auto)]
 
 mod asking;
+mod audit;
 mod command;
+mod contents;
+mod contents_words;
 mod ctoken;
 mod ctoken_words;
 mod dispatch;
@@ -32,7 +37,9 @@ mod token_words;
 mod upgrade;
 
 pub use asking::{Asked, asked_by};
+pub use audit::run_audit;
 pub use command::{Command, read_words};
+pub use contents::run_contents;
 pub use ctoken::run_ctoken;
 pub use dispatch::run;
 pub use edit::run_edit;

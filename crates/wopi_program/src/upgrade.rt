@@ -30,7 +30,7 @@ fn upgrade_bytes<K: Sink>(alloc: Global, bytes: &[u8], output: &mut K) -> u8
 }
 
 /// Tells the first bad line of a journal, or wants memory, and gives the status.
-fn refuse_journal<K: Sink>(alloc: Global, fault: JournalFault, output: &mut K) -> u8
+pub(crate) fn refuse_journal<K: Sink>(alloc: Global, fault: JournalFault, output: &mut K) -> u8
     requires { fault ≡ TooLong → ⊥ }
     ensures bad { (line : ℕ) → fault ≡ BadLine line → Tells (K.held output.old) (K.held output.new) result 7 [] (bad_line line) }
     ensures memory { fault ≡ Memory → (result ≡ 6) × (output.new ≡ output.old) }
@@ -64,7 +64,7 @@ fn upgrade<S: Source, K: Sink, F: Folder, N: Listener, D: Dialer, C: Clock>(
 }
 
 /// Says on the notes why a run ended otherwise than well, where the output doesn't say it.
-fn note_upgrade<K: Sink>(notes: &mut K, status: u8)
+pub(crate) fn note_upgrade<K: Sink>(notes: &mut K, status: u8)
     ensures { NotesForUpgrade K.held K.write_faults status notes.old notes.new }
 {
     if status == 13 {

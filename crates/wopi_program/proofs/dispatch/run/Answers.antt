@@ -1,5 +1,5 @@
 use Rattle.std.proofs.Common.{Some, ap, ◌∙◌}
-use Rattle.wopi_program.specs.declared.command.Command.TheVariants.{Ctoken, Edit, Once, Replay, Serve, Token, Upgrade}
+use Rattle.wopi_program.specs.declared.command.Command.TheVariants.{Audit, Contents, Ctoken, Edit, Once, Replay, Serve, Token, Upgrade}
 use Rattle.wopi_program.proofs.Rows.{known}
 use Rattle.wopi_program.proofs.OnceLemmas.{OnceEnds-known}
 use Rattle.wopi_program.proofs.EditLemmas.{EditEnds-known}
@@ -8,6 +8,7 @@ use Rattle.wopi_program.proofs.EndLemmas.{ServeEnds-known}
 use Rattle.wopi_program.proofs.TokenLemmas.{TokenEnds-known}
 use Rattle.wopi_program.proofs.CtokenLemmas.{CtokenEnds-known}
 use Rattle.wopi_program.proofs.UpgradeLemmas.{UpgradeEnds-known}
+use Rattle.wopi_program.proofs.AuditLemmas.{AuditEnds-known, ContentsEnds-known}
 use Rattle.wopi_program.proofs.dispatch.run.Goals as goal
 
 pub run_once-requires-clause-words : goal.run_once-requires-clause-words
@@ -112,3 +113,27 @@ returns-in-Some-Upgrade-clause-usage g c =
 pub returns-in-Some-Upgrade-clause-usage_leaves : goal.returns-in-Some-Upgrade-clause-usage_leaves
 returns-in-Some-Upgrade-clause-usage_leaves g c =
     λ none. absurd (none (Upgrade, (c.read_words.ensures Upgrade).0 (c.in-Some-Upgrade.is ∙ ap Some c.in-Some-Upgrade.field-0-is)))
+
+pub run_audit-requires-after_bounds : goal.run_audit-requires-after_bounds
+run_audit-requires-after_bounds g c κs within = (c.read_words.ensures Audit).0 (c.in-Some-Audit.is ∙ ap Some c.in-Some-Audit.field-0-is)
+
+pub returns-in-Some-Audit-clause-usage : goal.returns-in-Some-Audit-clause-usage
+returns-in-Some-Audit-clause-usage g c =
+    known _ Audit ((c.read_words.ensures Audit).0 (c.in-Some-Audit.is ∙ ap Some c.in-Some-Audit.field-0-is)) c.run_audit.result
+    (AuditEnds-known _ _ _ _ c.run_audit.ensures)
+
+pub returns-in-Some-Audit-clause-usage_leaves : goal.returns-in-Some-Audit-clause-usage_leaves
+returns-in-Some-Audit-clause-usage_leaves g c =
+    λ none. absurd (none (Audit, (c.read_words.ensures Audit).0 (c.in-Some-Audit.is ∙ ap Some c.in-Some-Audit.field-0-is)))
+
+pub run_contents-requires-after_bounds : goal.run_contents-requires-after_bounds
+run_contents-requires-after_bounds g c κs within = (c.read_words.ensures Contents).0 (c.in-Some-Contents.is ∙ ap Some c.in-Some-Contents.field-0-is)
+
+pub returns-in-Some-Contents-clause-usage : goal.returns-in-Some-Contents-clause-usage
+returns-in-Some-Contents-clause-usage g c =
+    known _ Contents ((c.read_words.ensures Contents).0 (c.in-Some-Contents.is ∙ ap Some c.in-Some-Contents.field-0-is)) c.run_contents.result
+    (ContentsEnds-known _ _ _ _ _ c.run_contents.ensures)
+
+pub returns-in-Some-Contents-clause-usage_leaves : goal.returns-in-Some-Contents-clause-usage_leaves
+returns-in-Some-Contents-clause-usage_leaves g c =
+    λ none. absurd (none (Contents, (c.read_words.ensures Contents).0 (c.in-Some-Contents.is ∙ ap Some c.in-Some-Contents.field-0-is)))
