@@ -14,35 +14,6 @@ fn expect_written(rt: &impl Abort, grid: &Grid, expected: &str) -> Result<(), Fa
     Ok(())
 }
 
-#[test]
-fn edits_of_a_small_grid_in_turn(rt: HostRuntime) -> Result<(), Fail> {
-    let alloc = rt.alloc();
-    let mut grid = Grid::read(alloc, b"1,2\n3\n")?;
-    grid.insert_column(2)?;
-    expect_written(&rt, &grid, "1,,2\n3,\n")?;
-    grid.delete_column(1)?;
-    expect_written(&rt, &grid, ",2\n\"\"\n")?;
-    grid.set(2, 3, text(alloc, "a,b")?)?;
-    expect_written(&rt, &grid, ",2\n,,\"a,b\"\n")?;
-    grid.delete_cell(2, 1)?;
-    expect_written(&rt, &grid, ",2\n,\"a,b\"\n")?;
-    grid.insert_cell(2, 1, text(alloc, "")?)?;
-    expect_written(&rt, &grid, ",2\n,,\"a,b\"\n")?;
-    let refused = grid.set(3, 1, text(alloc, "x")?);
-    assert_eq!(rt; refused, Err(GridFault::OutOfGrid));
-    expect_written(&rt, &grid, ",2\n,,\"a,b\"\n")?;
-    grid.insert_row(3)?;
-    grid.insert_row(1)?;
-    expect_written(&rt, &grid, "\"\"\n,2\n,,\"a,b\"\n\"\"\n")?;
-    grid.delete_row(2)?;
-    expect_written(&rt, &grid, "\"\"\n,,\"a,b\"\n\"\"\n")?;
-    assert_eq!(rt; grid.rows(), 3);
-    assert!(rt; grid.cell(2, 3) == Some(b"a,b".as_slice()));
-    assert!(rt; grid.cell(2, 4).is_none());
-    assert!(rt; grid.cell(0, 1).is_none() && grid.cell(1, 0).is_none());
-    Ok(())
-}
-
 // Cells that need quotes, or look as if they did.
 const AWKWARD: [&str; 9] = [
     "say \"hi\"",

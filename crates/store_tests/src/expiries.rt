@@ -46,46 +46,6 @@ fn a_spent_id_goes_when_its_time_is_over(rt: HostRuntime) -> Result<(), Fail> {
 }
 
 #[test]
-fn chains_stand_beside_each_other(rt: HostRuntime) -> Result<(), Fail> {
-    let mut chains = SpentChains::new(rt.alloc());
-    chains.reserve(4).map_err(|_| "memory")?;
-    let one = chains.add(
-        None,
-        Spent {
-            id: id(&rt, b"L1"),
-            until: 30,
-        },
-    );
-    let one = chains.add(
-        one,
-        Spent {
-            id: id(&rt, b"L2"),
-            until: 10,
-        },
-    );
-    let one = chains.add(
-        one,
-        Spent {
-            id: id(&rt, b"L3"),
-            until: 20,
-        },
-    );
-    let other = chains.add(
-        None,
-        Spent {
-            id: id(&rt, b"L1"),
-            until: 5,
-        },
-    );
-    let one = chains.purge(one, 20);
-    assert!(rt; chains.holds(one, &id(&rt, b"L1")));
-    assert!(rt; !chains.holds(one, &id(&rt, b"L2")));
-    assert!(rt; !chains.holds(one, &id(&rt, b"L3")));
-    assert!(rt; chains.holds(other, &id(&rt, b"L1")));
-    Ok(())
-}
-
-#[test]
 fn a_refused_reserve_changes_nothing(rt: HostRuntime) -> Result<(), Fail> {
     let mut queue = ExpiryQueue::new(rt.alloc());
     queue.reserve(2).map_err(|_| "memory")?;
@@ -97,24 +57,5 @@ fn a_refused_reserve_changes_nothing(rt: HostRuntime) -> Result<(), Fail> {
     assert_eq!(rt; queue.pop_expired(1_800_009), None);
     assert_eq!(rt; queue.pop_expired(1_800_010), Some(6));
     assert_eq!(rt; queue.pop_expired(1_800_010), None);
-    Ok(())
-}
-
-#[test]
-fn chains_outlast_a_refused_reserve(rt: HostRuntime) -> Result<(), Fail> {
-    let mut chains = SpentChains::new(rt.alloc());
-    chains.reserve(1).map_err(|_| "memory")?;
-    assert!(rt; chains.reserve(usize::MAX).is_err());
-    let chain = chains.add(
-        None,
-        Spent {
-            id: id(&rt, b"L1"),
-            until: 30,
-        },
-    );
-    assert!(rt; chains.reserve(usize::MAX).is_err());
-    assert!(rt; chains.holds(chain, &id(&rt, b"L1")));
-    let chain = chains.purge(chain, 30);
-    assert!(rt; !chains.holds(chain, &id(&rt, b"L1")));
     Ok(())
 }

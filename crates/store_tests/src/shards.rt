@@ -149,30 +149,6 @@ fn step(rt: &impl Abort, single: &mut Single<MemFolder>, call: Call, moment: u64
 }
 
 #[test]
-fn a_put_without_a_lock_is_for_empty_files_alone(rt: HostRuntime) -> Result<(), Fail> {
-    let alloc = rt.alloc();
-    let mut single = open(alloc, 4096, &[])?;
-    let refused = step(
-        &rt,
-        &mut single,
-        call(&rt, b"a.csv", put(alloc, None, b"4")?),
-        0,
-    );
-    assert!(rt; refused == conflict(LockField::Empty, Reason::NotLocked));
-    let saved = step(
-        &rt,
-        &mut single,
-        call(&rt, b"e.csv", put(alloc, None, b"4")?),
-        0,
-    );
-    assert!(rt; saved == ok(2));
-    let lock = step(&rt, &mut single, call(&rt, b"a.csv", Act::GetLock), 0);
-    assert!(rt; lock.status == 200);
-    assert!(rt; lock.lock == LockField::Empty);
-    Ok(())
-}
-
-#[test]
 fn a_save_that_comes_again_after_its_lock_ended_is_refused(rt: HostRuntime) -> Result<(), Fail> {
     let alloc = rt.alloc();
     let mut single = open(alloc, 4096, &[])?;
@@ -219,20 +195,6 @@ fn a_name_whose_first_store_call_failed_is_no_file(rt: HostRuntime) -> Result<()
     let again = call_for(&rt, b"b.csv", b"e.csv", create(alloc, false, b"x")?);
     assert!(rt; step(&rt, &mut single, again, 1) == ok(1));
     assert!(rt; single.shard().file(&named).is_some());
-    Ok(())
-}
-
-#[test]
-fn time_that_is_set_ends_a_lock_and_never_goes_back(rt: HostRuntime) -> Result<(), Fail> {
-    let alloc = rt.alloc();
-    let mut single = open(alloc, 4096, &[])?;
-    let lock = Act::Lock { id: lock_id(&rt) };
-    assert!(rt; step(&rt, &mut single, call(&rt, b"a.csv", lock), 0) == ok(1));
-    assert_eq!(rt; single.settle_to(1_800_000), 1_800_000);
-    assert_eq!(rt; single.settle_to(5), 1_800_000);
-    let save = put(alloc, Some(lock_id(&rt)), b"x")?;
-    let late = step(&rt, &mut single, call(&rt, b"a.csv", save), 6);
-    assert!(rt; late == conflict(LockField::Empty, Reason::Spent));
     Ok(())
 }
 

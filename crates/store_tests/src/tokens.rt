@@ -17,10 +17,6 @@ const SIGNED: &str = "v2.0.ann.612e637376.w.1.253402300000000.253402300799999";
 const TEXT: &str =
     "v2.0.ann.612e637376.w.1.253402300000000.253402300799999.d3b4214de337cbf0652f67ed52815e0780b10913047024cbdc4448712c891e48";
 
-/// The same token as version 1 wrote it under the key `k`.
-const FIRST_TEXT: &str =
-    "v1.ann.612e637376.w.1.253402300000000.253402300799999.cc2a63af1977455f07844c926dffa4b64cbdc55115b559283b5df65b09d8289a";
-
 /// The same token under the key `k` of the number 255.
 const LAST_TEXT: &str =
     "v2.255.ann.612e637376.w.1.253402300000000.253402300799999.a96718801cf482dc424a8dd48954743bca9360d631424f68e7c684c156047639";
@@ -101,41 +97,6 @@ fn an_address_stands_behind_what_was_there_and_has_a_token_for_its_file(
 }
 
 #[test]
-fn a_token_that_may_only_read_reads_back(rt: HostRuntime) -> Result<(), Fail> {
-    let keys = keys(WORD)?;
-    let text = mint(rt.alloc(), &keys, &token(false)?)?;
-    let token = read(&keys, text.as_slice())?;
-    assert!(rt; !token.write);
-    assert_eq!(rt; token.user.as_slice(), b"ann".as_slice());
-    assert_eq!(rt; token.file.as_str(), "a.csv");
-    assert_eq!(rt;
-        (token.serial, token.issued, token.expires),
-        (1, 253_402_300_000_000, 253_402_300_799_999)
-    );
-    Ok(())
-}
-
-#[test]
-fn a_token_is_read_under_the_key_whose_number_it_has(rt: HostRuntime) -> Result<(), Fail> {
-    let exchanged = keys(b"1:4a656665,0:6b")?;
-    assert!(rt; read(&exchanged, FIRST_TEXT.as_bytes()).is_ok());
-    assert_eq!(rt;
-        read(&exchanged, TEXT.as_bytes()).err(),
-        Some(TokenFault::BadMac)
-    );
-    let alone = keys(b"1:4a656665")?;
-    for text in [FIRST_TEXT, TEXT, LAST_TEXT] {
-        assert_eq!(rt;
-            read(&alone, text.as_bytes()).err(),
-            Some(TokenFault::NoKey)
-        );
-    }
-    assert!(rt; read(&keys(b"6b")?, FIRST_TEXT.as_bytes()).is_ok());
-    assert!(rt; read(&keys(b"1:4a656665,255:6b")?, LAST_TEXT.as_bytes()).is_ok());
-    Ok(())
-}
-
-#[test]
 fn a_code_of_another_key_or_text_is_told_from_a_bad_form(rt: HostRuntime) -> Result<(), Fail> {
     let alloc = rt.alloc();
     assert_eq!(rt;
@@ -173,60 +134,6 @@ fn a_code_of_another_key_or_text_is_told_from_a_bad_form(rt: HostRuntime) -> Res
         read(&keys, SIGNED.as_bytes()).err(),
         Some(TokenFault::BadForm)
     );
-    Ok(())
-}
-
-#[test]
-fn keys_are_one_or_two_with_different_numbers(rt: HostRuntime) -> Result<(), Fail> {
-    let bare = keys(WORD)?;
-    assert_eq!(rt; bare.current.number, 0);
-    assert_eq!(rt; bare.current.key.as_slice(), b"Jefe".as_slice());
-    assert!(rt; bare.former.is_none());
-    let exchanged = keys(b"12:4A656665,255:6b")?;
-    assert_eq!(rt; exchanged.current.number, 12);
-    let former = exchanged.former.ok_or("no former key")?;
-    assert_eq!(rt; former.number, 255);
-    assert_eq!(rt; former.key.as_slice(), b"k".as_slice());
-    for word in [
-        "",
-        "4a6",
-        "4a656665,6b",
-        "0:4a656665,6b",
-        "1:4a656665,1:6b",
-        "1:4a656665,0:6b,2:6c",
-        "256:4a656665",
-        "01:4a656665",
-        ":4a656665",
-        "1:",
-        "1:4a656665,",
-        "1:4a656665, 0:6b",
-        "-1:4a656665",
-    ] {
-        assert!(rt; Keys::read(word.as_bytes()).is_none(), "{word}");
-    }
-    Ok(())
-}
-
-#[test]
-fn a_key_is_1_to_64_bytes_of_hex_in_either_case(rt: HostRuntime) -> Result<(), Fail> {
-    let key = Key::read(b"4A6566fF").ok_or("no key")?;
-    assert_eq!(rt; key.copy().as_slice(), [0x4a, 0x65, 0x66, 0xff].as_slice());
-    assert!(rt; Key::read(&[b'0'; 128]).is_some());
-    assert!(rt; Key::read(&[b'0'; 130]).is_none());
-    assert!(rt; Key::read(b"").is_none());
-    assert!(rt; Key::read(b"4a6").is_none());
-    assert!(rt; Key::read(b"4g").is_none());
-    Ok(())
-}
-
-#[test]
-fn a_token_is_live_from_the_opening_until_it_expires(rt: HostRuntime) -> Result<(), Fail> {
-    let token = token(true)?;
-    let issued = 253_402_300_000_000;
-    let expires = 253_402_300_799_999;
-    assert!(rt; live(&token, issued, expires - 1));
-    assert!(rt; !live(&token, issued, expires));
-    assert!(rt; !live(&token, issued + 1, issued));
     Ok(())
 }
 

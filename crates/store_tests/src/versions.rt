@@ -35,19 +35,3 @@ fn a_reserved_place_takes_a_version(rt: HostRuntime) -> Result<(), Fail> {
     assert_eq!(rt; held.as_slice(), b"x".as_slice());
     Ok(())
 }
-
-#[test]
-fn room_that_is_given_up_takes_no_version_along(rt: HostRuntime) -> Result<(), Fail> {
-    let alloc = rt.alloc();
-    let mut versions = Versions::new(alloc);
-    versions.reserve(64)?;
-    let added = versions.add(0, 1, bytes(alloc, b"x")?);
-    assert!(rt; matches!(added, Ok(())));
-    versions.shrink_to_fit();
-    let held = versions.at(0, 1).ok_or("a version")?;
-    assert_eq!(rt; held.as_slice(), b"x".as_slice());
-    let next = versions.add(0, 2, bytes(alloc, b"y")?);
-    assert!(rt; matches!(next, Ok(())));
-    assert_eq!(rt; versions.len(), 2);
-    Ok(())
-}

@@ -78,26 +78,6 @@ fn each_refusal_has_its_status(rt: HostRuntime) -> Result<(), Fail> {
     Ok(())
 }
 
-#[test]
-fn each_lock_request_out_of_form_has_its_status(rt: HostRuntime) -> Result<(), Fail> {
-    let alloc = rt.alloc();
-    let post = Method::Post;
-    let lock = ("X-WOPI-Override", "LOCK");
-    let other = ("X-WOPI-Override", "PUT_USER_INFO");
-    let id = ("X-WOPI-Lock", "L1");
-    let empty = ("X-WOPI-Lock", "");
-    let odd = ("X-WOPI-Lock", "a\tb");
-    assert_eq!(rt; status(alloc, post, FILE, &[id])?, 501);
-    assert_eq!(rt; status(alloc, post, FILE, &[other, id])?, 501);
-    assert_eq!(rt; status(alloc, post, FILE, &[lock])?, 400);
-    assert_eq!(rt; status(alloc, post, FILE, &[lock, empty])?, 400);
-    assert_eq!(rt; status(alloc, post, FILE, &[lock, odd])?, 400);
-    assert_eq!(rt; status(alloc, post, FILE, &[lock, id, id])?, 400);
-    assert_eq!(rt; status(alloc, post, FILE, &[lock, lock, id])?, 400);
-    assert_eq!(rt; status(alloc, post, FILE, &[lock, id])?, 200);
-    Ok(())
-}
-
 const SUGGESTED: &str = "X-WOPI-SuggestedTarget";
 
 const RELATIVE: &str = "X-WOPI-RelativeTarget";
@@ -145,22 +125,6 @@ fn a_copy_has_the_name_that_its_header_stands_for(rt: HostRuntime) -> Result<(),
             }
             _ => assert!(rt; false),
         }
-    }
-    Ok(())
-}
-
-#[test]
-fn a_copy_overwrites_nothing_unasked(rt: HostRuntime) -> Result<(), Fail> {
-    let alloc = rt.alloc();
-    let named = [("X-WOPI-Override", "PUT_RELATIVE"), (RELATIVE, "b.csv")];
-    let ask = ask_of(alloc, &request(alloc, Method::Post, FILE, &named)?)?;
-    match &ask.op {
-        Op::PutRelative {
-            target: Target::Relative { name: _, overwrite },
-        } => {
-            assert!(rt; !*overwrite);
-        }
-        _ => assert!(rt; false),
     }
     Ok(())
 }

@@ -59,36 +59,6 @@ fn what_is_written_reads_back(rt: HostRuntime) -> Result<(), Fail> {
 }
 
 #[test]
-fn the_first_member_that_is_missing_is_named(rt: HostRuntime) {
-    for (body, field) in [
-        ("{}", Required::BaseFileName),
-        ("[1]", Required::BaseFileName),
-        (
-            "{\"BaseFileName\":\"a\",\"OwnerId\":1,\"Size\":-1}",
-            Required::OwnerId,
-        ),
-        (
-            "{\"BaseFileName\":\"a\",\"OwnerId\":\"\",\"Size\":1.5}",
-            Required::Size,
-        ),
-        (
-            "{\"OwnerId\":\"\",\"BaseFileName\":\"a\",\"Size\":0}",
-            Required::UserId,
-        ),
-    ] {
-        let read = info_read(rt.alloc(), body.as_bytes());
-        assert_eq!(rt; read.err(), Some(InfoFault::Missing { field }), "{body}");
-    }
-    let read = relative_read(rt.alloc(), b"{\"Name\":\"a\"}");
-    assert_eq!(rt;
-        read.err(),
-        Some(InfoFault::Missing {
-            field: Required::Url
-        })
-    );
-}
-
-#[test]
 fn what_is_no_json_is_refused(rt: HostRuntime) {
     for body in [b"".as_slice(), b"{", b"{} x", b"{\"Name\":\"\xff\"}"] {
         assert_eq!(rt; info_read(rt.alloc(), body).err(), Some(InfoFault::NotJson));

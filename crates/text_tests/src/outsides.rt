@@ -1,5 +1,4 @@
 mod adapters;
 mod asking;
-mod fakes;
 mod files;
 mod stopping;

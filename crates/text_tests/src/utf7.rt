@@ -39,19 +39,6 @@ fn texts_are_written_as_python_writes_their_runs(rt: HostRuntime) -> Result<(), 
     Ok(())
 }
 
-#[test]
-fn a_character_of_two_units_is_one_pair_in_one_shift(rt: HostRuntime) -> Result<(), Fail> {
-    for (text, bytes) in [
-        ("😀", "+2D3eAA-"),
-        ("x😀y", "x+2D3eAA-y"),
-        ("𝄞é", "+2DTdHgDp-"),
-        ("\u{10FFFF}", "+2//f/w-"),
-    ] {
-        assert!(rt; is_written(rt.alloc(), text, bytes.as_bytes())?, "{text}");
-    }
-    Ok(())
-}
-
 // What Python's codec and iconv both read.
 #[test]
 fn other_forms_of_a_text_are_read_as_python_and_iconv_read_them(
@@ -96,39 +83,6 @@ fn the_first_fault_is_told_by_its_place(rt: HostRuntime) {
         assert_eq!(rt;
             utf7_read(rt.alloc(), bytes).err(),
             Some(Utf7Fault::Bad { at })
-        );
-    }
-}
-
-#[test]
-fn six_bits_or_more_may_not_be_left(rt: HostRuntime) {
-    for bytes in [
-        b"+A-".as_slice(),
-        b"+AA-",
-        b"+AOkA-",
-        b"+AOkAA-",
-        b"+AOkAOk-",
-        b"+2D3eAAA-",
-    ] {
-        assert_eq!(rt;
-            utf7_read(rt.alloc(), bytes).err(),
-            Some(Utf7Fault::Bad { at: 0 })
-        );
-    }
-}
-
-#[test]
-fn a_surrogate_without_its_partner_is_a_fault(rt: HostRuntime) {
-    for bytes in [
-        b"+2AA-".as_slice(),
-        b"+3AA-",
-        b"+2D0-+3gA-",
-        b"+2D3YPQ-",
-        b"+3gDYPQ-",
-    ] {
-        assert_eq!(rt;
-            utf7_read(rt.alloc(), bytes).err(),
-            Some(Utf7Fault::Bad { at: 0 })
         );
     }
 }

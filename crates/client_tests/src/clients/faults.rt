@@ -90,17 +90,3 @@ fn what_is_told_of_a_file_cut_at_every_place(rt: HostRuntime) -> Result<(), Fail
     assert_eq!(rt; bad_place(alloc, INFO)?, None);
     Ok(())
 }
-
-#[test]
-fn what_does_not_tell_of_a_file_is_bad_where_it_begins(rt: HostRuntime) -> Result<(), Fail> {
-    let alloc = rt.alloc();
-    let no_json = b"HTTP/1.1 200 OK\r\nContent-Length: 4\r\n\r\n1,2\n".as_slice();
-    assert_eq!(rt; bad_place(alloc, no_json)?, Some(38));
-    let no_size = b"HTTP/1.1 100 Continue\r\n\r\nHTTP/1.1 200 OK\r\n\r\n\
-{\"BaseFileName\":\"a.csv\",\"OwnerId\":\"owner\",\"UserId\":\"u\",\"Version\":\"v1\"}"
-        .as_slice();
-    assert_eq!(rt; bad_place(alloc, no_size)?, Some(44));
-    let no_body = b"HTTP/1.1 200 OK\r\nContent-Length: 0\r\n\r\n".as_slice();
-    assert_eq!(rt; bad_place(alloc, no_body)?, Some(38));
-    Ok(())
-}

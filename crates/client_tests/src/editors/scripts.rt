@@ -60,22 +60,6 @@ refresh\nclose\n";
     Ok(())
 }
 
-#[test]
-fn empty_lines_and_comments_do_nothing(rt: HostRuntime) -> Result<(), Fail> {
-    let script = Script::read(rt.alloc(), b"\n# open\n#\nshow\n\n")?;
-    assert_eq!(rt; script.len(), 1);
-    assert_eq!(rt; Script::read(rt.alloc(), b"")?.len(), 0);
-    Ok(())
-}
-
-#[test]
-fn the_last_line_may_lack_its_line_feed(rt: HostRuntime) -> Result<(), Fail> {
-    let script = Script::read(rt.alloc(), b"open\nclose")?;
-    assert_eq!(rt; script.len(), 2);
-    assert!(rt; matches!(script.get(1), Some(Command::Close)));
-    Ok(())
-}
-
 const BAD: [&[u8]; 14] = [
     b"Open",
     b"open ",
@@ -103,14 +87,6 @@ fn the_first_bad_line_is_named(rt: HostRuntime) -> Result<(), Fail> {
         expect_bad(&rt, rt.alloc(), &text, 3)?;
     }
     Ok(())
-}
-
-#[test]
-fn a_text_may_be_no_utf_8(rt: HostRuntime) -> Result<(), Fail> {
-    let script = Script::read(rt.alloc(), b"set 1 1 \xff\xfe")?;
-    assert_eq!(rt; script.len(), 1);
-    expect_bad(&rt, rt.alloc(), b"saveas \xff", 1)?;
-    expect_bad(&rt, rt.alloc(), b"show\n\xff\n", 2)
 }
 
 fn many_lines(alloc: Global, count: usize) -> Result<Vec<u8>, Fail> {

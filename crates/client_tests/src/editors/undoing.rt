@@ -3,18 +3,6 @@ use super::{ACCEPTED, CONTENTS, INFO, run};
 use std::test::Fail;
 
 #[test]
-fn one_edit_and_one_undo_lead_back(rt: HostRuntime) -> Result<(), Fail> {
-    let text = b"show\nopen\ninsrow 1\nundo\nundo\nshow\nclose\n";
-    let left = run(rt.alloc(), text, &[INFO, ACCEPTED, CONTENTS, ACCEPTED])?;
-    assert_eq!(rt;
-        left.output.as_slice(),
-        b"not open\nopened v1 1\nnothing to undo\n1,2\nclosed\n".as_slice()
-    );
-    assert_eq!(rt; left.dialer.exchanges().len(), 4);
-    Ok(())
-}
-
-#[test]
 fn each_edit_is_undone(rt: HostRuntime) -> Result<(), Fail> {
     let sheet = b"HTTP/1.1 200 OK\r\nContent-Length: 10\r\n\r\n1,2,3\n4\n5\n".as_slice();
     let text = b"open\ndelcol 1\nshow\ninscol 2\nshow\nset 3 3 x\nshow\ninsrow 2\ndelrow 1\nshow\n\
@@ -43,17 +31,6 @@ fn of_65_edits_64_are_undone(rt: HostRuntime) -> Result<(), Fail> {
     assert_eq!(rt;
         left.output.as_slice(),
         b"opened v1 1\nnothing to undo\n\"\"\n1,2\n".as_slice()
-    );
-    Ok(())
-}
-
-#[test]
-fn a_new_opening_cannot_be_undone(rt: HostRuntime) -> Result<(), Fail> {
-    let text = b"open\nundo\nset 1 1 x\nclose\nundo\n";
-    let left = run(rt.alloc(), text, &[INFO, ACCEPTED, CONTENTS, ACCEPTED])?;
-    assert_eq!(rt;
-        left.output.as_slice(),
-        b"opened v1 1\nnothing to undo\nclosed\nnot open\n".as_slice()
     );
     Ok(())
 }

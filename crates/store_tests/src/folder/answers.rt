@@ -93,18 +93,6 @@ fn a_file_is_listed_as_it_was_saved_last(rt: HostRuntime) -> Result<(), Fail> {
 }
 
 #[test]
-fn an_empty_folder_has_no_files(rt: HostRuntime) -> Result<(), Fail> {
-    let alloc = rt.alloc();
-    let mut single = open(alloc, &[])?;
-    let told = answer(alloc, &mut single, TEXT, ContainerOp::Children, 0, 50)?;
-    assert_eq!(rt;
-        told.body.as_slice(),
-        br#"{"ChildContainers":[],"ChildFiles":[]}"#.as_slice()
-    );
-    Ok(())
-}
-
-#[test]
 fn the_files_stand_in_the_order_of_their_bytes(rt: HostRuntime) -> Result<(), Fail> {
     let alloc = rt.alloc();
     let mut single = open(alloc, &["b.csv", "é.csv", "a.csv", "B.csv"])?;

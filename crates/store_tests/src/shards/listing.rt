@@ -41,32 +41,6 @@ fn a_listing_has_the_files_that_exist_by_their_names(rt: HostRuntime) -> Result<
     Ok(())
 }
 
-#[test]
-fn an_own_save_is_in_the_next_listing(rt: HostRuntime) -> Result<(), Fail> {
-    let alloc = rt.alloc();
-    let mut single = open(alloc, 4096, &[])?;
-    let before = single.list(0)?;
-    assert_eq!(rt; before.place, 0);
-    assert!(rt; child(&before, 1)? == ("e.csv", 1, 0));
-    let save = put(alloc, None, b"new")?;
-    assert!(rt; step(&rt, &mut single, call(&rt, b"e.csv", save), 0) == ok(2));
-    let after = single.list(0)?;
-    assert_eq!(rt; after.place, 1);
-    assert!(rt; child(&after, 1)? == ("e.csv", 2, 3));
-    Ok(())
-}
-
-#[test]
-fn a_save_that_the_folder_refused_is_in_no_listing(rt: HostRuntime) -> Result<(), Fail> {
-    let alloc = rt.alloc();
-    let mut single = open(alloc, 4096, &[6])?;
-    assert_eq!(rt; make_file(&rt, alloc, &mut single, b"b.csv", b"x")?, 500);
-    let listing = single.list(0)?;
-    assert_eq!(rt; listing.place, 1);
-    assert_eq!(rt; listing.children.len(), 2);
-    Ok(())
-}
-
 /// The files of all shards of whatever lister.
 fn count_files<L: Lister>(lister: &mut L) -> Result<usize, Memory> {
     let mut count = 0usize;
@@ -82,23 +56,5 @@ fn whatever_lists_shards_lists_each(rt: HostRuntime) -> Result<(), Fail> {
     let mut single = open(rt.alloc(), 4096, &[])?;
     assert_eq!(rt; single.shards(), 1);
     assert_eq!(rt; count_files(&mut single)?, 2);
-    Ok(())
-}
-
-#[test]
-fn children_are_made_from_a_list_and_give_it_back(rt: HostRuntime) -> Result<(), Fail> {
-    let alloc = rt.alloc();
-    let mut children = Children::new(alloc);
-    assert!(rt; children.get(0).is_none());
-    children.push(Child {
-        name: name(&rt, b"a.csv"),
-        version: 7,
-        size: 3,
-    })?;
-    assert_eq!(rt; children.as_slice().len(), 1);
-    let items = children.into_vec();
-    let again = Children::from_vec(items);
-    assert_eq!(rt; again.len(), 1);
-    assert_eq!(rt; again.get(0).ok_or("a child")?.version, 7);
     Ok(())
 }

@@ -55,24 +55,6 @@ fn requests_as_a_client_writes_them(rt: HostRuntime) -> Result<(), Fail> {
     Ok(())
 }
 
-#[test]
-fn a_save_is_read_back_with_its_lock_and_its_body(rt: HostRuntime) -> Result<(), Fail> {
-    let alloc = rt.alloc();
-    let put = Op::Put {
-        lock: Some(id(b"n-1")?),
-    };
-    let request = request_of(alloc, &ask(alloc, put)?, "h:80", b"1,9\n")?;
-    assert_eq!(rt; request.body.as_slice(), b"1,9\n".as_slice());
-    let back = ask_of(alloc, &request)?;
-    assert_eq!(rt; back.file.as_str(), "a.csv");
-    assert_eq!(rt; back.token.as_slice(), b"t 0+~".as_slice());
-    match &back.op {
-        Op::Put { lock: Some(lock) } => assert_eq!(rt; lock.as_slice(), b"n-1".as_slice()),
-        _ => assert!(rt; false),
-    }
-    Ok(())
-}
-
 /// What a reply with these fields tells.
 fn told(alloc: Global, named: &[(&str, &str)], body: &[u8]) -> Result<Answer, Memory> {
     let mut fields = Fields::new(alloc);
@@ -108,25 +90,5 @@ fn fields_of_a_reply_are_told_in_any_order_and_case(rt: HostRuntime) -> Result<(
         LockField::Held(lock) => assert_eq!(rt; lock.as_slice(), b"L2".as_slice()),
         LockField::Absent | LockField::Empty => assert!(rt; false),
     }
-    Ok(())
-}
-
-#[test]
-fn fields_out_of_form_are_not_told(rt: HostRuntime) -> Result<(), Fail> {
-    let alloc = rt.alloc();
-    let odd = [
-        ("X-WOPI-Lock", "a\tb"),
-        ("X-WOPI-LockFailureReason", "Locked"),
-        ("X-WOPI-ItemVersion", "v01"),
-        ("Content-Type", "text/html"),
-    ];
-    let answer = told(alloc, &odd, b"x")?;
-    assert!(rt; matches!(answer.lock, LockField::Absent));
-    assert_eq!(rt; answer.reason, None);
-    assert_eq!(rt; answer.version, None);
-    assert_eq!(rt; answer.kind, BodyKind::Octets);
-    let empty = told(alloc, &[("X-WOPI-Lock", "")], b"")?;
-    assert!(rt; matches!(empty.lock, LockField::Empty));
-    assert_eq!(rt; empty.kind, BodyKind::None);
     Ok(())
 }

@@ -62,33 +62,3 @@ fn each_refusal_at_a_container_has_its_status(rt: HostRuntime) -> Result<(), Fai
     }
     Ok(())
 }
-
-#[test]
-fn a_file_is_asked_for_as_ever(rt: HostRuntime) -> Result<(), Fail> {
-    let alloc = rt.alloc();
-    match place_of(alloc, &request(alloc, Method::Get, FILE, &[])?)? {
-        Place::File(ask) => {
-            assert_eq!(rt; ask.file.as_str(), "a.csv");
-            assert!(rt; matches!(&ask.op, Op::Info));
-        }
-        Place::Container(_) => assert!(rt; false),
-    }
-    assert_eq!(rt; status(alloc, Method::Post, FILE)?, 501);
-    assert_eq!(rt; status(alloc, Method::Get, "/wopi/files/zz")?, 404);
-    Ok(())
-}
-
-#[test]
-fn a_container_leaves_the_place_of_a_file(rt: HostRuntime) -> Result<(), Fail> {
-    let alloc = rt.alloc();
-    let mut place = None;
-    let file = request(alloc, Method::Get, FILE, &[])?;
-    assert!(rt; place_into(alloc, &file, &mut place)?.is_none());
-    let container = request(alloc, Method::Get, "/wopi/containers/root", &[])?;
-    assert!(rt; place_into(alloc, &container, &mut place)?.is_some());
-    match &place {
-        Some(ask) => assert_eq!(rt; ask.file.as_str(), "a.csv"),
-        None => assert!(rt; false),
-    }
-    Ok(())
-}

@@ -51,18 +51,6 @@ fn a_reply_cut_at_every_place_is_bad_where_its_part_begins(rt: HostRuntime) -> R
 }
 
 #[test]
-fn bytes_behind_a_reply_are_not_looked_at(rt: HostRuntime) -> Result<(), Fail> {
-    let alloc = rt.alloc();
-    let told = joined(alloc, GO_ON, SIZED, SIZED)?;
-    let (reply, at) = read_placed_reply(alloc, &told)?;
-    assert_eq!(rt; at, 87);
-    assert_eq!(rt; reply.status, 200);
-    assert_eq!(rt; reply.fields.len(), 2);
-    assert_eq!(rt; reply.body.as_slice(), b"1,2\n".as_slice());
-    Ok(())
-}
-
-#[test]
 fn replies_as_other_servers_write_them(rt: HostRuntime) -> Result<(), Fail> {
     let alloc = rt.alloc();
     let cases = [
@@ -189,20 +177,5 @@ fn a_reply_that_says_how_long_it_is_ends_behind_its_body(rt: HostRuntime) -> Res
         end.is_whole(b"HTTP/1.1 200 OK\r\nContent-Length: x\r\n\r\n")?,
         false
     );
-    Ok(())
-}
-
-#[test]
-fn a_link_that_stays_open_is_not_read_behind_a_whole_reply(rt: HostRuntime) -> Result<(), Fail> {
-    let alloc = rt.alloc();
-    let reply = b"HTTP/1.1 200 OK\r\nContent-Length: 3\r\n\r\n1,2".as_slice();
-    let failing = [2u64].as_slice().to_vec(alloc)?;
-    let source = MemSource::new(Bytes::from_slice(alloc, reply)?, 1000, failing);
-    let mut link = Pair::new(source, MemSink::new(alloc, 64, Vec::new(alloc))?);
-    let end = ReplyLength::new(alloc);
-    assert!(rt;
-        matches!(ask_link(alloc, &mut link, &end, b"ask", 1000), Ok(found) if found.as_slice() == reply)
-    );
-    assert_eq!(rt; link.sink.as_slice(), b"ask".as_slice());
     Ok(())
 }

@@ -53,34 +53,3 @@ fn nothing_is_read_after_a_read_that_gave_nothing(rt: HostRuntime) -> Result<(),
     }
     Ok(())
 }
-
-#[test]
-fn what_is_refused_is_refused_before_another_read(rt: HostRuntime) -> Result<(), Fail> {
-    let cases = [
-        (b"GET /\x01".as_slice(), 400),
-        (
-            b"PUT / HTTP/1.1\r\nHost: a\r\nContent-Length: 16777217\r\n\r\n".as_slice(),
-            413,
-        ),
-        (
-            b"PUT / HTTP/1.1\r\nHost: a\r\nTransfer-Encoding: gzip\r\n\r\n".as_slice(),
-            501,
-        ),
-        (
-            b"PUT / HTTP/1.1\r\nHost: a\r\nTransfer-Encoding: chunked\r\n\r\n1000001\r\n".as_slice(),
-            413,
-        ),
-        (
-            b"PUT / HTTP/1.1\r\nHost: a\r\nTransfer-Encoding: chunked\r\n\r\ng".as_slice(),
-            400,
-        ),
-        (
-            b"PUT / HTTP/1.1\r\nHost: a\r\nTransfer-Encoding: chunked\r\n\r\n2\r\n1,x".as_slice(),
-            400,
-        ),
-    ];
-    for (input, status) in cases {
-        assert_eq!(rt; status_before(rt.alloc(), input, 2)?, (status, true));
-    }
-    Ok(())
-}
