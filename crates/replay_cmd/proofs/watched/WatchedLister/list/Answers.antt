@@ -1,4 +1,4 @@
-use Rattle.std.proofs.Common.{◌×◌, ◌≡◌, sym, ap, ◌∙◌, subst}
+use Rattle.std.proofs.Common.{◌≡◌, sym, subst}
 use Rattle.host_core.specs.Value.{Book}
 use Rattle.replay_cmd.specs.declared.faultless.FaultlessFolder.{FaultlessFolder}
 use Rattle.replay_cmd.specs.Hosts.{HasGrown, HasFileNames, IsStamped}
