@@ -68,7 +68,8 @@ class Entry:
 
     def text(self):
         act = " ".join(self.act)
-        contents = (self.contents if self.contents != "-" else "00" * int(self.act[2])) if self.saves() and self.status == 200 else "-"
+        brought = (self.contents if self.contents != "-" else "00" * int(self.act[2])) if self.saves() and self.status == 200 else ""
+        contents = brought or "-"
         return (f"{self.stamp} {self.shard} {self.owner} {self.moment} {self.now} {hexed(self.name)} {act} {self.token.text()} "
                 f"{self.status} {self.lock} {self.reason} {self.version} {contents}\n")
 

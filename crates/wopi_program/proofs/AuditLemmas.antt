@@ -6,9 +6,10 @@ use Rattle.journal_audit.specs.declared.verdict.AuditFault.{AuditFault}
 use Rattle.wopi_program.specs.declared.outside_world.Outside.{Outside}
 use Rattle.wopi_program.specs.Audit.{AuditEnds, IsJudged, fault_line, fault_word, legal_line}
 use Rattle.wopi_program.specs.Contents.{ContentsEnds, IsLookedUp}
-use Rattle.wopi_program.specs.JournalRuns.{Takes}
+use Rattle.wopi_program.specs.JournalRuns.{Takes, TakesJournal}
 use Rattle.wopi_program.specs.Meanings.{Meanings}
 use Rattle.wopi_program.proofs.EditLemmas.{tells-not-2}
+use Rattle.wopi_program.proofs.EndLemmas.{noted}
 
 -- ---- the lines have something in them
 
@@ -35,6 +36,24 @@ looked_up-not-2 held name version text status output output' (inl (contents, had
 looked_up-not-2 held name version text status output output' (inr (fifteen, same, none)) two = absurd (omega (arith, fifteen, two))
 
 module _ {S K F N D C L : Type 0} (m : Meanings S K F N D C L) where
+  -- what became of a journal says nothing of the notes
+  pub takes_noted : (Does : JournalText → ℕ → K → K → Type 0) (status : ℕ) (old new : Outside S K F N D C) (notes : K) → TakesJournal m Does status old new
+      → TakesJournal m Does status old (record new { notes = notes })
+  takes_noted Does status old new notes h =
+      record {
+        takes = elim h.takes [
+          | inl unrun ↦ inl (record { statuses = unrun.statuses; output_is = unrun.output_is })
+          | inr (inl much) ↦ inr (inl (record { status_is = much.status_is; long = much.long; output_is = much.output_is }))
+          | inr (inr (inl bad)) ↦ inr (inr (inl (record { number = bad.number; bad = bad.bad; told = bad.told })))
+          | inr (inr (inr done)) ↦ inr (inr (inr (record { text = done.text; read = done.read; does = done.does })))
+        ];
+        read_cause = h.read_cause;
+        read_cut = h.read_cut;
+        read_fine = h.read_fine;
+        write_cause = h.write_cause;
+        others = noted _ _ notes h.others;
+      }
+
   takes-not-2 : (Does : JournalText → ℕ → K → K → Type 0) → ((text : JournalText) (status : ℕ) (output output' : K) → Does text status output output' → status ≢ 2) →
       (status : ℕ) (old new : Outside S K F N D C) → Takes m Does status old new → status ≢ 2
   takes-not-2 Does apart status old new (inl unrun) two = elim unrun.statuses [
