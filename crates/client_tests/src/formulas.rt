@@ -21,13 +21,13 @@ fn expect_value(rt: &impl Abort, alloc: Global, cell: &str, expected: Value) -> 
     let mut grid = Grid::read(alloc, b"x")?;
     set(alloc, &mut grid, 1, 2, cell)?;
     let sheet = Sheet::new(alloc, &grid)?;
-    assert_eq!(rt; sheet.value(1, 2), expected, "{cell}");
+    assert!(rt; sheet.value(1, 2) == expected, "{cell}");
     Ok(())
 }
 
 fn expect_text(rt: &impl Abort, sheet: &Sheet, expected: &str) -> Result<(), Fail> {
     let written = sheet.values_text()?;
-    assert_eq!(rt; written.as_slice(), expected.as_bytes());
+    assert!(rt; written.as_slice() == expected.as_bytes());
     Ok(())
 }
 
@@ -45,17 +45,17 @@ fn a_cycle_and_its_neighbour_get_values_once_it_is_cut(rt: HostRuntime) -> Resul
     let alloc = rt.alloc();
     let mut grid = Grid::read(alloc, b"=B1,=A1,=A1,=1+\n")?;
     let mut sheet = Sheet::new(alloc, &grid)?;
-    assert_eq!(rt; sheet.value(1, 1), Value::Cycle);
-    assert_eq!(rt; sheet.value(1, 2), Value::Cycle);
-    assert_eq!(rt; sheet.value(1, 3), Value::Cycle);
-    assert_eq!(rt; sheet.value(1, 4), Value::NameFault);
+    assert!(rt; sheet.value(1, 1) == Value::Cycle);
+    assert!(rt; sheet.value(1, 2) == Value::Cycle);
+    assert!(rt; sheet.value(1, 3) == Value::Cycle);
+    assert!(rt; sheet.value(1, 4) == Value::NameFault);
     grid.set(1, 2, Bytes::from_slice(alloc, b"4")?)?;
     let changed = sheet.set(&grid, 1, 2)?;
-    assert_eq!(rt; changed.as_slice(), [(1, 1), (1, 2), (1, 3)].as_slice());
-    assert_eq!(rt; sheet.value(1, 1), Value::Number(4));
-    assert_eq!(rt; sheet.value(1, 2), Value::Number(4));
-    assert_eq!(rt; sheet.value(1, 3), Value::Number(4));
-    assert_eq!(rt; sheet.value(1, 4), Value::NameFault);
+    assert!(rt; changed.as_slice() == [(1, 1), (1, 2), (1, 3)].as_slice());
+    assert!(rt; sheet.value(1, 1) == Value::Number(4));
+    assert!(rt; sheet.value(1, 2) == Value::Number(4));
+    assert!(rt; sheet.value(1, 3) == Value::Number(4));
+    assert!(rt; sheet.value(1, 4) == Value::NameFault);
     Ok(())
 }
 
@@ -114,10 +114,10 @@ fn a_chain_of_100_000_cells(rt: HostRuntime) -> Result<(), Fail> {
     text.push_str("1\n")?;
     let mut grid = Grid::read(alloc, text.as_bytes())?;
     let mut sheet = Sheet::new(alloc, &grid)?;
-    assert_eq!(rt; sheet.value(1, 1), Value::Number(100_000));
+    assert!(rt; sheet.value(1, 1) == Value::Number(100_000));
     let changed = change(alloc, &mut grid, &mut sheet, 100_000, 1, "5")?;
-    assert_eq!(rt; changed.as_slice().len(), 100_000);
-    assert_eq!(rt; sheet.value(1, 1), Value::Number(100_004));
+    assert!(rt; changed.as_slice().len() == 100_000);
+    assert!(rt; sheet.value(1, 1) == Value::Number(100_004));
     Ok(())
 }
 
@@ -130,8 +130,8 @@ fn a_cycle_through_1_000_cells(rt: HostRuntime) -> Result<(), Fail> {
         text.push_str(&format!(in alloc; "=A{row}\n")?)?;
     }
     let sheet = sheet_of(alloc, &text)?;
-    assert_eq!(rt; sheet.value(1, 1), Value::Cycle);
-    assert_eq!(rt; sheet.value(1000, 1), Value::Cycle);
+    assert!(rt; sheet.value(1, 1) == Value::Cycle);
+    assert!(rt; sheet.value(1000, 1) == Value::Cycle);
     Ok(())
 }
 
@@ -144,7 +144,7 @@ fn a_range_of_100_000_cells(rt: HostRuntime) -> Result<(), Fail> {
         text.push_str("1\n")?;
     }
     let sheet = sheet_of(alloc, &text)?;
-    assert_eq!(rt; sheet.value(1, 2), Value::Number(100_000));
+    assert!(rt; sheet.value(1, 2) == Value::Number(100_000));
     Ok(())
 }
 
@@ -160,7 +160,7 @@ fn a_million_links_are_the_most(rt: HostRuntime) -> Result<(), Fail> {
     set(alloc, &mut grid, 1, 12, "=A1")?;
     match Sheet::new(alloc, &grid) {
         Ok(_) => assert!(rt; false),
-        Err(fault) => assert_eq!(rt; fault, SheetFault::TooManyLinks),
+        Err(fault) => assert!(rt; fault == SheetFault::TooManyLinks),
     }
     Ok(())
 }
@@ -192,8 +192,8 @@ fn a_set_under_100_000_formulas(rt: HostRuntime) -> Result<(), Fail> {
     let mut grid = Grid::read(alloc, text.as_bytes())?;
     let mut sheet = Sheet::new(alloc, &grid)?;
     let changed = change(alloc, &mut grid, &mut sheet, 1, 1, "5")?;
-    assert_eq!(rt; changed.as_slice().len(), 11);
-    assert_eq!(rt; sheet.value(1, 11), Value::Number(50));
-    assert_eq!(rt; sheet.value(99_991, 1), Value::Number(1));
+    assert!(rt; changed.as_slice().len() == 11);
+    assert!(rt; sheet.value(1, 11) == Value::Number(50));
+    assert!(rt; sheet.value(99_991, 1) == Value::Number(1));
     Ok(())
 }

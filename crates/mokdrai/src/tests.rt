@@ -86,11 +86,11 @@ fn a_stop_file_closes_a_listener_at_its_next_link(rt: HostRuntime) -> Result<(),
     const PATH: &str = "mokdrai_test_stop";
     no_file(&rt, PATH)?;
     let mut listener = StopListener::new(&rt, Some(PATH), wires(rt.alloc(), 4)?);
-    assert_eq!(rt; takes_one(&mut listener), Ok(true));
+    assert!(rt; takes_one(&mut listener) == Ok(true));
     fs::write(&rt, PATH, b"".as_slice())?;
-    assert_eq!(rt; takes_one(&mut listener), Ok(false));
+    assert!(rt; takes_one(&mut listener) == Ok(false));
     fs::remove_file(&rt, PATH)?;
-    assert_eq!(rt; takes_one(&mut listener), Ok(false));
+    assert!(rt; takes_one(&mut listener) == Ok(false));
     Ok(())
 }
 
@@ -103,18 +103,18 @@ fn a_stop_file_that_is_there_first_closes_a_listener(rt: HostRuntime) -> Result<
     bound.push(wires(alloc, 1)?)?;
     let mut listeners = until_stopped(alloc, &rt, Some(PATH), bound)?;
     fs::remove_file(&rt, PATH)?;
-    assert_eq!(rt; listeners.len(), 1);
-    assert_eq!(rt; takes_one(&mut listeners[0]), Ok(false));
+    assert!(rt; listeners.len() == 1);
+    assert!(rt; takes_one(&mut listeners[0]) == Ok(false));
     Ok(())
 }
 
 #[test]
 fn with_no_stop_file_a_fault_of_a_listener_closes_it(rt: HostRuntime) -> Result<(), Fail> {
     let mut listener = StopListener::new(&rt, None, wires(rt.alloc(), 2)?);
-    assert_eq!(rt; takes_one(&mut listener), Ok(true));
-    assert_eq!(rt; takes_one(&mut listener), Ok(true));
-    assert_eq!(rt; takes_one(&mut listener), Err(OutFault::Failed));
-    assert_eq!(rt; takes_one(&mut listener), Ok(false));
+    assert!(rt; takes_one(&mut listener) == Ok(true));
+    assert!(rt; takes_one(&mut listener) == Ok(true));
+    assert!(rt; takes_one(&mut listener) == Err(OutFault::Failed));
+    assert!(rt; takes_one(&mut listener) == Ok(false));
     Ok(())
 }
 
@@ -164,17 +164,17 @@ fn a_stop_that_one_listener_sees_closes_the_socket_of_all(rt: HostRuntime) -> Re
     };
     fs::write(&rt, PATH, b"".as_slice())?;
     let _woken = connect(&rt, &socket)?;
-    assert_eq!(rt; takes_one(&mut idle), Ok(false));
+    assert!(rt; takes_one(&mut idle) == Ok(false));
     fs::remove_file(&rt, PATH)?;
     assert!(rt; is_refused(&rt, &socket));
     client.write_all(b"ask!".as_slice())?;
     let mut into = [0u8; 4];
-    assert_eq!(rt; read_link(&mut link, &mut into), Ok(4));
+    assert!(rt; read_link(&mut link, &mut into) == Ok(4));
     assert!(rt; write_link(&mut link, b"fine").is_ok());
     client.read_exact(&mut into)?;
-    assert_eq!(rt; into, *b"fine");
+    assert!(rt; into == *b"fine");
     busy.finish(link);
-    assert_eq!(rt; takes_one(&mut busy), Ok(false));
+    assert!(rt; takes_one(&mut busy) == Ok(false));
     Ok(())
 }
 
@@ -187,11 +187,11 @@ fn a_byte_closes_the_socket_with_nobody_in_an_accept(rt: HostRuntime) -> Result<
     let mut second = one(&rt, PATH, &socket)?;
     close_at_byte(b"".as_slice(), &socket);
     let _client = connect(&rt, &socket)?;
-    assert_eq!(rt; takes_one(&mut first), Ok(true));
+    assert!(rt; takes_one(&mut first) == Ok(true));
     close_at_byte(b"\n".as_slice(), &socket);
     assert!(rt; is_refused(&rt, &socket));
-    assert_eq!(rt; takes_one(&mut first), Ok(false));
-    assert_eq!(rt; takes_one(&mut second), Ok(false));
+    assert!(rt; takes_one(&mut first) == Ok(false));
+    assert!(rt; takes_one(&mut second) == Ok(false));
     Ok(())
 }
 
@@ -203,8 +203,8 @@ fn a_byte_at_a_path_ends_an_accept_that_waits(rt: HostRuntime) -> Result<(), Fai
     let mut second = one(&rt, "mokdrai_test_none", &socket)?;
     fs::write(&rt, PATH, b"\n".as_slice())?;
     close_later(&rt, Some(PATH), &Some(socket.clone()?))?;
-    assert_eq!(rt; takes_one(&mut first), Ok(false));
-    assert_eq!(rt; takes_one(&mut second), Ok(false));
+    assert!(rt; takes_one(&mut first) == Ok(false));
+    assert!(rt; takes_one(&mut second) == Ok(false));
     assert!(rt; is_refused(&rt, &socket));
     fs::remove_file(&rt, PATH)?;
     Ok(())
@@ -249,11 +249,11 @@ fn a_fault_is_the_end_only_where_the_socket_was_closed(rt: HostRuntime) -> Resul
     let socket = socket(&rt)?;
     let own = links(alloc, 2, &[2, 4])?;
     let mut listener = SharedListener::new(own, Some(socket.clone()?));
-    assert_eq!(rt; takes_one(&mut listener), Ok(true));
-    assert_eq!(rt; takes_one(&mut listener), Err(OutFault::Failed));
+    assert!(rt; takes_one(&mut listener) == Ok(true));
+    assert!(rt; takes_one(&mut listener) == Err(OutFault::Failed));
     socket.close();
-    assert_eq!(rt; takes_one(&mut listener), Ok(true));
-    assert_eq!(rt; takes_one(&mut listener), Ok(false));
+    assert!(rt; takes_one(&mut listener) == Ok(true));
+    assert!(rt; takes_one(&mut listener) == Ok(false));
     Ok(())
 }
 
@@ -277,8 +277,8 @@ fn an_address_that_can_not_be_bound_makes_each_accept_fail(rt: HostRuntime) -> R
     let none = bind(alloc, &rt, "no address")?;
     assert!(rt; none.is_none());
     let mut all = share(alloc, &none, 2, 9)?;
-    assert_eq!(rt; all.len(), 2);
-    assert_eq!(rt; takes_one(&mut all[0]), Err(OutFault::Failed));
-    assert_eq!(rt; takes_one(&mut all[1]), Err(OutFault::Failed));
+    assert!(rt; all.len() == 2);
+    assert!(rt; takes_one(&mut all[0]) == Err(OutFault::Failed));
+    assert!(rt; takes_one(&mut all[1]) == Err(OutFault::Failed));
     Ok(())
 }

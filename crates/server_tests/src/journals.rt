@@ -152,28 +152,16 @@ fn a_missing_last_line_is_bad_where_it_should_stand(rt: HostRuntime) {
 
 #[test]
 fn the_first_bad_line_is_named(rt: HostRuntime) -> Result<(), Fail> {
-    assert_eq!(rt; bad_line(rt.alloc(), b"end 0\n")?, None);
-    assert_eq!(rt; bad_line(rt.alloc(), b"")?, Some(2));
-    assert_eq!(rt; bad_line(rt.alloc(), b"end 0")?, Some(2));
-    assert_eq!(rt; bad_line(rt.alloc(), b"end 1\n")?, Some(2));
-    assert_eq!(rt; bad_line(rt.alloc(), b"end\n")?, Some(2));
-    assert_eq!(rt; bad_line(rt.alloc(), b"end 0\n\n")?, Some(3));
-    assert_eq!(rt;
-        bad_line(rt.alloc(), b"file 612e637376 -\nfile 612e637376 -\nend 0\n")?,
-        Some(3)
-    );
-    assert_eq!(rt;
-        bad_line(rt.alloc(), b"file 622e637376 -\nfile 612e637376 -\nend 0\n")?,
-        Some(3)
-    );
-    assert_eq!(rt;
-        bad_line(rt.alloc(), b"file 612e637376 -\nfile 622e637376 -\nend 0\n")?,
-        None
-    );
-    assert_eq!(rt;
-        bad_line(rt.alloc(), b"file 612e637376 0A\nend 0\n")?,
-        Some(2)
-    );
+    assert!(rt; bad_line(rt.alloc(), b"end 0\n")? == None);
+    assert!(rt; bad_line(rt.alloc(), b"")? == Some(2));
+    assert!(rt; bad_line(rt.alloc(), b"end 0")? == Some(2));
+    assert!(rt; bad_line(rt.alloc(), b"end 1\n")? == Some(2));
+    assert!(rt; bad_line(rt.alloc(), b"end\n")? == Some(2));
+    assert!(rt; bad_line(rt.alloc(), b"end 0\n\n")? == Some(3));
+    assert!(rt; bad_line(rt.alloc(), b"file 612e637376 -\nfile 612e637376 -\nend 0\n")? == Some(3));
+    assert!(rt; bad_line(rt.alloc(), b"file 622e637376 -\nfile 612e637376 -\nend 0\n")? == Some(3));
+    assert!(rt; bad_line(rt.alloc(), b"file 612e637376 -\nfile 622e637376 -\nend 0\n")? == None);
+    assert!(rt; bad_line(rt.alloc(), b"file 612e637376 0A\nend 0\n")? == Some(2));
     Ok(())
 }
 
@@ -191,7 +179,7 @@ fn an_entry_that_breaks_a_bound_is_bad(rt: HostRuntime) -> Result<(), Fail> {
         "1 11 0 5 5 612e637376 lock - u.612e637376.w.2.0.9 200 - - v1 -\n",
         "1 11 0 5 5  612e637376 info u.612e637376.w.2.0.9 200 - - v1 -\n",
     ] {
-        assert_eq!(rt; bad_line(rt.alloc(), line.as_bytes())?, Some(2), "{line}");
+        assert!(rt; bad_line(rt.alloc(), line.as_bytes())? == Some(2), "{line}");
     }
     Ok(())
 }
@@ -219,10 +207,10 @@ fn lock_ids_have_at_most_256_bytes_in_the_first_form_and_1024_in_the_second(
     let second = "wopi journal 2 opened 0 first 1\n1 11 0 5 5 612e637376 lock ";
     let end = " u.612e637376.w.2.0.9 200 - - v1 -\nend\n";
     let counted = " u.612e637376.w.2.0.9 200 - - v1 -\nend 1\n";
-    assert_eq!(rt; bad_under_id(rt.alloc(), first, 256, end)?, None);
-    assert_eq!(rt; bad_under_id(rt.alloc(), first, 257, end)?, Some(2));
-    assert_eq!(rt; bad_under_id(rt.alloc(), second, 1_024, counted)?, None);
-    assert_eq!(rt; bad_under_id(rt.alloc(), second, 1_025, counted)?, Some(2));
+    assert!(rt; bad_under_id(rt.alloc(), first, 256, end)? == None);
+    assert!(rt; bad_under_id(rt.alloc(), first, 257, end)? == Some(2));
+    assert!(rt; bad_under_id(rt.alloc(), second, 1_024, counted)? == None);
+    assert!(rt; bad_under_id(rt.alloc(), second, 1_025, counted)? == Some(2));
     Ok(())
 }
 

@@ -15,14 +15,14 @@ fn a_refreshed_file_ends_later(rt: HostRuntime) -> Result<(), Fail> {
     queue.reserve(2).map_err(|_| "memory")?;
     let five = queue.push(5, 0);
     let _six = queue.push(6, 10);
-    assert_eq!(rt; queue.first(), Some((5, 0)));
+    assert!(rt; queue.first() == Some((5, 0)));
     queue.refresh(five, 20);
-    assert_eq!(rt; queue.first(), Some((6, 10)));
-    assert_eq!(rt; queue.pop_expired(1_800_009), None);
-    assert_eq!(rt; queue.pop_expired(1_800_010), Some(6));
-    assert_eq!(rt; queue.pop_expired(1_800_010), None);
-    assert_eq!(rt; queue.remove(five), 5);
-    assert_eq!(rt; queue.first(), None);
+    assert!(rt; queue.first() == Some((6, 10)));
+    assert!(rt; queue.pop_expired(1_800_009) == None);
+    assert!(rt; queue.pop_expired(1_800_010) == Some(6));
+    assert!(rt; queue.pop_expired(1_800_010) == None);
+    assert!(rt; queue.remove(five) == 5);
+    assert!(rt; queue.first() == None);
     Ok(())
 }
 
@@ -54,8 +54,8 @@ fn a_refused_reserve_changes_nothing(rt: HostRuntime) -> Result<(), Fail> {
     let _six = queue.push(6, 10);
     assert!(rt; queue.reserve(usize::MAX).is_err());
     queue.refresh(five, 20);
-    assert_eq!(rt; queue.pop_expired(1_800_009), None);
-    assert_eq!(rt; queue.pop_expired(1_800_010), Some(6));
-    assert_eq!(rt; queue.pop_expired(1_800_010), None);
+    assert!(rt; queue.pop_expired(1_800_009) == None);
+    assert!(rt; queue.pop_expired(1_800_010) == Some(6));
+    assert!(rt; queue.pop_expired(1_800_010) == None);
     Ok(())
 }

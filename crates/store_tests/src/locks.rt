@@ -94,12 +94,9 @@ fn step(rt: &impl Abort, run: &mut Run, act: &LockAct, now: u64) -> Result<Verdi
 #[test]
 fn a_lock_stands_for_less_than_thirty_minutes(rt: HostRuntime) -> Result<(), Fail> {
     let mut run = begin(rt.alloc());
-    assert_eq!(rt; step(&rt, &mut run, &lock(&rt, b"L1"), 0)?, Verdict::Accept);
-    assert_eq!(rt; step(&rt, &mut run, &lock(&rt, b"L2"), 1_799_999)?, LOCKED);
-    assert_eq!(rt;
-        step(&rt, &mut run, &lock(&rt, b"L2"), 1_800_000)?,
-        Verdict::Accept
-    );
+    assert!(rt; step(&rt, &mut run, &lock(&rt, b"L1"), 0)? == Verdict::Accept);
+    assert!(rt; step(&rt, &mut run, &lock(&rt, b"L2"), 1_799_999)? == LOCKED);
+    assert!(rt; step(&rt, &mut run, &lock(&rt, b"L2"), 1_800_000)? == Verdict::Accept);
     Ok(())
 }
 
@@ -110,13 +107,10 @@ fn both_ids_of_an_unlock_and_relock_are_spent_once_they_ended(rt: HostRuntime) -
         old: id(&rt, b"L1"),
         id: id(&rt, b"L2"),
     };
-    assert_eq!(rt; step(&rt, &mut run, &lock(&rt, b"L1"), 0)?, Verdict::Accept);
-    assert_eq!(rt; step(&rt, &mut run, &relock, 1)?, Verdict::Accept);
-    assert_eq!(rt; step(&rt, &mut run, &unlock(&rt, b"L1"), 2)?, SPENT);
-    assert_eq!(rt;
-        step(&rt, &mut run, &unlock(&rt, b"L2"), 3)?,
-        Verdict::Accept
-    );
-    assert_eq!(rt; step(&rt, &mut run, &lock(&rt, b"L2"), 4)?, SPENT);
+    assert!(rt; step(&rt, &mut run, &lock(&rt, b"L1"), 0)? == Verdict::Accept);
+    assert!(rt; step(&rt, &mut run, &relock, 1)? == Verdict::Accept);
+    assert!(rt; step(&rt, &mut run, &unlock(&rt, b"L1"), 2)? == SPENT);
+    assert!(rt; step(&rt, &mut run, &unlock(&rt, b"L2"), 3)? == Verdict::Accept);
+    assert!(rt; step(&rt, &mut run, &lock(&rt, b"L2"), 4)? == SPENT);
     Ok(())
 }

@@ -173,13 +173,13 @@ fn a_store_fault_leaves_the_file_until_the_next_save(rt: HostRuntime) -> Result<
     let named = name(&rt, b"a.csv");
     let torn = single.shard().file(&named).ok_or("the file")?;
     assert!(rt; torn.torn);
-    assert_eq!(rt; torn.version, 1);
-    assert_eq!(rt; torn.contents, b"1,2\n".as_slice());
+    assert!(rt; torn.version == 1);
+    assert!(rt; torn.contents == b"1,2\n".as_slice());
     let again = put(alloc, Some(lock_id(&rt)), b"new")?;
     assert!(rt; step(&rt, &mut single, call(&rt, b"a.csv", again), 2) == ok(2));
     let saved = single.shard().file(&named).ok_or("the file")?;
     assert!(rt; !saved.torn);
-    assert_eq!(rt; saved.contents, b"new".as_slice());
+    assert!(rt; saved.contents == b"new".as_slice());
     Ok(())
 }
 
@@ -191,7 +191,7 @@ fn a_name_whose_first_store_call_failed_is_no_file(rt: HostRuntime) -> Result<()
     assert!(rt; step(&rt, &mut single, made, 0) == bare(500));
     let named = name(&rt, b"b.csv");
     assert!(rt; single.shard().file(&named).is_none());
-    assert_eq!(rt; single.shard().names()?.len(), 2);
+    assert!(rt; single.shard().names()?.len() == 2);
     let again = call_for(&rt, b"b.csv", b"e.csv", create(alloc, false, b"x")?);
     assert!(rt; step(&rt, &mut single, again, 1) == ok(1));
     assert!(rt; single.shard().file(&named).is_some());
@@ -248,16 +248,16 @@ fn a_shard_leaves_its_opening_its_entries_and_their_contents(rt: HostRuntime) ->
     assert!(rt; step(&rt, &mut single, call(&rt, b"e.csv", save), 7) == ok(2));
     let (_folder, past) = single.end().end();
     let (first, contents) = past.opening(0).ok_or("a file")?;
-    assert_eq!(rt; first.as_str(), "a.csv");
-    assert_eq!(rt; contents, b"1,2\n".as_slice());
+    assert!(rt; first.as_str() == "a.csv");
+    assert!(rt; contents == b"1,2\n".as_slice());
     let (second, contents) = past.opening(1).ok_or("a file")?;
-    assert_eq!(rt; second.as_str(), "e.csv");
+    assert!(rt; second.as_str() == "e.csv");
     assert!(rt; contents.is_empty());
     assert!(rt; past.opening(2).is_none());
     let entry = past.entry(0).ok_or("an entry")?;
-    assert_eq!(rt; entry.moment(), 7);
-    assert_eq!(rt; entry.status(), 200);
-    assert_eq!(rt; past.contents(0).ok_or("contents")?, b"9".as_slice());
+    assert!(rt; entry.moment() == 7);
+    assert!(rt; entry.status() == 200);
+    assert!(rt; past.contents(0).ok_or("contents")? == b"9".as_slice());
     assert!(rt; past.entry(1).is_none());
     Ok(())
 }
@@ -269,10 +269,10 @@ fn the_names_come_in_the_order_of_their_bytes(rt: HostRuntime) -> Result<(), Fai
     let made = call_for(&rt, b"b.csv", b"e.csv", create(alloc, false, b"x")?);
     assert!(rt; step(&rt, &mut single, made, 0) == ok(1));
     let names = single.shard().names()?;
-    assert_eq!(rt; names.len(), 3);
-    assert_eq!(rt; names.get(0).ok_or("a name")?.as_str(), "a.csv");
-    assert_eq!(rt; names.get(1).ok_or("a name")?.as_str(), "b.csv");
-    assert_eq!(rt; names.get(2).ok_or("a name")?.as_str(), "e.csv");
+    assert!(rt; names.len() == 3);
+    assert!(rt; names.get(0).ok_or("a name")?.as_str() == "a.csv");
+    assert!(rt; names.get(1).ok_or("a name")?.as_str() == "b.csv");
+    assert!(rt; names.get(2).ok_or("a name")?.as_str() == "e.csv");
     Ok(())
 }
 
@@ -281,21 +281,21 @@ fn versions_go_on_from_the_first_one(rt: HostRuntime) -> Result<(), Fail> {
     let alloc = rt.alloc();
     let mut single = open_from(alloc, 4096, &[], 7)?;
     let opened = name(&rt, b"e.csv");
-    assert_eq!(rt; single.shard().file(&opened).ok_or("the file")?.version, 7);
+    assert!(rt; single.shard().file(&opened).ok_or("the file")?.version == 7);
     let named = name(&rt, b"b.csv");
     assert!(rt; single.shard().file(&named).is_none());
-    assert_eq!(rt; single.shard().names()?.len(), 2);
+    assert!(rt; single.shard().names()?.len() == 2);
     let save = put(alloc, None, b"4")?;
     assert!(rt; step(&rt, &mut single, call(&rt, b"e.csv", save), 0) == ok(8));
     let made = call_for(&rt, b"b.csv", b"e.csv", create(alloc, false, b"x")?);
     assert!(rt; step(&rt, &mut single, made, 0) == ok(7));
-    assert_eq!(rt; single.shard().file(&named).ok_or("the file")?.version, 7);
-    assert_eq!(rt; single.shard().names()?.len(), 3);
+    assert!(rt; single.shard().file(&named).ok_or("the file")?.version == 7);
+    assert!(rt; single.shard().names()?.len() == 3);
     let (_folder, past) = single.end().end();
     let (first, contents) = past.opening(0).ok_or("a file")?;
-    assert_eq!(rt; first.as_str(), "a.csv");
-    assert_eq!(rt; contents, b"1,2\n".as_slice());
-    assert_eq!(rt; past.contents(0).ok_or("contents")?, b"4".as_slice());
+    assert!(rt; first.as_str() == "a.csv");
+    assert!(rt; contents == b"1,2\n".as_slice());
+    assert!(rt; past.contents(0).ok_or("contents")? == b"4".as_slice());
     Ok(())
 }
 
@@ -312,7 +312,7 @@ fn a_file_of_more_than_sixteen_mebibytes_opens_no_shard(rt: HostRuntime) -> Resu
         Err(refused) => {
             let (_folder, fault) = refused;
             match fault {
-                StartFault::TooLarge { name } => assert_eq!(rt; name.as_str(), "b.csv"),
+                StartFault::TooLarge { name } => assert!(rt; name.as_str() == "b.csv"),
                 StartFault::FolderFault => panic!(&rt; "another fault"),
                 StartFault::Memory => panic!(&rt; "another fault"),
             }

@@ -53,10 +53,10 @@ fn a_lock_request_names_its_file_its_token_and_its_id(rt: HostRuntime) -> Result
     let target = "http://h:80/wopi/files/612e637376?a=b&access_token=a%2Bb+c&access_token=d";
     let asked = request(rt.alloc(), Method::Post, target, &named)?;
     let ask = ask_of(rt.alloc(), &asked)?;
-    assert_eq!(rt; ask.file.as_str(), "a.csv");
-    assert_eq!(rt; ask.token.as_slice(), b"a+b+c".as_slice());
+    assert!(rt; ask.file.as_str() == "a.csv");
+    assert!(rt; ask.token.as_slice() == b"a+b+c".as_slice());
     match &ask.op {
-        Op::Lock { id } => assert_eq!(rt; id.as_slice(), b"L1".as_slice()),
+        Op::Lock { id } => assert!(rt; id.as_slice() == b"L1".as_slice()),
         _ => assert!(rt; false),
     }
     Ok(())
@@ -66,15 +66,12 @@ fn a_lock_request_names_its_file_its_token_and_its_id(rt: HostRuntime) -> Result
 fn each_refusal_has_its_status(rt: HostRuntime) -> Result<(), Fail> {
     let alloc = rt.alloc();
     let get = Method::Get;
-    assert_eq!(rt; status(alloc, get, "/wopi/files/zz", &[])?, 404);
-    assert_eq!(rt; status(alloc, get, "/wopi/files/612E637376", &[])?, 404);
-    assert_eq!(rt; status(alloc, get, "*", &[])?, 404);
-    assert_eq!(rt;
-        status(alloc, get, "/wopi/files/612e637376/contents/", &[])?,
-        404
-    );
-    assert_eq!(rt; status(alloc, Method::Other, FILE, &[])?, 501);
-    assert_eq!(rt; status(alloc, get, FILE, &[])?, 200);
+    assert!(rt; status(alloc, get, "/wopi/files/zz", &[])? == 404);
+    assert!(rt; status(alloc, get, "/wopi/files/612E637376", &[])? == 404);
+    assert!(rt; status(alloc, get, "*", &[])? == 404);
+    assert!(rt; status(alloc, get, "/wopi/files/612e637376/contents/", &[])? == 404);
+    assert!(rt; status(alloc, Method::Other, FILE, &[])? == 501);
+    assert!(rt; status(alloc, get, FILE, &[])? == 200);
     Ok(())
 }
 
@@ -113,15 +110,15 @@ fn target<'x>(
 fn a_copy_has_the_name_that_its_header_stands_for(rt: HostRuntime) -> Result<(), Fail> {
     let found = target(rt.alloc(), (SUGGESTED, "+AOk-.csv"), "no")?;
     match &found {
-        Some(Target::Suggested(name)) => assert_eq!(rt; name.as_slice(), "é.csv".as_bytes()),
+        Some(Target::Suggested(name)) => assert!(rt; name.as_slice() == "é.csv".as_bytes()),
         _ => assert!(rt; false),
     }
     for (word, wanted) in [("false", false), ("True", true)] {
         let found = target(rt.alloc(), (RELATIVE, "b.csv"), word)?;
         match &found {
             Some(Target::Relative { name, overwrite }) => {
-                assert_eq!(rt; name.as_slice(), b"b.csv".as_slice());
-                assert_eq!(rt; *overwrite, wanted);
+                assert!(rt; name.as_slice() == b"b.csv".as_slice());
+                assert!(rt; *overwrite == wanted);
             }
             _ => assert!(rt; false),
         }
@@ -137,28 +134,16 @@ fn each_copy_out_of_form_has_its_status(rt: HostRuntime) -> Result<(), Fail> {
     let suggested = (SUGGESTED, ".txt");
     let relative = (RELATIVE, "b.csv");
     let yes = (OVERWRITE, "yes");
-    assert_eq!(rt; status(alloc, post, FILE, &[copy])?, 400);
-    assert_eq!(rt;
-        status(alloc, post, FILE, &[copy, suggested, relative])?,
-        501
-    );
-    assert_eq!(rt;
-        status(alloc, post, FILE, &[copy, suggested, suggested])?,
-        400
-    );
-    assert_eq!(rt; status(alloc, post, FILE, &[copy, (SUGGESTED, "")])?, 400);
-    assert_eq!(rt;
-        status(alloc, post, FILE, &[copy, (SUGGESTED, "+AOl-")])?,
-        400
-    );
-    assert_eq!(rt; status(alloc, post, FILE, &[copy, relative, yes])?, 400);
-    assert_eq!(rt;
-        status(alloc, post, FILE, &[copy, relative, (OVERWRITE, "")])?,
-        400
-    );
-    assert_eq!(rt; status(alloc, post, FILE, &[copy, suggested, yes])?, 200);
-    assert_eq!(rt; status(alloc, post, FILE, &[copy, copy, suggested])?, 400);
-    assert_eq!(rt; status(alloc, post, FILE, &[copy, relative])?, 200);
+    assert!(rt; status(alloc, post, FILE, &[copy])? == 400);
+    assert!(rt; status(alloc, post, FILE, &[copy, suggested, relative])? == 501);
+    assert!(rt; status(alloc, post, FILE, &[copy, suggested, suggested])? == 400);
+    assert!(rt; status(alloc, post, FILE, &[copy, (SUGGESTED, "")])? == 400);
+    assert!(rt; status(alloc, post, FILE, &[copy, (SUGGESTED, "+AOl-")])? == 400);
+    assert!(rt; status(alloc, post, FILE, &[copy, relative, yes])? == 400);
+    assert!(rt; status(alloc, post, FILE, &[copy, relative, (OVERWRITE, "")])? == 400);
+    assert!(rt; status(alloc, post, FILE, &[copy, suggested, yes])? == 200);
+    assert!(rt; status(alloc, post, FILE, &[copy, copy, suggested])? == 400);
+    assert!(rt; status(alloc, post, FILE, &[copy, relative])? == 200);
     Ok(())
 }
 
@@ -179,10 +164,10 @@ fn a_conflict_carries_its_lock_and_its_reason(rt: HostRuntime) -> Result<(), Fai
         ("X-WOPI-LockFailureReason", "locked"),
         ("Connection", "close"),
     ];
-    assert_eq!(rt; reply.fields.len(), wanted.len());
+    assert!(rt; reply.fields.len() == wanted.len());
     for (field, (name, value)) in reply.fields.as_slice().iter().zip(wanted) {
-        assert_eq!(rt; field.name.as_slice(), name.as_bytes());
-        assert_eq!(rt; field.value.as_slice(), value.as_bytes());
+        assert!(rt; field.name.as_slice() == name.as_bytes());
+        assert!(rt; field.value.as_slice() == value.as_bytes());
     }
     Ok(())
 }

@@ -27,8 +27,8 @@ fn what_is_told_of_a_file_has_its_members_in_order(rt: HostRuntime) -> Result<()
                 \"SupportsDeleteFile\":true,\"SupportsExtendedLockLength\":true,\"SupportsGetLock\":true,\"SupportsLocks\":true,\
                 \"SupportsUpdate\":true,\"UserCanNotWriteRelative\":false,\"UserCanWrite\":true,\
                 \"UserId\":\"ann\",\"Version\":\"v1\"}";
-    assert_eq!(rt; told.len(), 259);
-    assert_eq!(rt; text.as_slice(), told.as_bytes());
+    assert!(rt; told.len() == 259);
+    assert!(rt; text.as_slice() == told.as_bytes());
     Ok(())
 }
 
@@ -38,7 +38,7 @@ fn a_new_file_is_told_by_its_name_and_its_address(rt: HostRuntime) -> Result<(),
     let text = relative_text(rt.alloc(), "a.txt", url)?;
     let told = "{\"Name\":\"a.txt\",\
                 \"Url\":\"http://localhost:8880/wopi/files/612e747874?access_token=t\"}";
-    assert_eq!(rt; text.as_slice(), told.as_bytes());
+    assert!(rt; text.as_slice() == told.as_bytes());
     Ok(())
 }
 
@@ -47,24 +47,21 @@ fn what_is_written_reads_back(rt: HostRuntime) -> Result<(), Fail> {
     let info = ann_may_write(rt.alloc())?;
     let text = info_text(rt.alloc(), &info)?;
     let back = info_read(rt.alloc(), text.as_slice())?;
-    assert_eq!(rt; back.name.as_slice(), b"a.csv".as_slice());
-    assert_eq!(rt; back.version.as_slice(), b"v1".as_slice());
-    assert_eq!(rt; back.size, 4);
+    assert!(rt; back.name.as_slice() == b"a.csv".as_slice());
+    assert!(rt; back.version.as_slice() == b"v1".as_slice());
+    assert!(rt; back.size == 4);
     assert!(rt; back.can_write);
     let made = relative_text(rt.alloc(), "é \"1\".csv", "http://h/f?t=1")?;
     let (name, url) = relative_read(rt.alloc(), made.as_slice())?;
-    assert_eq!(rt; name.as_slice(), "é \"1\".csv".as_bytes());
-    assert_eq!(rt; url.as_slice(), b"http://h/f?t=1".as_slice());
+    assert!(rt; name.as_slice() == "é \"1\".csv".as_bytes());
+    assert!(rt; url.as_slice() == b"http://h/f?t=1".as_slice());
     Ok(())
 }
 
 #[test]
 fn what_is_no_json_is_refused(rt: HostRuntime) {
     for body in [b"".as_slice(), b"{", b"{} x", b"{\"Name\":\"\xff\"}"] {
-        assert_eq!(rt; info_read(rt.alloc(), body).err(), Some(InfoFault::NotJson));
-        assert_eq!(rt;
-            relative_read(rt.alloc(), body).err(),
-            Some(InfoFault::NotJson)
-        );
+        assert!(rt; info_read(rt.alloc(), body).err() == Some(InfoFault::NotJson));
+        assert!(rt; relative_read(rt.alloc(), body).err() == Some(InfoFault::NotJson));
     }
 }

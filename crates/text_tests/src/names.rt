@@ -6,9 +6,9 @@ use wopi_text::FileName;
 fn an_ending_goes_to_the_stem_of_the_source(rt: HostRuntime) -> Result<(), Fail> {
     let source = FileName::read(b"a.csv")?;
     let name = tidy(rt.alloc(), &source, ".txt")?;
-    assert_eq!(rt; name.as_str(), "a.txt");
+    assert!(rt; name.as_str() == "a.txt");
     let whole = tidy(rt.alloc(), &source, "b/c\u{85}.d. .")?;
-    assert_eq!(rt; whole.as_str(), "b_c_.d");
+    assert!(rt; whole.as_str() == "b_c_.d");
     Ok(())
 }
 
@@ -35,9 +35,6 @@ fn what_makes_no_name_is_refused(rt: HostRuntime) -> Result<(), Fail> {
         assert!(rt; suggestion.starts_with('.') == name.is_ok(), "{suggestion}");
     }
     let long = str::from_utf8(&[b'x'; 124])?;
-    assert_eq!(rt;
-        tidy(rt.alloc(), &source, long).err(),
-        Some(TidyFault::BadName)
-    );
+    assert!(rt; tidy(rt.alloc(), &source, long).err() == Some(TidyFault::BadName));
     Ok(())
 }

@@ -80,9 +80,6 @@ fn the_first_fault_is_told_by_its_place(rt: HostRuntime) {
         (b"+AOk-+AOl-", 5),
         (b"+AOk\n", 4),
     ] {
-        assert_eq!(rt;
-            utf7_read(rt.alloc(), bytes).err(),
-            Some(Utf7Fault::Bad { at })
-        );
+        assert!(rt; utf7_read(rt.alloc(), bytes).err() == Some(Utf7Fault::Bad { at }));
     }
 }

@@ -33,7 +33,7 @@ fn the_seven_requests_of_two_saves(rt: HostRuntime) -> Result<(), Fail> {
     )?;
     let opened = drive(alloc, &desktop, &mut session, &mut host, Input::Start);
     assert!(rt; matches!(opened, Ok(Outcome::Opened { version: Some(1) })));
-    assert_eq!(rt; session.contents(), b"1,2\n".as_slice());
+    assert!(rt; session.contents() == b"1,2\n".as_slice());
     let first = save(alloc, b"1,9\n")?;
     let saved = drive(alloc, &desktop, &mut session, &mut host, first);
     assert!(rt; matches!(saved, Ok(Outcome::Saved { version: Some(2) })));
@@ -43,11 +43,11 @@ fn the_seven_requests_of_two_saves(rt: HostRuntime) -> Result<(), Fail> {
     let closed = drive(alloc, &desktop, &mut session, &mut host, Input::Close);
     assert!(rt; matches!(closed, Ok(Outcome::Closed)));
     let wanted = [ASK_INFO, TAKE_LOCK, GET, PUT, RELOCK, SECOND_PUT, UNLOCK];
-    assert_eq!(rt; host.exchanges().len(), wanted.len());
+    assert!(rt; host.exchanges().len() == wanted.len());
     for (exchange, text) in host.exchanges().iter().zip(wanted) {
-        assert_eq!(rt; exchange.request.as_slice(), text);
+        assert!(rt; exchange.request.as_slice() == text);
     }
-    assert_eq!(rt; request(&host, 7), b"".as_slice());
+    assert!(rt; request(&host, 7) == b"".as_slice());
     Ok(())
 }
 
@@ -74,6 +74,6 @@ fn a_reply_with_fields_in_another_order_and_case_is_followed(rt: HostRuntime) ->
     let mut session = session();
     let mut host = dialer(alloc, &[INFO, CONFLICT])?;
     let told = drive(alloc, &desktop, &mut session, &mut host, Input::Start);
-    assert_eq!(rt; holder(&told), b"L9".as_slice());
+    assert!(rt; holder(&told) == b"L9".as_slice());
     Ok(())
 }

@@ -25,7 +25,7 @@ fn expect(
     let contents = contents(alloc, sheet)?;
     let left = run(alloc, script, &[INFO, ACCEPTED, &contents, ACCEPTED])?;
     assert!(rt; matches!(left.end, Ok(Went::On)));
-    assert_eq!(rt; left.output.as_slice(), written);
+    assert!(rt; left.output.as_slice() == written);
     Ok(())
 }
 

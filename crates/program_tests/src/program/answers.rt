@@ -163,9 +163,12 @@ fn each_refusal_of_a_host_has_its_outcome(rt: HostRuntime) -> Result<(), Fail> {
     let alloc = rt.alloc();
     for (place, row) in ROWS.iter().enumerate() {
         let left = edit(&rt, alloc, SCRIPT, row.replies)?;
-        assert_eq!(rt; left.status, row.status, "row {place}");
-        assert_eq!(rt; left.output.as_slice(), row.output, "row {place}");
-        assert_eq!(rt; left.dialer.exchanges().len(), row.requests, "row {place}");
+        assert!(rt; left.status == row.status, "row {place}");
+        assert!(rt; left.output.as_slice() == row.output, "row {place}");
+        assert!(rt;
+            left.dialer.exchanges().len() == row.requests,
+            "row {place}"
+        );
     }
     Ok(())
 }
@@ -237,8 +240,8 @@ fn bodies_that_tell_nothing_of_a_file_are_bad_where_they_begin(
             b"open\n",
             &[reply.as_slice(), VERSION_1, CONTENTS],
         )?;
-        assert_eq!(rt; left.status, 11, "body {place}");
-        assert_eq!(rt; left.output.as_slice(), told.as_bytes(), "body {place}");
+        assert!(rt; left.status == 11, "body {place}");
+        assert!(rt; left.output.as_slice() == told.as_bytes(), "body {place}");
     }
     Ok(())
 }
@@ -254,10 +257,9 @@ fn bodies_that_tell_more_than_was_asked_are_read(rt: HostRuntime) -> Result<(), 
             b"open\n",
             &[reply.as_slice(), VERSION_1, CONTENTS],
         )?;
-        assert_eq!(rt; left.status, 0, "body {place}");
-        assert_eq!(rt;
-            left.output.as_slice(),
-            b"opened v1 1\n".as_slice(),
+        assert!(rt; left.status == 0, "body {place}");
+        assert!(rt;
+            left.output.as_slice() == b"opened v1 1\n".as_slice(),
             "body {place}"
         );
     }
@@ -287,8 +289,8 @@ fn bodies_that_tell_no_name_of_a_copy_are_bad_where_they_begin(
         let told = format!(in alloc; "opened v1 1\nbad reply {at}\n")?;
         let replies = [INFO, VERSION_1, CONTENTS, reply.as_slice()];
         let left = edit(&rt, alloc, b"open\nsaveas b.csv\n", &replies)?;
-        assert_eq!(rt; left.status, 11, "body {place}");
-        assert_eq!(rt; left.output.as_slice(), told.as_bytes(), "body {place}");
+        assert!(rt; left.status == 11, "body {place}");
+        assert!(rt; left.output.as_slice() == told.as_bytes(), "body {place}");
     }
     Ok(())
 }
@@ -313,7 +315,7 @@ fn a_body_of_lists_in_lists_is_bad_where_it_begins(rt: HostRuntime) -> Result<()
         b"open\n",
         &[reply.as_slice(), VERSION_1, CONTENTS],
     )?;
-    assert_eq!(rt; left.status, 11);
-    assert_eq!(rt; left.output.as_slice(), b"bad reply 43\n".as_slice());
+    assert!(rt; left.status == 11);
+    assert!(rt; left.output.as_slice() == b"bad reply 43\n".as_slice());
     Ok(())
 }

@@ -90,10 +90,9 @@ fn journals_are_judged(rt: HostRuntime) -> Result<(), Fail> {
     for (place, row) in ROWS.iter().enumerate() {
         let input = joined(alloc, row.input)?;
         let left = run_with(&rt, alloc, &["audit"], &whole(&input))?;
-        assert_eq!(rt; left.status, row.status, "row {place}");
-        assert_eq!(rt;
-            left.output.as_slice(),
-            row.output.as_bytes(),
+        assert!(rt; left.status == row.status, "row {place}");
+        assert!(rt;
+            left.output.as_slice() == row.output.as_bytes(),
             "row {place}"
         );
         assert!(rt; left.notes.as_slice().is_empty(), "row {place}");
@@ -168,13 +167,15 @@ fn contents_are_those_of_the_version(rt: HostRuntime) -> Result<(), Fail> {
     for (place, one) in SOUGHT.iter().enumerate() {
         let words = ["contents", one.id, one.version];
         let left = run_with(&rt, alloc, &words, &whole(SAVED.as_bytes()))?;
-        assert_eq!(rt; left.status, one.status, "row {place}");
-        assert_eq!(rt;
-            left.output.as_slice(),
-            one.output.as_bytes(),
+        assert!(rt; left.status == one.status, "row {place}");
+        assert!(rt;
+            left.output.as_slice() == one.output.as_bytes(),
             "row {place}"
         );
-        assert_eq!(rt; left.notes.as_slice(), one.notes.as_bytes(), "row {place}");
+        assert!(rt;
+            left.notes.as_slice() == one.notes.as_bytes(),
+            "row {place}"
+        );
     }
     Ok(())
 }
@@ -194,12 +195,12 @@ fn given(failing_read: u64, failing_write: u64) -> Given<'static> {
 fn a_journal_that_fails_is_not_judged(rt: HostRuntime) -> Result<(), Fail> {
     let alloc = rt.alloc();
     let read = run_with(&rt, alloc, &["audit"], &given(2, 0))?;
-    assert_eq!(rt; read.status, 3);
-    assert_eq!(rt; read.notes.as_slice(), "read fault\n".as_bytes());
+    assert!(rt; read.status == 3);
+    assert!(rt; read.notes.as_slice() == "read fault\n".as_bytes());
     assert!(rt; read.output.as_slice().is_empty());
     let written = run_with(&rt, alloc, &["contents", "612e637376", "2"], &given(0, 1))?;
-    assert_eq!(rt; written.status, 4);
-    assert_eq!(rt; written.notes.as_slice(), "write fault\n".as_bytes());
+    assert!(rt; written.status == 4);
+    assert!(rt; written.notes.as_slice() == "write fault\n".as_bytes());
     assert!(rt; written.output.as_slice().is_empty());
     Ok(())
 }

@@ -70,8 +70,8 @@ fn the_schedules_of_the_demo_have_their_traces(rt: HostRuntime) -> Result<(), Fa
         (RESTART, RESTART_SHOWN),
     ] {
         let left = run_with(&rt, alloc, &["replay"], &whole(schedule.as_bytes()))?;
-        assert_eq!(rt; left.status, 0);
-        assert_eq!(rt; left.output.as_slice(), shown.as_bytes());
+        assert!(rt; left.status == 0);
+        assert!(rt; left.output.as_slice() == shown.as_bytes());
     }
     Ok(())
 }

@@ -36,15 +36,14 @@ fn a_request_whose_answer_is_lost_is_sent_again(rt: HostRuntime) -> Result<(), F
     let alloc = rt.alloc();
     for lost in 0..REPLIES.len() {
         let left = edit_on(&rt, alloc, &whole(SCRIPT), losing(alloc, lost)?)?;
-        assert_eq!(rt; left.status, 0, "answer {lost}");
-        assert_eq!(rt; left.output.as_slice(), TOLD, "answer {lost}");
+        assert!(rt; left.status == 0, "answer {lost}");
+        assert!(rt; left.output.as_slice() == TOLD, "answer {lost}");
         let exchanges = left.dialer.exchanges();
-        assert_eq!(rt; exchanges.len(), 8, "answer {lost}");
+        assert!(rt; exchanges.len() == 8, "answer {lost}");
         let first = exchanges.get(lost).ok_or("a request")?;
         let again = exchanges.get(lost.saturating_add(1)).ok_or("a request")?;
-        assert_eq!(rt;
-            first.request.as_slice(),
-            again.request.as_slice(),
+        assert!(rt;
+            first.request.as_slice() == again.request.as_slice(),
             "answer {lost}"
         );
     }
@@ -61,12 +60,12 @@ fn a_read_of_a_script_that_fails_leaves_nothing_done(rt: HostRuntime) -> Result<
         given.failing_read = place;
         let left = edit_on(&rt, alloc, &given, answering(alloc)?)?;
         if place <= reads {
-            assert_eq!(rt; left.status, 3, "read {place}");
+            assert!(rt; left.status == 3, "read {place}");
             assert!(rt; left.output.as_slice().is_empty(), "read {place}");
             assert!(rt; left.dialer.exchanges().is_empty(), "read {place}");
         } else {
-            assert_eq!(rt; left.status, 0, "read {place}");
-            assert_eq!(rt; left.output.as_slice(), TOLD, "read {place}");
+            assert!(rt; left.status == 0, "read {place}");
+            assert!(rt; left.output.as_slice() == TOLD, "read {place}");
         }
     }
     Ok(())
@@ -85,9 +84,9 @@ fn a_line_that_fails_is_the_last_of_a_script(rt: HostRuntime) -> Result<(), Fail
     ] {
         given.failing_write = place;
         let left = edit_on(&rt, alloc, &given, answering(alloc)?)?;
-        assert_eq!(rt; left.status, status, "write {place}");
-        assert_eq!(rt; left.output.as_slice(), told, "write {place}");
-        assert_eq!(rt; left.dialer.exchanges().len(), requests, "write {place}");
+        assert!(rt; left.status == status, "write {place}");
+        assert!(rt; left.output.as_slice() == told, "write {place}");
+        assert!(rt; left.dialer.exchanges().len() == requests, "write {place}");
     }
     Ok(())
 }

@@ -59,8 +59,8 @@ fn the_first_bad_line_ends_a_schedule_that_never_ends(rt: HostRuntime) -> Result
     ] {
         let outside = met_with(alloc, Endless { front, byte })?;
         let left = run_in(&rt, alloc, &["replay"], outside)?;
-        assert_eq!(rt; left.status, 7, "{told}");
-        assert_eq!(rt; left.output.as_slice(), told.as_bytes());
+        assert!(rt; left.status == 7, "{told}");
+        assert!(rt; left.output.as_slice() == told.as_bytes());
         assert!(rt; left.notes.as_slice().is_empty(), "{told}");
     }
     Ok(())

@@ -41,8 +41,8 @@ fn a_fault_is_told_and_ends_the_run(rt: HostRuntime) -> Result<(), Fail> {
         given.failing_write = write;
         given.failing_store = store;
         let left = run_with(&rt, alloc, &ONCE, &given)?;
-        assert_eq!(rt; left.status, status);
-        assert_eq!(rt; left.notes.as_slice(), line.as_bytes());
+        assert!(rt; left.status == status);
+        assert!(rt; left.notes.as_slice() == line.as_bytes());
         assert!(rt; left.output.as_slice().is_empty(), "{line}");
     }
     Ok(())
@@ -65,8 +65,8 @@ fn a_store_fault_leaves_the_file_and_the_next_save_mends_it(rt: HostRuntime) -> 
     let left = run_with(&rt, alloc, &ONCE, &given)?;
     let wanted =
         "HTTP/1.1 200 OK\r\nContent-Length: 0\r\nX-WOPI-ItemVersion: v1\r\n\r\nHTTP/1.1 500 Internal Server Error\r\nContent-Length: 11\r\nContent-Type: text/plain\r\n\r\nstore faultHTTP/1.1 200 OK\r\nContent-Length: 4\r\nContent-Type: application/octet-stream\r\nX-WOPI-ItemVersion: v1\r\n\r\n1,2\nHTTP/1.1 200 OK\r\nContent-Length: 0\r\nX-WOPI-ItemVersion: v2\r\n\r\n";
-    assert_eq!(rt; left.output.as_slice(), wanted.as_bytes());
-    assert_eq!(rt; left.kept("a.csv"), b"1,8\n".as_slice());
+    assert!(rt; left.output.as_slice() == wanted.as_bytes());
+    assert!(rt; left.kept("a.csv") == b"1,8\n".as_slice());
     Ok(())
 }
 
@@ -82,11 +82,10 @@ fn a_read_that_fails_leaves_a_front_of_the_replies(rt: HostRuntime) -> Result<()
         given.failing_read = place;
         let left = run_with(&rt, alloc, &ONCE, &given)?;
         let status = if place <= reads { 3 } else { 0 };
-        assert_eq!(rt; left.status, status, "read {place}");
+        assert!(rt; left.status == status, "read {place}");
         assert!(rt; wanted.starts_with(left.output.as_slice()), "read {place}");
-        assert_eq!(rt;
-            left.output.as_slice() == wanted.as_slice(),
-            place >= reads,
+        assert!(rt;
+            (left.output.as_slice() == wanted.as_slice()) == (place >= reads),
             "read {place}"
         );
     }
@@ -105,8 +104,8 @@ fn a_write_that_fails_leaves_a_front_of_the_replies(rt: HostRuntime) -> Result<(
     ] {
         given.failing_write = place;
         let left = run_with(&rt, alloc, &ONCE, &given)?;
-        assert_eq!(rt; left.status, status, "write {place}");
-        assert_eq!(rt; left.output.as_slice(), joined(alloc, output)?.as_slice());
+        assert!(rt; left.status == status, "write {place}");
+        assert!(rt; left.output.as_slice() == joined(alloc, output)?.as_slice());
     }
     Ok(())
 }
@@ -119,9 +118,9 @@ fn an_output_with_a_byte_too_little_room_fails(rt: HostRuntime) -> Result<(), Fa
     let room = LOCKED.len().saturating_sub(1);
     outside.output = MemSink::new(alloc, room, Vec::new(alloc))?;
     let left = run_in(&rt, alloc, &ONCE, outside)?;
-    assert_eq!(rt; left.status, 4);
-    assert_eq!(rt; left.notes.as_slice(), b"write fault\n".as_slice());
-    assert_eq!(rt; left.output.as_slice().len(), room);
+    assert!(rt; left.status == 4);
+    assert!(rt; left.notes.as_slice() == b"write fault\n".as_slice());
+    assert!(rt; left.output.as_slice().len() == room);
     assert!(rt; LOCKED.as_bytes().starts_with(left.output.as_slice()));
     Ok(())
 }
@@ -136,9 +135,9 @@ fn a_deletion_that_the_folder_fails_leaves_the_file(rt: HostRuntime) -> Result<(
     let left = run_with(&rt, alloc, &ONCE, &given)?;
     let wanted =
         "HTTP/1.1 500 Internal Server Error\r\nContent-Length: 11\r\nContent-Type: text/plain\r\n\r\nstore faultHTTP/1.1 200 OK\r\nContent-Length: 4\r\nContent-Type: application/octet-stream\r\nX-WOPI-ItemVersion: v1\r\n\r\n1,2\n";
-    assert_eq!(rt; left.status, 0);
-    assert_eq!(rt; left.output.as_slice(), wanted.as_bytes());
-    assert_eq!(rt; left.kept("a.csv"), b"1,2\n".as_slice());
+    assert!(rt; left.status == 0);
+    assert!(rt; left.output.as_slice() == wanted.as_bytes());
+    assert!(rt; left.kept("a.csv") == b"1,2\n".as_slice());
     Ok(())
 }
 
@@ -154,11 +153,11 @@ fn a_read_of_a_schedule_that_fails_leaves_no_trace(rt: HostRuntime) -> Result<()
         given.failing_read = place;
         let left = run_with(&rt, alloc, &["replay"], &given)?;
         if place <= reads {
-            assert_eq!(rt; left.status, 3, "read {place}");
+            assert!(rt; left.status == 3, "read {place}");
             assert!(rt; left.output.as_slice().is_empty(), "read {place}");
         } else {
-            assert_eq!(rt; left.status, 0, "read {place}");
-            assert_eq!(rt; left.output.as_slice(), wanted.as_slice(), "read {place}");
+            assert!(rt; left.status == 0, "read {place}");
+            assert!(rt; left.output.as_slice() == wanted.as_slice(), "read {place}");
         }
     }
     Ok(())
@@ -175,7 +174,7 @@ fn a_write_of_a_trace_that_fails_leaves_a_front_of_it(rt: HostRuntime) -> Result
         let left = run_with(&rt, alloc, &["replay"], &given)?;
         let is_whole = left.output.as_slice() == wanted.as_slice();
         let status = if is_whole { 0 } else { 4 };
-        assert_eq!(rt; left.status, status, "write {place}");
+        assert!(rt; left.status == status, "write {place}");
         assert!(rt; wanted.starts_with(left.output.as_slice()), "write {place}");
         assert!(rt; place > 1 || !is_whole);
     }

@@ -24,7 +24,7 @@ fn a_save_has_up_to_sixteen_mebibytes(rt: HostRuntime) -> Result<(), Fail> {
     let left = once(&rt, alloc, &input)?;
     let wanted =
         "HTTP/1.1 200 OK\r\nContent-Length: 0\r\nX-WOPI-ItemVersion: v1\r\n\r\nHTTP/1.1 200 OK\r\nContent-Length: 0\r\nX-WOPI-ItemVersion: v2\r\n\r\nHTTP/1.1 413 Content Too Large\r\nContent-Length: 0\r\nConnection: close\r\n\r\n";
-    assert_eq!(rt; left.output.as_slice(), wanted.as_bytes());
+    assert!(rt; left.output.as_slice() == wanted.as_bytes());
     Ok(())
 }
 
@@ -36,7 +36,7 @@ fn an_id_has_up_to_1024_bytes(rt: HostRuntime) -> Result<(), Fail> {
         let bytes = vec![in alloc; b'x'; length]?;
         let request = lock_request(alloc, str::from_utf8(&bytes)?)?;
         let left = once(&rt, alloc, &request)?;
-        assert_eq!(rt; left.output.as_slice(), wanted, "{length}");
+        assert!(rt; left.output.as_slice() == wanted, "{length}");
     }
     Ok(())
 }

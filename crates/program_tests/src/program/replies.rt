@@ -227,9 +227,13 @@ fn requests_get_their_replies(rt: HostRuntime) -> Result<(), Fail> {
             let mut given = whole(&input);
             given.piece = piece;
             let left = run_with(&rt, alloc, &ONCE, &given)?;
-            assert_eq!(rt; left.status, 0, "{}", row.shows);
-            assert_eq!(rt; left.output.as_slice(), wanted.as_slice(), "{}", row.shows);
-            assert_eq!(rt; left.kept(row.name), row.kept.as_bytes(), "{}", row.shows);
+            assert!(rt; left.status == 0, "{}", row.shows);
+            assert!(rt;
+                left.output.as_slice() == wanted.as_slice(),
+                "{}",
+                row.shows
+            );
+            assert!(rt; left.kept(row.name) == row.kept.as_bytes(), "{}", row.shows);
         }
     }
     Ok(())
@@ -272,7 +276,7 @@ fn a_refused_request_is_answered_and_the_connection_goes_on(rt: HostRuntime) -> 
         input.extend_from_slice(&good)?;
         let left = once(&rt, alloc, &input)?;
         let output = left.output.as_slice();
-        assert_eq!(rt; left.status, 0, "{refused}");
+        assert!(rt; left.status == 0, "{refused}");
         assert!(rt; output.starts_with(line.as_bytes()), "{refused}");
         assert!(rt; output.ends_with(VERSION_1.as_bytes()), "{refused}");
     }
@@ -307,7 +311,7 @@ fn what_is_no_message_closes(rt: HostRuntime) -> Result<(), Fail> {
     let alloc = rt.alloc();
     for [text, wanted] in &NO_MESSAGES {
         let left = once(&rt, alloc, text.as_bytes())?;
-        assert_eq!(rt; left.output.as_slice(), wanted.as_bytes(), "{text}");
+        assert!(rt; left.output.as_slice() == wanted.as_bytes(), "{text}");
     }
     Ok(())
 }

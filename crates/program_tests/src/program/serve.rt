@@ -342,11 +342,11 @@ fn a_worker_leaves_its_replies_and_a_journal_with_a_line_for_each_call(
         let mut outside = one_worker(alloc, requests(alloc, row.requests)?, row.failing)?;
         let status = serve(&rt, alloc, &ONE_WORKER, &mut outside)?;
         let journal = lines(alloc, row.journal)?;
-        assert_eq!(rt; status, row.status);
-        assert_eq!(rt; outside.output.as_slice(), journal.as_slice());
-        assert_eq!(rt; outside.notes.as_slice(), row.notes.as_bytes());
-        assert_eq!(rt; outside.folders.len(), 16);
-        assert_eq!(rt; outside.clocks.len(), 1);
+        assert!(rt; status == row.status);
+        assert!(rt; outside.output.as_slice() == journal.as_slice());
+        assert!(rt; outside.notes.as_slice() == row.notes.as_bytes());
+        assert!(rt; outside.folders.len() == 16);
+        assert!(rt; outside.clocks.len() == 1);
         let listener = outside.listeners.first().ok_or("a listener")?;
         let link = listener.finished_links().first().ok_or("a link")?;
         assert!(rt; link.sink.as_slice().starts_with(row.replies));
@@ -389,8 +389,8 @@ fn versions_begin_at_the_number_of_the_words(rt: HostRuntime) -> Result<(), Fail
     let mut outside = one_worker(alloc, requests(alloc, &LOCK_AND_PUT)?, 0)?;
     let status = serve(&rt, alloc, &FROM_SEVEN, &mut outside)?;
     let journal = lines(alloc, &SEVEN_AND_EIGHT)?;
-    assert_eq!(rt; status, 0);
-    assert_eq!(rt; outside.output.as_slice(), journal.as_slice());
+    assert!(rt; status == 0);
+    assert!(rt; outside.output.as_slice() == journal.as_slice());
     Ok(())
 }
 
@@ -457,7 +457,7 @@ fn two_workers_run_beside_each_other(rt: HostRuntime) -> Result<(), Fail> {
     let alloc = rt.alloc();
     let mut outside = entwined(alloc)?;
     let status = serve(&rt, alloc, &TWO_WORKERS, &mut outside)?;
-    assert_eq!(rt; status, 0);
+    assert!(rt; status == 0);
     let [one, two] = outside.listeners.as_slice() else {
         return Err("two listeners".into());
     };
@@ -467,10 +467,10 @@ fn two_workers_run_beside_each_other(rt: HostRuntime) -> Result<(), Fail> {
     let [locked] = two.finished_links() else {
         return Err("one link".into());
     };
-    assert_eq!(rt;
-        saved.sink.as_slice(),
-        b"HTTP/1.1 200 OK\r\nContent-Length: 0\r\nX-WOPI-ItemVersion: v2\r\n\r\n".as_slice()
+    assert!(rt;
+        saved.sink.as_slice()
+            == b"HTTP/1.1 200 OK\r\nContent-Length: 0\r\nX-WOPI-ItemVersion: v2\r\n\r\n".as_slice()
     );
-    assert_eq!(rt; locked.sink.as_slice(), LOCKED);
+    assert!(rt; locked.sink.as_slice() == LOCKED);
     Ok(())
 }

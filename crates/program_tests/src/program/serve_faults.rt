@@ -134,9 +134,9 @@ fn a_link_that_fails_ends_nothing_but_its_connection(rt: HostRuntime) -> Result<
         };
         let left = left_by(&rt, alloc, met(alloc, faults, folders(alloc)?)?)?;
         let journal = lines(alloc, row.journal)?;
-        assert_eq!(rt; left.status, 0, "row {place}");
-        assert_eq!(rt; left.output.as_slice(), journal.as_slice(), "row {place}");
-        assert_eq!(rt; left.replies.as_slice(), row.replies, "row {place}");
+        assert!(rt; left.status == 0, "row {place}");
+        assert!(rt; left.output.as_slice() == journal.as_slice(), "row {place}");
+        assert!(rt; left.replies.as_slice() == row.replies, "row {place}");
         assert!(rt; left.notes.as_slice().is_empty(), "row {place}");
     }
     Ok(())
@@ -155,15 +155,14 @@ fn a_write_that_fails_leaves_a_front_of_the_journal(rt: HostRuntime) -> Result<(
         let left = left_by(&rt, alloc, met(alloc, faults, folders(alloc)?)?)?;
         let is_whole = left.output.as_slice() == journal.as_slice();
         let status = if is_whole { 0 } else { 4 };
-        assert_eq!(rt; left.status, status, "write {output}");
+        assert!(rt; left.status == status, "write {output}");
         assert!(rt;
             journal.starts_with(left.output.as_slice()),
             "write {output}"
         );
-        assert_eq!(rt; left.replies.as_slice(), LOCKED, "write {output}");
-        assert_eq!(rt;
-            left.notes.as_slice().is_empty(),
-            is_whole,
+        assert!(rt; left.replies.as_slice() == LOCKED, "write {output}");
+        assert!(rt;
+            left.notes.as_slice().is_empty() == is_whole,
             "write {output}"
         );
         assert!(rt; output > 1 || !is_whole);
@@ -197,14 +196,13 @@ fn a_folder_that_fails_in_opening_lets_no_link_in(rt: HostRuntime) -> Result<(),
         (4, 0, "", LOCKED),
     ] {
         let left = left_by(&rt, alloc, met(alloc, none, failing(alloc, call)?)?)?;
-        assert_eq!(rt; left.status, status, "call {call}");
-        assert_eq!(rt; left.notes.as_slice(), notes.as_bytes(), "call {call}");
-        assert_eq!(rt;
-            left.output.as_slice().is_empty(),
-            status == 5,
+        assert!(rt; left.status == status, "call {call}");
+        assert!(rt; left.notes.as_slice() == notes.as_bytes(), "call {call}");
+        assert!(rt;
+            left.output.as_slice().is_empty() == (status == 5),
             "call {call}"
         );
-        assert_eq!(rt; left.replies.as_slice(), replies, "call {call}");
+        assert!(rt; left.replies.as_slice() == replies, "call {call}");
     }
     Ok(())
 }

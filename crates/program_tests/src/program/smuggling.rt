@@ -231,7 +231,7 @@ fn a_bare_line_feed_in_a_head_ends_its_line(rt: HostRuntime) -> Result<(), Fail>
         ["Transfer-Encoding: chunked\n", "0\r\n\r\n"],
     ] {
         let left = smuggled(&rt, rt.alloc(), lines, behind)?;
-        assert_eq!(rt; left.output.as_slice(), gone.as_slice(), "{lines:?}");
+        assert!(rt; left.output.as_slice() == gone.as_slice(), "{lines:?}");
         assert!(rt; left.kept("a.csv").is_empty(), "{lines:?}");
     }
     Ok(())

@@ -23,7 +23,7 @@ fn a_straight_wire_carries_the_request(rt: HostRuntime) -> Result<(), Fail> {
     let alloc = rt.alloc();
     let schedule = generate(alloc, 7, 100)?;
     let world = World::run(alloc, &schedule, &mut Straight)?;
-    assert_eq!(rt; first_status(&world.stage), Some(200));
+    assert!(rt; first_status(&world.stage) == Some(200));
     Ok(())
 }
 
@@ -33,7 +33,7 @@ fn the_host_answers_what_came(rt: HostRuntime) -> Result<(), Fail> {
     let schedule = generate(alloc, 7, 100)?;
     let mut wire = instead(alloc, b"GET /wopi/folders HTTP/1.1\r\nHost: x\r\n\r\n")?;
     let world = World::run(alloc, &schedule, &mut wire)?;
-    assert_eq!(rt; first_status(&world.stage), Some(404));
+    assert!(rt; first_status(&world.stage) == Some(404));
     Ok(())
 }
 
@@ -43,6 +43,6 @@ fn nothing_that_came_is_a_bad_request(rt: HostRuntime) -> Result<(), Fail> {
     let schedule = generate(alloc, 7, 100)?;
     let mut wire = instead(alloc, b"")?;
     let world = World::run(alloc, &schedule, &mut wire)?;
-    assert_eq!(rt; first_status(&world.stage), Some(400));
+    assert!(rt; first_status(&world.stage) == Some(400));
     Ok(())
 }

@@ -51,7 +51,7 @@ fn a_host_is_listed_shard_by_shard(rt: HostRuntime) -> Result<(), Fail> {
     let (host, mut first) = open(alloc)?;
     let mut seated = Seated::new(&rt, &host, &mut first);
     let listings = list_all(alloc, &mut seated)?;
-    assert_eq!(rt; listings.len(), 16);
+    assert!(rt; listings.len() == 16);
     let empty = listings.get(0).ok_or("a listing")?;
     assert!(rt; empty.shard == 0 && empty.place == 0 && empty.children.len() == 0);
     let listing = listings.get(11).ok_or("a listing")?;

@@ -29,8 +29,8 @@ fn the_container_is_asked_for_with_its_token(rt: HostRuntime) -> Result<(), Fail
     for (target, op) in targets {
         match place_of(alloc, &request(alloc, Method::Get, target, &[])?)? {
             Place::Container(ask) => {
-                assert_eq!(rt; ask.op, op);
-                assert_eq!(rt; ask.token.as_slice(), b"a+b+c".as_slice());
+                assert!(rt; ask.op == op);
+                assert!(rt; ask.token.as_slice() == b"a+b+c".as_slice());
             }
             Place::File(_) => assert!(rt; false),
         }
@@ -52,13 +52,13 @@ fn each_refusal_at_a_container_has_its_status(rt: HostRuntime) -> Result<(), Fai
         "/wopi/containers/r%6Fot",
         "/wopi/containers",
     ] {
-        assert_eq!(rt; status(alloc, get, unknown)?, 404);
-        assert_eq!(rt; status(alloc, post, unknown)?, 404);
+        assert!(rt; status(alloc, get, unknown)? == 404);
+        assert!(rt; status(alloc, post, unknown)? == 404);
     }
     for known in ["/wopi/containers/root", "/wopi/containers/root/children"] {
-        assert_eq!(rt; status(alloc, get, known)?, 200);
-        assert_eq!(rt; status(alloc, post, known)?, 501);
-        assert_eq!(rt; status(alloc, Method::Other, known)?, 501);
+        assert!(rt; status(alloc, get, known)? == 200);
+        assert!(rt; status(alloc, post, known)? == 501);
+        assert!(rt; status(alloc, Method::Other, known)? == 501);
     }
     Ok(())
 }

@@ -34,18 +34,21 @@ fn a_reply_cut_at_every_place_is_bad_where_its_part_begins(rt: HostRuntime) -> R
     let alloc = rt.alloc();
     for cut in 0..SIZED.len() {
         let place = if cut < SIZED_HEAD { 0 } else { SIZED_HEAD };
-        assert_eq!(rt; bad_place(alloc, &SIZED[..cut])?, Some(place), "at {cut}");
+        assert!(rt; bad_place(alloc, &SIZED[..cut])? == Some(place), "at {cut}");
     }
     for cut in 0..CHUNKED.len() {
         let place = if cut < CHUNKED_HEAD { 0 } else { CHUNKED_HEAD };
-        assert_eq!(rt; bad_place(alloc, &CHUNKED[..cut])?, Some(place), "at {cut}");
+        assert!(rt;
+            bad_place(alloc, &CHUNKED[..cut])? == Some(place),
+            "at {cut}"
+        );
     }
-    assert_eq!(rt; bad_place(alloc, SIZED)?, None);
-    assert_eq!(rt; bad_place(alloc, CHUNKED)?, None);
+    assert!(rt; bad_place(alloc, SIZED)? == None);
+    assert!(rt; bad_place(alloc, CHUNKED)? == None);
     let told = joined(alloc, GO_ON, SIZED, b"")?;
     for cut in 25..told.len() {
         let place = if cut < 87 { 25 } else { 87 };
-        assert_eq!(rt; bad_place(alloc, &told[..cut])?, Some(place), "at {cut}");
+        assert!(rt; bad_place(alloc, &told[..cut])? == Some(place), "at {cut}");
     }
     Ok(())
 }
@@ -87,8 +90,8 @@ fn replies_as_other_servers_write_them(rt: HostRuntime) -> Result<(), Fail> {
     ];
     for (bytes, status, body) in cases {
         let reply = read_reply(alloc, bytes)?;
-        assert_eq!(rt; reply.status, status);
-        assert_eq!(rt; reply.body.as_slice(), body);
+        assert!(rt; reply.status == status);
+        assert!(rt; reply.body.as_slice() == body);
     }
     Ok(())
 }
@@ -126,7 +129,7 @@ fn a_body_that_cannot_be_framed_is_bad_where_it_begins(rt: HostRuntime) -> Resul
         ),
     ];
     for (bytes, place) in cases {
-        assert_eq!(rt; bad_place(alloc, bytes)?, Some(place));
+        assert!(rt; bad_place(alloc, bytes)? == Some(place));
     }
     Ok(())
 }
@@ -151,9 +154,9 @@ fn a_request_as_it_is_written(rt: HostRuntime) -> Result<(), Fail> {
         fields,
         body: Bytes::from_slice(alloc, b"1,2\n")?,
     };
-    assert_eq!(rt;
-        request_text(alloc, &request)?.as_slice(),
-        b"POST /wopi/files/61/contents HTTP/1.1\r\nHost: localhost:8880\r\nContent-Length: 4\r\n\r\n1,2\n".as_slice()
+    assert!(rt;
+        request_text(alloc, &request)?.as_slice()
+            == b"POST /wopi/files/61/contents HTTP/1.1\r\nHost: localhost:8880\r\nContent-Length: 4\r\n\r\n1,2\n".as_slice()
     );
     Ok(())
 }
@@ -168,14 +171,11 @@ fn a_reply_that_says_how_long_it_is_ends_behind_its_body(rt: HostRuntime) -> Res
         b"HTTP/1.1 204 No Content\r\nContent-Length: 9\r\n\r\n".as_slice(),
     ] {
         for cut in 0..reply.len() {
-            assert_eq!(rt; end.is_whole(&reply[..cut])?, false, "at {cut}");
+            assert!(rt; end.is_whole(&reply[..cut])? == false, "at {cut}");
         }
-        assert_eq!(rt; end.is_whole(reply)?, true);
+        assert!(rt; end.is_whole(reply)? == true);
     }
-    assert_eq!(rt; end.is_whole(b"HTTP/1.1 200 OK\r\n\r\n1,2")?, false);
-    assert_eq!(rt;
-        end.is_whole(b"HTTP/1.1 200 OK\r\nContent-Length: x\r\n\r\n")?,
-        false
-    );
+    assert!(rt; end.is_whole(b"HTTP/1.1 200 OK\r\n\r\n1,2")? == false);
+    assert!(rt; end.is_whole(b"HTTP/1.1 200 OK\r\nContent-Length: x\r\n\r\n")? == false);
     Ok(())
 }

@@ -83,11 +83,8 @@ fn a_body_has_just_its_memory_and_passes_the_buffer_by(rt: HostRuntime) -> Resul
     let sized = b"PUT /a HTTP/1.1\r\nHost: a\r\nContent-Length: 16777216\r\n\r\n";
     let chunked = b"PUT /a HTTP/1.1\r\nHost: a\r\nTransfer-Encoding: chunked\r\n\r\n1000000\r\n";
     let next = b"GET /c HTTP/1.1\r\nHost: a\r\n\r\n";
-    assert_eq!(rt; place_of(rt.alloc(), sized, next)?, (16777216, 0));
-    assert_eq!(rt;
-        place_of(rt.alloc(), chunked, b"\r\n0\r\n\r\n")?,
-        (16777216, 0)
-    );
+    assert!(rt; place_of(rt.alloc(), sized, next)? == (16777216, 0));
+    assert!(rt; place_of(rt.alloc(), chunked, b"\r\n0\r\n\r\n")? == (16777216, 0));
     Ok(())
 }
 
@@ -103,8 +100,8 @@ fn what_a_read_brought_behind_a_message_is_held(rt: HostRuntime) -> Result<(), F
     let source = MemSource::new(Bytes::from_vec(input), 16777216, Vec::new(alloc));
     let mut link = Pair::new(source, MemSink::new(alloc, 64, Vec::new(alloc))?);
     let mut buffer = Buffer::new(alloc)?;
-    assert_eq!(rt; buffer.held(), 0);
+    assert!(rt; buffer.held() == 0);
     assert!(rt; matches!(read_request(&mut link, &mut buffer), Got::Message(_)));
-    assert_eq!(rt; buffer.held(), 32768 - 18);
+    assert!(rt; buffer.held() == 32768 - 18);
     Ok(())
 }

@@ -49,7 +49,7 @@ fn nothing_is_read_after_a_read_that_gave_nothing(rt: HostRuntime) -> Result<(),
         ),
     ];
     for (input, number, status) in cases {
-        assert_eq!(rt; status_before(rt.alloc(), input, number)?, (status, true));
+        assert!(rt; status_before(rt.alloc(), input, number)? == (status, true));
     }
     Ok(())
 }

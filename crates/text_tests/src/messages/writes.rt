@@ -59,7 +59,7 @@ fn a_reply_is_one_write_unless_its_body_is_large(rt: HostRuntime) -> Result<(), 
         (65537, 2),
     ];
     for (count, writes) in cases {
-        assert_eq!(rt; counted(rt.alloc(), count)?, (writes, 43 + count));
+        assert!(rt; counted(rt.alloc(), count)? == (writes, 43 + count));
     }
     Ok(())
 }
@@ -71,6 +71,6 @@ fn a_bare_reply_is_one_write(rt: HostRuntime) -> Result<(), Fail> {
         bytes: 0,
     };
     write_bare(&mut sink, 503, true)?;
-    assert_eq!(rt; sink.writes, 1);
+    assert!(rt; sink.writes == 1);
     Ok(())
 }
