@@ -1,4 +1,4 @@
-use Rattle.std.proofs.Common.{subst, sym}
+use Rattle.std.proofs.Common.{subst}
 use Rattle.wopi_program.specs.Contents.{NotesForContents}
 use Rattle.wopi_program.proofs.AuditLemmas.{takes_noted}
 use Rattle.wopi_program.proofs.contents.run_contents.Goals as goal
