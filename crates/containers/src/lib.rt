@@ -27,8 +27,8 @@
 //! (`ContainerAnswered`, `AreShown`). No body is longer than a client reads; a list that would be is answered
 //! with `Memory`, and so is want of memory. Whatever is answered, no entry was made, and what is seen only grew.
 //! A token is read exactly where its text has the form, its key is in force and its code is right, and what is
-//! minted reads back ([`what_is_minted_for_the_container_is_read`]). That the size is reckoned to the byte is
-//! tested.
+//! minted reads back ([`what_is_minted_for_the_container_is_read`]). That the size is reckoned to the byte no
+//! clause says.
 #![tactic(auto)]
 
 mod answering;

@@ -25,7 +25,7 @@ pub const VERSION_2: &[u8] =
 pub const VERSION_3: &[u8] =
     b"HTTP/1.1 200 OK\r\nContent-Length: 0\r\nX-WOPI-ItemVersion: v3\r\n\r\n";
 
-const SUMS: &[u8] = b"HTTP/1.1 200 OK\r\nContent-Length: 32\r\nX-WOPI-ItemVersion: v1\r\n\r\n\
+const SUMS: &[u8] = b"HTTP/1.1 200 OK\r\nContent-Length: 31\r\nX-WOPI-ItemVersion: v1\r\n\r\n\
 1,2,=A1+B1\n=SUM(A1:C1),=A2*2,x\n";
 
 const CYCLE: &[u8] =
