@@ -2,7 +2,6 @@
 mod answers;
 mod audits;
 mod chunks;
-mod containers;
 mod demos;
 mod edit_faults;
 mod edits;
@@ -12,6 +11,7 @@ mod gates;
 mod heads;
 mod hostile;
 mod limits;
+mod listings;
 mod replays;
 mod replies;
 mod serve;
