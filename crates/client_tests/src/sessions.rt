@@ -31,14 +31,6 @@ fn sent(output: &Output) -> (&'static str, &[u8]) {
     }
 }
 
-/// The contents of a save that was handed back.
-fn handed_back(output: &Output) -> &[u8] {
-    match output {
-        Output::Ignored(Input::Save(contents)) => contents.as_slice(),
-        _ => &[],
-    }
-}
-
 #[test]
 fn two_saves_go_out_under_two_ids(rt: HostRuntime) -> Result<(), Fail> {
     let alloc = rt.alloc();
@@ -77,30 +69,5 @@ fn two_saves_go_out_under_two_ids(rt: HostRuntime) -> Result<(), Fail> {
     let relocked = answer(alloc, 409, LockField::Held(next), b"")?;
     assert!(rt; sent(&session.step(relocked)) == ("put", b"n7-2".as_slice()));
     assert!(rt; session.body() == b"4".as_slice());
-    Ok(())
-}
-
-#[test]
-fn three_tries_without_an_answer_are_told_and_a_wish_too_early_is_handed_back(
-    rt: HostRuntime,
-) -> Result<(), Fail> {
-    let Some(nonce) = Nonce::read(b"A") else {
-        return Ok(assert!(rt; false));
-    };
-    let mut session = Session::new(nonce);
-    assert!(rt; sent(&session.step(Input::Start)).0 == "info");
-    assert!(rt; sent(&session.step(Input::NoAnswer)).0 == "info");
-    assert!(rt; sent(&session.step(Input::NoAnswer)).0 == "info");
-    assert!(rt;
-        matches!(
-            session.step(Input::NoAnswer),
-            Output::Tell(Outcome::NoAnswer)
-        )
-    );
-    let save = Input::Save(Bytes::from_slice(rt.alloc(), b"5")?);
-    let output = session.step(save);
-    assert!(rt; handed_back(&output) == b"5".as_slice());
-    assert!(rt; Nonce::read(b"").is_none());
-    assert!(rt; Nonce::read(b"a-b").is_none());
     Ok(())
 }

@@ -16,17 +16,6 @@ const FIRST_FORM: &[u8] =
 const SECOND_FORM: &[u8] =
     b"wopi journal 2 opened 0 first 1\nfile 612e637376 312c320a\n1 11 0 5 5 612e637376 lock 4c31 ann.612e637376.w.2.0.9000000 200 - - v1 -\nend 1\n";
 
-/// Two entries of one shard, the later of an earlier moment, and one of another shard.
-const FALLING: &[u8] =
-    b"wopi journal 1 opened 3\n1 11 0 9 612e637376 look u.612e637376.r.0.0.1 404 - - - -\n2 11 0 4 612e637376 put - 2 u.612e637376.r.0.0.1 200 - - v2 0a0b\n2 12 1 2 622e637376 relock 4c31 4c32 u.622e637376.r.0.0.1 409 4c33 not-locked - -\nend\n";
-
-const FALLING_AGAIN: &[u8] =
-    b"wopi journal 2 opened 3 first 1\n1 11 0 9 9 612e637376 look u.612e637376.r.0.0.1 404 - - - -\n2 11 0 4 9 612e637376 put - 2 u.612e637376.r.0.0.1 200 - - v2 0a0b\n2 12 1 2 3 622e637376 relock 4c31 4c32 u.622e637376.r.0.0.1 409 4c33 not-locked - -\nend 3\n";
-
-/// A journal of the first form that lacks its last line.
-const UNENDED: &[u8] =
-    b"wopi journal 1 opened 0\nfile 612e637376 312c320a\n1 11 0 5 612e637376 lock 4c31 ann.612e637376.w.2.0.9000000 200 - - v1 -\n";
-
 /// The text in the second form of the journal that these bytes are.
 fn again(alloc: Global, bytes: &[u8]) -> Result<MemSink, Fail> {
     let Ok(text) = read_journal(alloc, bytes) else {
@@ -93,27 +82,6 @@ fn a_journal_of_the_first_form_is_written_in_the_second(rt: HostRuntime) -> Resu
 }
 
 #[test]
-fn a_journal_of_the_second_form_is_written_as_it_is(rt: HostRuntime) -> Result<(), Fail> {
-    for sink in [
-        again(rt.alloc(), SECOND_FORM)?,
-        rewritten(rt.alloc(), SECOND_FORM)?,
-    ] {
-        assert!(rt; sink.as_slice() == SECOND_FORM);
-    }
-    Ok(())
-}
-
-#[test]
-fn the_first_form_has_the_greatest_moment_of_a_shard_as_its_time(
-    rt: HostRuntime,
-) -> Result<(), Fail> {
-    for sink in [again(rt.alloc(), FALLING)?, rewritten(rt.alloc(), FALLING)?] {
-        assert!(rt; sink.as_slice() == FALLING_AGAIN);
-    }
-    Ok(())
-}
-
-#[test]
 fn a_write_that_fails_is_told(rt: HostRuntime) -> Result<(), Fail> {
     let alloc = rt.alloc();
     let Ok(text) = read_journal(alloc, FIRST_FORM) else {
@@ -128,29 +96,6 @@ fn a_write_that_fails_is_told(rt: HostRuntime) -> Result<(), Fail> {
 }
 
 #[test]
-fn bytes_that_are_no_first_line_are_bad_at_1(rt: HostRuntime) {
-    for text in [
-        "",
-        "\n",
-        "wopi journal 3 opened 0\n",
-        "wopi journal 1 opened 0",
-        "wopi journal 2 opened 0 first 0\nend 0\n",
-    ] {
-        let read = read_journal(rt.alloc(), text.as_bytes());
-        assert!(rt;
-            matches!(read, Err(JournalFault::BadLine { line: 1 })),
-            "{text}"
-        );
-    }
-}
-
-#[test]
-fn a_missing_last_line_is_bad_where_it_should_stand(rt: HostRuntime) {
-    let read = read_journal(rt.alloc(), UNENDED);
-    assert!(rt; matches!(read, Err(JournalFault::BadLine { line: 4 })));
-}
-
-#[test]
 fn the_first_bad_line_is_named(rt: HostRuntime) -> Result<(), Fail> {
     assert!(rt; bad_line(rt.alloc(), b"end 0\n")? == None);
     assert!(rt; bad_line(rt.alloc(), b"")? == Some(2));
@@ -162,25 +107,6 @@ fn the_first_bad_line_is_named(rt: HostRuntime) -> Result<(), Fail> {
     assert!(rt; bad_line(rt.alloc(), b"file 622e637376 -\nfile 612e637376 -\nend 0\n")? == Some(3));
     assert!(rt; bad_line(rt.alloc(), b"file 612e637376 -\nfile 622e637376 -\nend 0\n")? == None);
     assert!(rt; bad_line(rt.alloc(), b"file 612e637376 0A\nend 0\n")? == Some(2));
-    Ok(())
-}
-
-#[test]
-fn an_entry_that_breaks_a_bound_is_bad(rt: HostRuntime) -> Result<(), Fail> {
-    for line in [
-        "1 16 0 5 5 612e637376 info u.612e637376.w.2.0.9 200 - - v1 -\n",
-        "1 11 0 5 612e637376 info u.612e637376.w.2.0.9 200 - - v1 -\n",
-        "01 11 0 5 5 612e637376 info u.612e637376.w.2.0.9 200 - - v1 -\n",
-        "1 11 4294967296 5 5 612e637376 info u.612e637376.w.2.0.9 200 - - v1 -\n",
-        "1 11 0 253402300800000 5 612e637376 info u.612e637376.w.2.0.9 200 - - v1 -\n",
-        "1 11 0 5 5 612e637376 info u.612e637376.w.2.0.9 201 - - v1 -\n",
-        "1 11 0 5 5 612e637376 put - 1 u.612e637376.w.2.0.9 200 - - v1 -\n",
-        "1 11 0 5 5 612e637376 info u.612e637376.w.2.0.9 200 - - v1 00\n",
-        "1 11 0 5 5 612e637376 lock - u.612e637376.w.2.0.9 200 - - v1 -\n",
-        "1 11 0 5 5  612e637376 info u.612e637376.w.2.0.9 200 - - v1 -\n",
-    ] {
-        assert!(rt; bad_line(rt.alloc(), line.as_bytes())? == Some(2), "{line}");
-    }
     Ok(())
 }
 
@@ -232,35 +158,5 @@ fn an_input_is_read_whole(rt: HostRuntime) -> Result<(), Fail> {
         };
         assert!(rt; bytes.as_slice() == SECOND_FORM);
     }
-    Ok(())
-}
-
-#[test]
-fn an_input_whose_read_fails_is_no_journal(rt: HostRuntime) -> Result<(), Fail> {
-    let alloc = rt.alloc();
-    for failing in [1, 2, 3] {
-        let mut source = input(alloc, SECOND_FORM, 70, failing)?;
-        match read_bytes(alloc, &mut source) {
-            Err(InputFault::Read) => {}
-            _ => return Err("a fault".into()),
-        }
-    }
-    Ok(())
-}
-
-#[test]
-fn nothing_is_written_of_a_bad_journal(rt: HostRuntime) -> Result<(), Fail> {
-    let alloc = rt.alloc();
-    let Ok(mut sink) = MemSink::new(alloc, 4_096, Vec::new(alloc)) else {
-        return Err("a sink".into());
-    };
-    let end = rewrite(alloc, &mut sink, UNENDED);
-    assert!(rt;
-        matches!(
-            end,
-            Err(RewriteFault::Journal(JournalFault::BadLine { line: 4 }))
-        )
-    );
-    assert!(rt; sink.as_slice().is_empty());
     Ok(())
 }

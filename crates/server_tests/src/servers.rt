@@ -18,10 +18,6 @@ mod reads;
 const FOR_A: &str =
     "v1.ann.612e637376.w.1.253402300000000.253402300799999.e4367dab632e0b350a8cebce225b4b3af9ddf3ae5a45f45b85a6abd4ffe2d92a";
 
-/// One for `e.csv`, which expires at 9,000,000.
-const FOR_E: &str =
-    "v1.ann.652e637376.w.2.0.9000000.9656829e31843856497e1c8fc65763bf6e0f8c232e0fdab239c8df7ef9fce927";
-
 fn desk(alloc: Global) -> Result<Desk, Fail> {
     let keys = Keys::read(b"4a656665").ok_or("keys")?;
     let base = Bytes::from_slice(alloc, b"http://localhost:8880")?;
@@ -63,16 +59,6 @@ type Header<'a> = (&'a str, &'a str);
 
 fn suggested(text: &str) -> [Header<'_>; 1] {
     [("X-WOPI-SuggestedTarget", text)]
-}
-
-fn relative(name: &str, overwrite: bool) -> [Header<'_>; 2] {
-    [
-        ("X-WOPI-RelativeTarget", name),
-        (
-            "X-WOPI-OverwriteRelativeTarget",
-            if overwrite { "true" } else { "false" },
-        ),
-    ]
 }
 
 /// A PutRelativeFile of `x` with these headers, for whom a token's text is.
@@ -129,54 +115,6 @@ fn an_ending_makes_a_file_beside_the_source(rt: HostRuntime) -> Result<(), Fail>
     Ok(())
 }
 
-#[test]
-fn a_suggestion_that_is_taken_gets_a_number(rt: HostRuntime) -> Result<(), Fail> {
-    let alloc = rt.alloc();
-    let mut single = open(alloc, 4096, &["a.csv", "a (1).csv"])?;
-    let answer = put(alloc, &mut single, FOR_A, &suggested("a.csv"), 0)?;
-    assert!(rt; answer.status == 200);
-    assert!(rt;
-        answer
-            .body
-            .as_slice()
-            .starts_with(b"{\"Name\":\"a (2).csv\"")
-    );
-    assert!(rt; contents(&single, b"a (1).csv") == Some(b"1,2".as_slice()));
-    assert!(rt; contents(&single, b"a (2).csv") == Some(b"x".as_slice()));
-    Ok(())
-}
-
-#[test]
-fn a_relative_name_that_is_taken_is_told(rt: HostRuntime) -> Result<(), Fail> {
-    let alloc = rt.alloc();
-    let mut single = open(alloc, 4096, &["a.csv"])?;
-    let target = &relative("a.csv", false);
-    let answer = put(alloc, &mut single, FOR_A, target, 0)?;
-    assert!(rt; answer.status == 409);
-    assert!(rt; answer.lock == LockField::Empty);
-    assert!(rt; answer.reason == Some(Reason::Taken));
-    assert!(rt; answer.body.as_slice().is_empty());
-    Ok(())
-}
-
-#[test]
-fn a_name_that_no_file_can_have_is_bad_once_the_source_is_there(
-    rt: HostRuntime,
-) -> Result<(), Fail> {
-    let alloc = rt.alloc();
-    let mut single = open(alloc, 4096, &["a.csv"])?;
-    let target = &relative("a/b", false);
-    assert!(rt; put(alloc, &mut single, FOR_A, target, 0)?.status == 400);
-    let target = &suggested("...");
-    assert!(rt; put(alloc, &mut single, FOR_A, target, 0)?.status == 200);
-    let target = &suggested("+ACA-");
-    assert!(rt; put(alloc, &mut single, FOR_A, target, 0)?.status == 400);
-    let mut other = open(alloc, 4096, &["b.csv"])?;
-    let target = &relative("a/b", false);
-    assert!(rt; put(alloc, &mut other, FOR_A, target, 0)?.status == 404);
-    Ok(())
-}
-
 /// The status and the reason of an act on `a.csv`.
 fn act(
     alloc: Global,
@@ -203,35 +141,6 @@ fn version(single: &Single<MemFolder>) -> Result<u64, Fail> {
 }
 
 #[test]
-fn a_locked_target_is_overwritten_once_its_lock_ended(rt: HostRuntime) -> Result<(), Fail> {
-    let alloc = rt.alloc();
-    let mut single = open(alloc, 4096, &["a.csv", "e.csv"])?;
-    let id = LockId::read(b"L1").ok_or("a lock id")?;
-    let lock = Act::Lock { id: id.copy() };
-    assert!(rt; act(alloc, &mut single, lock, 0)? == (200, None));
-    let locked = (409, Some(Reason::Locked));
-    assert!(rt; act(alloc, &mut single, Act::Delete, 1)? == locked);
-    let target = &relative("a.csv", true);
-    let answer = put(alloc, &mut single, FOR_E, target, 2)?;
-    assert!(rt; (answer.status, answer.reason) == locked);
-    assert!(rt; answer.lock == LockField::Held(id.copy()));
-    let target = &relative("a.csv", true);
-    let answer = put(alloc, &mut single, FOR_E, target, 1_800_002)?;
-    assert!(rt; (answer.status, version(&single)?) == (200, 2));
-    let gone = act(alloc, &mut single, Act::Delete, 1_800_003)?;
-    assert!(rt; gone == (200, None));
-    let get = Act::Get { most: None };
-    assert!(rt; act(alloc, &mut single, get, 1_800_003)? == (404, None));
-    let target = &relative("a.csv", false);
-    let answer = put(alloc, &mut single, FOR_E, target, 1_800_004)?;
-    assert!(rt; (answer.status, version(&single)?) == (200, 3));
-    let spent = (409, Some(Reason::Spent));
-    let lock = Act::Lock { id };
-    assert!(rt; act(alloc, &mut single, lock, 1_800_005)? == spent);
-    Ok(())
-}
-
-#[test]
 fn a_suggestion_gets_a_hundred_tries(rt: HostRuntime) -> Result<(), Fail> {
     let alloc = rt.alloc();
     let mut folder = folder(alloc, &["a.csv", "b.csv"])?;
@@ -250,20 +159,6 @@ fn a_suggestion_gets_a_hundred_tries(rt: HostRuntime) -> Result<(), Fail> {
     let answer = put(alloc, &mut single, FOR_A, &suggested("b.csv"), 0)?;
     assert!(rt; answer.status == 409);
     assert!(rt; answer.reason == Some(Reason::Taken));
-    Ok(())
-}
-
-#[test]
-fn a_shard_that_is_full_makes_no_file(rt: HostRuntime) -> Result<(), Fail> {
-    let alloc = rt.alloc();
-    let mut single = open(alloc, 1, &["a.csv"])?;
-    for _ in 0..2 {
-        let target = &suggested(".txt");
-        let answer = put(alloc, &mut single, FOR_A, target, 0)?;
-        assert!(rt; answer.status == 500);
-        assert!(rt; answer.body.as_slice() == b"journal full".as_slice());
-    }
-    assert!(rt; contents(&single, b"a.txt").is_none());
     Ok(())
 }
 

@@ -112,22 +112,6 @@ fn make_one<R: Wait>(
     }
 }
 
-/// Makes a call by a pass at its host, and gives the version that is told.
-fn version_by<R: Wait>(
-    rt: &R,
-    host: &Host<MemFolder>,
-    pass: &mut Pass<MemFolder>,
-    call: Call,
-) -> Option<u64>
-    requires { IsPassOf host.now pass.old }
-    ensures { IsPassOf host.now pass.new }
-{
-    match host.call(rt, pass, call, 7) {
-        Ok(Receipt { ruling, .. }) => ruling.version,
-        Err(_) => None,
-    }
-}
-
 /// Closes a host by all its passes.
 fn close(
     alloc: Global,
@@ -167,26 +151,6 @@ fn spots_of(
 }
 
 #[test]
-fn a_journal_is_by_stamp_and_then_by_shard(rt: HostRuntime) -> Result<(), Fail> {
-    let alloc = rt.alloc();
-    let (mut host, mut first) = open(alloc)?;
-    let lock = make_one(&rt, &host, &mut first, lock_call(&rt, b"a.csv"));
-    assert!(rt; lock == Some((1, 11)) && host.made() == 1 && first.weight() == 1 << 62);
-    let Ok(mut second) = host.split(&rt, &mut first) else {
-        panic!(rt; "no memory")
-    };
-    assert!(rt; host.made() == 2 && first.weight() == 1 << 61 && second.weight() == 1 << 61);
-    let other = make_one(&rt, &host, &mut second, lock_call(&rt, b"b.csv"));
-    let again = make_one(&rt, &host, &mut first, lock_call(&rt, b"a.csv"));
-    assert!(rt; other == Some((2, 12)) && again == Some((2, 11)));
-    let (journal, folders) = close(alloc, host, first, second)?;
-    assert!(rt; journal.opened() == 0 && folders.len() == 16);
-    let spots = spots_of(alloc, &journal, None)?;
-    assert!(rt; spots.as_slice() == [Some((1, 11)), Some((2, 11)), Some((2, 12))].as_slice());
-    Ok(())
-}
-
-#[test]
 fn a_pass_has_its_own_entries_in_the_journal(rt: HostRuntime) -> Result<(), Fail> {
     let alloc = rt.alloc();
     let (mut host, mut first) = open(alloc)?;
@@ -206,38 +170,6 @@ fn a_pass_has_its_own_entries_in_the_journal(rt: HostRuntime) -> Result<(), Fail
     assert!(rt; spots_of(alloc, &journal, Some(0))?.as_slice() == mine.as_slice());
     assert!(rt; spots_of(alloc, &journal, Some(1))?.as_slice() == others.as_slice());
     assert!(rt; spots_of(alloc, &journal, None)?.len() == 4);
-    Ok(())
-}
-
-#[test]
-fn versions_go_on_from_the_first_one(rt: HostRuntime) -> Result<(), Fail> {
-    let alloc = rt.alloc();
-    let (host, mut first) = open(alloc)?;
-    let absent = lock_call(&rt, b"new.csv");
-    assert!(rt; version_by(&rt, &host, &mut first, absent).is_none());
-    let lock = lock_call(&rt, b"a.csv");
-    assert!(rt; version_by(&rt, &host, &mut first, lock) == Some(7));
-    let mut save = lock_call(&rt, b"a.csv");
-    save.act = Act::Put {
-        lock: Some(LockId::read(b"L1").expect(&rt, "a lock id")),
-        contents: Bytes::from_vec(b"5,6\n".to_vec(alloc)?),
-    };
-    assert!(rt; version_by(&rt, &host, &mut first, save) == Some(8));
-    let mut made = lock_call(&rt, b"new.csv");
-    made.act = Act::Create {
-        overwrite: false,
-        contents: Bytes::from_vec(b"7,8\n".to_vec(alloc)?),
-    };
-    assert!(rt; version_by(&rt, &host, &mut first, made) == Some(7));
-    let passes = vec![in alloc; first]?;
-    if !host.whole(&passes) {
-        return Err("all passes".into());
-    }
-    let Ok((journal, _folders)) = host.close(passes) else {
-        panic!(rt; "no memory")
-    };
-    assert!(rt; journal.first() == 7);
-    assert!(rt; journal.contents(2) == Some(b"5,6\n".as_slice()));
     Ok(())
 }
 

@@ -26,26 +26,6 @@ fn what_equals_the_version_beside_it_lies_once(rt: HostRuntime) -> Result<(), Fa
 }
 
 #[test]
-fn what_differs_or_is_of_another_file_lies_apart(rt: HostRuntime) -> Result<(), Fail> {
-    let alloc = rt.alloc();
-    let mut archive = Archive::new(alloc);
-    let first = archive.add(3, 1, bytes(alloc, b"1,2")?, None);
-    assert!(rt; matches!(first, Ok(())));
-    let other = archive.add(3, 2, bytes(alloc, b"1,3")?, Some(0));
-    assert!(rt; matches!(other, Ok(())));
-    let of_another = archive.add(4, 1, bytes(alloc, b"1,2")?, Some(0));
-    assert!(rt; matches!(of_another, Ok(())));
-    let beside_another = archive.add(4, 2, bytes(alloc, b"1,2")?, Some(0));
-    assert!(rt; matches!(beside_another, Ok(())));
-    let beside_none = archive.add(4, 3, bytes(alloc, b"1,2")?, Some(9));
-    assert!(rt; matches!(beside_none, Ok(())));
-    assert!(rt; archive.len() == 5);
-    let changed = archive.near(1, 3, 2).ok_or("a version")?;
-    assert!(rt; changed.as_slice() == b"1,3".as_slice());
-    Ok(())
-}
-
-#[test]
 fn room_that_was_made_takes_a_version(rt: HostRuntime) -> Result<(), Fail> {
     let alloc = rt.alloc();
     let mut archive = Archive::new(alloc);

@@ -10,23 +10,6 @@ fn id(rt: &impl Abort, text: &[u8]) -> LockId {
 }
 
 #[test]
-fn a_refreshed_file_ends_later(rt: HostRuntime) -> Result<(), Fail> {
-    let mut queue = ExpiryQueue::new(rt.alloc());
-    queue.reserve(2).map_err(|_| "memory")?;
-    let five = queue.push(5, 0);
-    let _six = queue.push(6, 10);
-    assert!(rt; queue.first() == Some((5, 0)));
-    queue.refresh(five, 20);
-    assert!(rt; queue.first() == Some((6, 10)));
-    assert!(rt; queue.pop_expired(1_800_009) == None);
-    assert!(rt; queue.pop_expired(1_800_010) == Some(6));
-    assert!(rt; queue.pop_expired(1_800_010) == None);
-    assert!(rt; queue.remove(five) == 5);
-    assert!(rt; queue.first() == None);
-    Ok(())
-}
-
-#[test]
 fn a_spent_id_goes_when_its_time_is_over(rt: HostRuntime) -> Result<(), Fail> {
     let mut chains = SpentChains::new(rt.alloc());
     chains.reserve(1).map_err(|_| "memory")?;

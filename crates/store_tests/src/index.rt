@@ -9,22 +9,6 @@ fn name(rt: &impl Abort, text: &[u8]) -> FileName {
 }
 
 #[test]
-fn a_name_has_its_number_until_it_is_removed(rt: HostRuntime) -> Result<(), Fail> {
-    let mut index = NameIndex::new(rt.alloc());
-    index.add(name(&rt, b"b.csv"), 0).map_err(|_| "memory")?;
-    let second = name(&rt, b"a.csv");
-    assert!(rt; index.find(&second) == None);
-    index.add(second, 1).map_err(|_| "memory")?;
-    assert!(rt; index.find(&name(&rt, b"b.csv")) == Some(0));
-    assert!(rt; index.find(&name(&rt, b"a.csv")) == Some(1));
-    assert!(rt; index.find(&name(&rt, b"c.csv")) == None);
-    index.remove(&name(&rt, b"b.csv"));
-    assert!(rt; index.find(&name(&rt, b"b.csv")) == None);
-    assert!(rt; index.find(&name(&rt, b"a.csv")) == Some(1));
-    Ok(())
-}
-
-#[test]
 fn names_come_with_their_numbers_in_the_order_of_their_bytes(rt: HostRuntime) -> Result<(), Fail> {
     let mut index = NameIndex::new(rt.alloc());
     for (text, number) in [("b.csv", 0), ("a.csv", 1), ("B.csv", 2)] {

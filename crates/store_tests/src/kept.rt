@@ -31,22 +31,3 @@ fn a_lock_ends_and_its_id_is_spent(rt: HostRuntime) -> Result<(), Fail> {
     assert!(rt; !locks.refuses(0, &id(&rt, b"L1"), 4_000_000));
     Ok(())
 }
-
-#[test]
-fn an_id_that_was_over_is_shown_no_longer(rt: HostRuntime) -> Result<(), Fail> {
-    let mut locks = KeptLocks::with_room(rt.alloc(), 4).map_err(|_| "memory")?;
-    locks.add_file().map_err(|_| "memory")?;
-    let lock = Lock {
-        id: id(&rt, b"L1"),
-        since: 10,
-        until: 4_000_000,
-    };
-    locks.set(0, Some(lock), None, 10);
-    locks.settle(1_800_010);
-    locks.set(0, None, None, 2_000_000);
-    assert!(rt; locks.refuses(0, &id(&rt, b"L1"), 1_000_000));
-    assert!(rt; locks.refuses(0, &id(&rt, b"L1"), 3_999_999));
-    locks.set(0, None, None, 4_000_000);
-    assert!(rt; !locks.refuses(0, &id(&rt, b"L1"), 3_999_999));
-    Ok(())
-}

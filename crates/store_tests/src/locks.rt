@@ -21,20 +21,12 @@ const LOCKED: Verdict = Verdict::Refuse {
     reason: Reason::Locked,
 };
 
-const SPENT: Verdict = Verdict::Refuse {
-    reason: Reason::Spent,
-};
-
 fn id(rt: &impl Abort, text: &[u8]) -> LockId {
     LockId::read(text).expect(rt, "a lock id")
 }
 
 fn lock(rt: &impl Abort, text: &[u8]) -> LockAct {
     LockAct::Lock { id: id(rt, text) }
-}
-
-fn unlock(rt: &impl Abort, text: &[u8]) -> LockAct {
-    LockAct::Unlock { id: id(rt, text) }
 }
 
 fn begin(alloc: Global) -> Run {
@@ -97,20 +89,5 @@ fn a_lock_stands_for_less_than_thirty_minutes(rt: HostRuntime) -> Result<(), Fai
     assert!(rt; step(&rt, &mut run, &lock(&rt, b"L1"), 0)? == Verdict::Accept);
     assert!(rt; step(&rt, &mut run, &lock(&rt, b"L2"), 1_799_999)? == LOCKED);
     assert!(rt; step(&rt, &mut run, &lock(&rt, b"L2"), 1_800_000)? == Verdict::Accept);
-    Ok(())
-}
-
-#[test]
-fn both_ids_of_an_unlock_and_relock_are_spent_once_they_ended(rt: HostRuntime) -> Result<(), Fail> {
-    let mut run = begin(rt.alloc());
-    let relock = LockAct::Relock {
-        old: id(&rt, b"L1"),
-        id: id(&rt, b"L2"),
-    };
-    assert!(rt; step(&rt, &mut run, &lock(&rt, b"L1"), 0)? == Verdict::Accept);
-    assert!(rt; step(&rt, &mut run, &relock, 1)? == Verdict::Accept);
-    assert!(rt; step(&rt, &mut run, &unlock(&rt, b"L1"), 2)? == SPENT);
-    assert!(rt; step(&rt, &mut run, &unlock(&rt, b"L2"), 3)? == Verdict::Accept);
-    assert!(rt; step(&rt, &mut run, &lock(&rt, b"L2"), 4)? == SPENT);
     Ok(())
 }

@@ -199,48 +199,6 @@ fn a_name_whose_first_store_call_failed_is_no_file(rt: HostRuntime) -> Result<()
 }
 
 #[test]
-fn a_full_shard_takes_no_step(rt: HostRuntime) -> Result<(), Fail> {
-    let alloc = rt.alloc();
-    let mut single = open(alloc, 1, &[])?;
-    let lock = Act::Lock { id: lock_id(&rt) };
-    assert!(rt; step(&rt, &mut single, call(&rt, b"a.csv", lock), 0) == ok(1));
-    let full = single.call(call(&rt, b"a.csv", Act::GetLock), 0);
-    assert!(rt; matches!(full, Err(CallFault::Full(_))));
-    Ok(())
-}
-
-#[test]
-fn a_locked_file_is_neither_deleted_nor_overwritten(rt: HostRuntime) -> Result<(), Fail> {
-    let alloc = rt.alloc();
-    let mut single = open(alloc, 4096, &[])?;
-    let held = || LockField::Held(lock_id(&rt));
-    let lock = Act::Lock { id: lock_id(&rt) };
-    assert!(rt; step(&rt, &mut single, call(&rt, b"a.csv", lock), 0) == ok(1));
-    let delete = step(&rt, &mut single, call(&rt, b"a.csv", Act::Delete), 1);
-    assert!(rt; delete == conflict(held(), Reason::Locked));
-    let over = call_for(&rt, b"a.csv", b"e.csv", create(alloc, true, b"x")?);
-    assert!(rt; step(&rt, &mut single, over, 2) == conflict(held(), Reason::Locked));
-    let over = call_for(&rt, b"a.csv", b"e.csv", create(alloc, true, b"x")?);
-    assert!(rt; step(&rt, &mut single, over, 1_800_002) == ok(2));
-    assert!(rt;
-        step(
-            &rt,
-            &mut single,
-            call(&rt, b"a.csv", Act::Delete),
-            1_800_003
-        ) == bare(200)
-    );
-    let get = Act::Get { most: None };
-    assert!(rt; step(&rt, &mut single, call(&rt, b"a.csv", get), 1_800_003) == bare(404));
-    let anew = call_for(&rt, b"a.csv", b"e.csv", create(alloc, false, b"x")?);
-    assert!(rt; step(&rt, &mut single, anew, 1_800_004) == ok(3));
-    let lock = Act::Lock { id: lock_id(&rt) };
-    let spent = step(&rt, &mut single, call(&rt, b"a.csv", lock), 1_800_005);
-    assert!(rt; spent == conflict(LockField::Empty, Reason::Spent));
-    Ok(())
-}
-
-#[test]
 fn a_shard_leaves_its_opening_its_entries_and_their_contents(rt: HostRuntime) -> Result<(), Fail> {
     let alloc = rt.alloc();
     let mut single = open(alloc, 4096, &[])?;
@@ -273,29 +231,6 @@ fn the_names_come_in_the_order_of_their_bytes(rt: HostRuntime) -> Result<(), Fai
     assert!(rt; names.get(0).ok_or("a name")?.as_str() == "a.csv");
     assert!(rt; names.get(1).ok_or("a name")?.as_str() == "b.csv");
     assert!(rt; names.get(2).ok_or("a name")?.as_str() == "e.csv");
-    Ok(())
-}
-
-#[test]
-fn versions_go_on_from_the_first_one(rt: HostRuntime) -> Result<(), Fail> {
-    let alloc = rt.alloc();
-    let mut single = open_from(alloc, 4096, &[], 7)?;
-    let opened = name(&rt, b"e.csv");
-    assert!(rt; single.shard().file(&opened).ok_or("the file")?.version == 7);
-    let named = name(&rt, b"b.csv");
-    assert!(rt; single.shard().file(&named).is_none());
-    assert!(rt; single.shard().names()?.len() == 2);
-    let save = put(alloc, None, b"4")?;
-    assert!(rt; step(&rt, &mut single, call(&rt, b"e.csv", save), 0) == ok(8));
-    let made = call_for(&rt, b"b.csv", b"e.csv", create(alloc, false, b"x")?);
-    assert!(rt; step(&rt, &mut single, made, 0) == ok(7));
-    assert!(rt; single.shard().file(&named).ok_or("the file")?.version == 7);
-    assert!(rt; single.shard().names()?.len() == 3);
-    let (_folder, past) = single.end().end();
-    let (first, contents) = past.opening(0).ok_or("a file")?;
-    assert!(rt; first.as_str() == "a.csv");
-    assert!(rt; contents == b"1,2\n".as_slice());
-    assert!(rt; past.contents(0).ok_or("contents")? == b"4".as_slice());
     Ok(())
 }
 

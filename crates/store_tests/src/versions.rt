@@ -8,22 +8,6 @@ fn bytes(alloc: Global, text: &[u8]) -> Result<Bytes, Fail> {
 }
 
 #[test]
-fn what_is_added_is_there_until_it_is_removed(rt: HostRuntime) -> Result<(), Fail> {
-    let alloc = rt.alloc();
-    let mut versions = Versions::new(alloc);
-    let added = versions.add(3, 1, bytes(alloc, b"1,2")?);
-    assert!(rt; matches!(added, Ok(())));
-    let held = versions.at(3, 1).ok_or("a version")?;
-    assert!(rt; held.as_slice() == b"1,2".as_slice());
-    assert!(rt; versions.at(3, 2).is_none());
-    assert!(rt; versions.kept() == 3);
-    let taken = versions.remove(3, 1).ok_or("a version")?;
-    assert!(rt; taken.as_slice() == b"1,2".as_slice());
-    assert!(rt; versions.kept() == 0);
-    Ok(())
-}
-
-#[test]
 fn a_reserved_place_takes_a_version(rt: HostRuntime) -> Result<(), Fail> {
     let alloc = rt.alloc();
     let mut versions = Versions::new(alloc);

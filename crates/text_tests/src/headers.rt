@@ -62,23 +62,6 @@ fn a_lock_request_names_its_file_its_token_and_its_id(rt: HostRuntime) -> Result
     Ok(())
 }
 
-#[test]
-fn each_refusal_has_its_status(rt: HostRuntime) -> Result<(), Fail> {
-    let alloc = rt.alloc();
-    let get = Method::Get;
-    assert!(rt; status(alloc, get, "/wopi/files/zz", &[])? == 404);
-    assert!(rt; status(alloc, get, "/wopi/files/612E637376", &[])? == 404);
-    assert!(rt; status(alloc, get, "*", &[])? == 404);
-    assert!(rt; status(alloc, get, "/wopi/files/612e637376/contents/", &[])? == 404);
-    assert!(rt; status(alloc, Method::Other, FILE, &[])? == 501);
-    assert!(rt; status(alloc, get, FILE, &[])? == 200);
-    Ok(())
-}
-
-const SUGGESTED: &str = "X-WOPI-SuggestedTarget";
-
-const RELATIVE: &str = "X-WOPI-RelativeTarget";
-
 const OVERWRITE: &str = "X-WOPI-OverwriteRelativeTarget";
 
 /// The target of a copy that these fields ask for.
@@ -104,47 +87,6 @@ fn target<'x>(
         Err(AskFault::Refused { .. }) => Ok(None),
         Err(AskFault::Memory) => Err(Memory),
     }
-}
-
-#[test]
-fn a_copy_has_the_name_that_its_header_stands_for(rt: HostRuntime) -> Result<(), Fail> {
-    let found = target(rt.alloc(), (SUGGESTED, "+AOk-.csv"), "no")?;
-    match &found {
-        Some(Target::Suggested(name)) => assert!(rt; name.as_slice() == "é.csv".as_bytes()),
-        _ => assert!(rt; false),
-    }
-    for (word, wanted) in [("false", false), ("True", true)] {
-        let found = target(rt.alloc(), (RELATIVE, "b.csv"), word)?;
-        match &found {
-            Some(Target::Relative { name, overwrite }) => {
-                assert!(rt; name.as_slice() == b"b.csv".as_slice());
-                assert!(rt; *overwrite == wanted);
-            }
-            _ => assert!(rt; false),
-        }
-    }
-    Ok(())
-}
-
-#[test]
-fn each_copy_out_of_form_has_its_status(rt: HostRuntime) -> Result<(), Fail> {
-    let alloc = rt.alloc();
-    let post = Method::Post;
-    let copy = ("X-WOPI-Override", "PUT_RELATIVE");
-    let suggested = (SUGGESTED, ".txt");
-    let relative = (RELATIVE, "b.csv");
-    let yes = (OVERWRITE, "yes");
-    assert!(rt; status(alloc, post, FILE, &[copy])? == 400);
-    assert!(rt; status(alloc, post, FILE, &[copy, suggested, relative])? == 501);
-    assert!(rt; status(alloc, post, FILE, &[copy, suggested, suggested])? == 400);
-    assert!(rt; status(alloc, post, FILE, &[copy, (SUGGESTED, "")])? == 400);
-    assert!(rt; status(alloc, post, FILE, &[copy, (SUGGESTED, "+AOl-")])? == 400);
-    assert!(rt; status(alloc, post, FILE, &[copy, relative, yes])? == 400);
-    assert!(rt; status(alloc, post, FILE, &[copy, relative, (OVERWRITE, "")])? == 400);
-    assert!(rt; status(alloc, post, FILE, &[copy, suggested, yes])? == 200);
-    assert!(rt; status(alloc, post, FILE, &[copy, copy, suggested])? == 400);
-    assert!(rt; status(alloc, post, FILE, &[copy, relative])? == 200);
-    Ok(())
 }
 
 #[test]

@@ -20,29 +20,6 @@ fn ann_may_write(alloc: Global) -> Result<Info, Memory>
 }
 
 #[test]
-fn what_is_told_of_a_file_has_its_members_in_order(rt: HostRuntime) -> Result<(), Fail> {
-    let info = ann_may_write(rt.alloc())?;
-    let text = info_text(rt.alloc(), &info)?;
-    let told = "{\"BaseFileName\":\"a.csv\",\"OwnerId\":\"owner\",\"Size\":4,\
-                \"SupportsDeleteFile\":true,\"SupportsExtendedLockLength\":true,\"SupportsGetLock\":true,\"SupportsLocks\":true,\
-                \"SupportsUpdate\":true,\"UserCanNotWriteRelative\":false,\"UserCanWrite\":true,\
-                \"UserId\":\"ann\",\"Version\":\"v1\"}";
-    assert!(rt; told.len() == 259);
-    assert!(rt; text.as_slice() == told.as_bytes());
-    Ok(())
-}
-
-#[test]
-fn a_new_file_is_told_by_its_name_and_its_address(rt: HostRuntime) -> Result<(), Fail> {
-    let url = "http://localhost:8880/wopi/files/612e747874?access_token=t";
-    let text = relative_text(rt.alloc(), "a.txt", url)?;
-    let told = "{\"Name\":\"a.txt\",\
-                \"Url\":\"http://localhost:8880/wopi/files/612e747874?access_token=t\"}";
-    assert!(rt; text.as_slice() == told.as_bytes());
-    Ok(())
-}
-
-#[test]
 fn what_is_written_reads_back(rt: HostRuntime) -> Result<(), Fail> {
     let info = ann_may_write(rt.alloc())?;
     let text = info_text(rt.alloc(), &info)?;

@@ -63,27 +63,3 @@ fn a_text_is_taken_to_its_end(rt: HostRuntime) -> Result<(), Fail> {
     assert!(rt; room.left == 1);
     Ok(())
 }
-
-#[test]
-fn nothing_is_read_behind_what_is_refused(rt: HostRuntime) -> Result<(), Fail> {
-    let alloc = rt.alloc();
-    let mut source = input(alloc, 3)?;
-    let mut piece = piece_room(alloc)?;
-    let mut room = Room { left: 3 };
-    let end = read_text(&mut source, &mut piece[0..], &mut room);
-    assert!(rt; end == Err(InputFault::Text(Full)));
-    assert!(rt; source.as_slice() == b"5678".as_slice());
-    Ok(())
-}
-
-#[test]
-fn a_failed_read_ends_the_reading(rt: HostRuntime) -> Result<(), Fail> {
-    let alloc = rt.alloc();
-    let mut source = input(alloc, 3)?;
-    let mut piece = piece_room(alloc)?;
-    let mut room = Room { left: 9 };
-    let end = read_text(&mut source, &mut piece[0..], &mut room);
-    assert!(rt; end == Err(InputFault::Read));
-    assert!(rt; source.as_slice() == b"5678".as_slice());
-    Ok(())
-}

@@ -26,15 +26,3 @@ fn copies_are_numbered_before_the_ending(rt: HostRuntime) -> Result<(), Fail> {
     assert!(rt; candidate(&plain, 7).is_some_and(|c| c.as_str() == "b (7)"));
     Ok(())
 }
-
-#[test]
-fn what_makes_no_name_is_refused(rt: HostRuntime) -> Result<(), Fail> {
-    let source = FileName::read(b"a.csv")?;
-    for suggestion in ["", " ", ". ..", "..."] {
-        let name = tidy(rt.alloc(), &source, suggestion);
-        assert!(rt; suggestion.starts_with('.') == name.is_ok(), "{suggestion}");
-    }
-    let long = str::from_utf8(&[b'x'; 124])?;
-    assert!(rt; tidy(rt.alloc(), &source, long).err() == Some(TidyFault::BadName));
-    Ok(())
-}

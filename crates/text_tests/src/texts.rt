@@ -16,32 +16,6 @@ fn the_id_of_a_name_is_its_hex_and_reads_back(rt: HostRuntime) -> Result<(), Fai
 }
 
 #[test]
-fn names_that_a_folder_could_not_keep_are_refused(rt: HostRuntime) {
-    for name in [
-        "", ".a", "a.", "a ", "a/b", "a\\b", "a:b", "a\u{85}b", "a\tb",
-    ] {
-        assert!(rt; FileName::read(name.as_bytes()) == Err(BadName), "{name}");
-    }
-    for name in ["a", "a.csv", "a b", " a", "ä (1).csv"] {
-        assert!(rt; FileName::read(name.as_bytes()).is_ok(), "{name}");
-    }
-}
-
-#[test]
-fn hex_of_either_case_gives_its_bytes(rt: HostRuntime) -> Result<(), Fail> {
-    let alloc = rt.alloc();
-    let bytes = hex_decoded(alloc, b"4a6F")?.expect(&rt, "digits");
-    assert!(rt; bytes.as_slice() == b"Jo".as_slice());
-    for digits in ["4", "4g", "4a-"] {
-        assert!(rt;
-            hex_decoded(alloc, digits.as_bytes())?.is_none(),
-            "{digits}"
-        );
-    }
-    Ok(())
-}
-
-#[test]
 fn a_copy_of_bytes_is_equal(rt: HostRuntime) -> Result<(), Fail> {
     let bytes = Bytes::from_slice(rt.alloc(), b"1,2\n")?;
     let same = bytes.try_copy(rt.alloc())?;

@@ -63,23 +63,3 @@ fn other_forms_of_a_text_are_read_as_python_and_iconv_read_them(
     assert!(rt; is_read(rt.alloc(), b"\\~", "\\~")?);
     Ok(())
 }
-
-#[test]
-fn the_first_fault_is_told_by_its_place(rt: HostRuntime) {
-    for (bytes, at) in [
-        (b"+AOl-".as_slice(), 0),
-        (b"+", 0),
-        (b"a+", 1),
-        (b"a+ b", 1),
-        (b"++-", 0),
-        (b"a\tb", 1),
-        (b"ab\x7f", 2),
-        (b"a\xc3\xa9", 1),
-        (b"x+AOl-\t", 1),
-        (b"x\t+AOl-", 1),
-        (b"+AOk-+AOl-", 5),
-        (b"+AOk\n", 4),
-    ] {
-        assert!(rt; utf7_read(rt.alloc(), bytes).err() == Some(Utf7Fault::Bad { at }));
-    }
-}

@@ -31,28 +31,3 @@ fn a_copy_is_asked_for_once(rt: HostRuntime) -> Result<(), Fail> {
     assert!(rt; host.exchanges().len() == 4);
     Ok(())
 }
-
-#[test]
-fn each_status_of_a_copy_has_its_outcome(rt: HostRuntime) -> Result<(), Fail> {
-    let alloc = rt.alloc();
-    let desktop = desktop(alloc)?;
-    let large = b"HTTP/1.1 413 Content Too Large\r\nContent-Length: 0\r\n\r\n";
-    let dead = b"HTTP/1.1 401 Unauthorized\r\nContent-Length: 0\r\n\r\n";
-    let gone = b"HTTP/1.1 404 Not Found\r\nContent-Length: 0\r\n\r\n";
-    let other = b"HTTP/1.1 500 \r\n\r\nstore fault";
-    let mut host = dialer(alloc, &[large, dead, gone, other])?;
-    let told = save_as(alloc, &desktop, &mut host, "b.csv", b"");
-    assert!(rt; matches!(told, Ok(AsOutcome::Other(Outcome::TooLarge))));
-    let told = save_as(alloc, &desktop, &mut host, "b.csv", b"");
-    assert!(rt; matches!(told, Ok(AsOutcome::Other(Outcome::TokenDead))));
-    let told = save_as(alloc, &desktop, &mut host, "b.csv", b"");
-    assert!(rt; matches!(told, Ok(AsOutcome::Other(Outcome::Gone))));
-    let told = save_as(alloc, &desktop, &mut host, "b.csv", b"");
-    assert!(rt;
-        matches!(
-            told,
-            Ok(AsOutcome::Other(Outcome::HostFault { status: 500 }))
-        )
-    );
-    Ok(())
-}

@@ -34,22 +34,6 @@ fn a_lost_request_is_sent_three_times(rt: HostRuntime) -> Result<(), Fail> {
 }
 
 #[test]
-fn after_a_bad_reply_the_next_drive_goes_on(rt: HostRuntime) -> Result<(), Fail> {
-    let alloc = rt.alloc();
-    let desktop = desktop(alloc)?;
-    let mut session = session();
-    let mut host = dialer(alloc, &[b"HTP", INFO, ACCEPTED, CONTENTS, CONTENTS])?;
-    let started = drive(alloc, &desktop, &mut session, &mut host, Input::Start);
-    assert!(rt; matches!(started, Err(DriveFault::BadReply { at: 0 })));
-    assert!(rt; session.waits());
-    let read = drive(alloc, &desktop, &mut session, &mut host, Input::Read);
-    assert!(rt; matches!(read, Ok(Outcome::Read { version: Some(1) })));
-    assert!(rt; host.exchanges().len() == 5);
-    assert!(rt; request(&host, 1) == ASK_INFO);
-    Ok(())
-}
-
-#[test]
 fn a_save_outlasts_a_bad_reply(rt: HostRuntime) -> Result<(), Fail> {
     let alloc = rt.alloc();
     let desktop = desktop(alloc)?;
@@ -65,28 +49,5 @@ fn a_save_outlasts_a_bad_reply(rt: HostRuntime) -> Result<(), Fail> {
     assert!(rt; matches!(read, Ok(Outcome::Read { .. })));
     assert!(rt; request(&host, 3) == PUT);
     assert!(rt; request(&host, 4) == PUT);
-    Ok(())
-}
-
-/// The place at which the first reply of a session can't be read, or none where it can.
-fn bad_place(alloc: Global, reply: &[u8]) -> Result<Option<usize>, Fail> {
-    let desktop = desktop(alloc)?;
-    let mut session = session();
-    let mut host = dialer(alloc, &[reply])?;
-    match drive(alloc, &desktop, &mut session, &mut host, Input::Start) {
-        Err(DriveFault::BadReply { at }) => Ok(Some(at)),
-        Ok(Outcome::NoAnswer) => Ok(None),
-        _ => Err(Fail::from("neither a bad reply nor none")),
-    }
-}
-
-#[test]
-fn what_is_told_of_a_file_cut_at_every_place(rt: HostRuntime) -> Result<(), Fail> {
-    let alloc = rt.alloc();
-    for cut in 0..INFO.len() {
-        let place = if cut < INFO_HEAD { 0 } else { INFO_HEAD };
-        assert!(rt; bad_place(alloc, &INFO[..cut])? == Some(place), "at {cut}");
-    }
-    assert!(rt; bad_place(alloc, INFO)? == None);
     Ok(())
 }

@@ -50,30 +50,3 @@ fn the_seven_requests_of_two_saves(rt: HostRuntime) -> Result<(), Fail> {
     assert!(rt; request(&host, 7) == b"".as_slice());
     Ok(())
 }
-
-const CONFLICT: &[u8] =
-    b"HTTP/1.0 409 Conflict\r\nServer: other\r\nx-wopi-lockfailurereason: locked\r\nX-Wopi-Lock: L9\r\n\r\n";
-
-/// The lock that a conflict names, where a lock is its reason.
-fn holder(told: &Result<Outcome, DriveFault>) -> &[u8] {
-    match told {
-        Ok(
-            Outcome::Conflict {
-                lock: LockField::Held(id),
-                reason: Some(Reason::Locked),
-            },
-        ) => id.as_slice(),
-        _ => &[],
-    }
-}
-
-#[test]
-fn a_reply_with_fields_in_another_order_and_case_is_followed(rt: HostRuntime) -> Result<(), Fail> {
-    let alloc = rt.alloc();
-    let desktop = desktop(alloc)?;
-    let mut session = session();
-    let mut host = dialer(alloc, &[INFO, CONFLICT])?;
-    let told = drive(alloc, &desktop, &mut session, &mut host, Input::Start);
-    assert!(rt; holder(&told) == b"L9".as_slice());
-    Ok(())
-}

@@ -43,40 +43,6 @@ fn values_follow_a_set(rt: HostRuntime) -> Result<(), Fail> {
 }
 
 #[test]
-fn faults_are_written_as_their_texts(rt: HostRuntime) -> Result<(), Fail> {
-    expect(
-        &rt,
-        rt.alloc(),
-        b"=B1,=A1,=A1,=1+\n",
-        b"open\nvalues\nset 1 2 4\nvalues\nset 1 2 a\nvalues\n\
-set 1 1 =170141183460469231731687303715884105727+1\nvalues\n",
-        b"opened - 1\n#CYCLE,#CYCLE,#CYCLE,#NAME\n4,4,4,#NAME\n#VALUE,a,#VALUE,#NAME\n#NUM,a,#NUM,#NAME\n",
-    )
-}
-
-#[test]
-fn values_follow_other_edits_and_undos(rt: HostRuntime) -> Result<(), Fail> {
-    expect(
-        &rt,
-        rt.alloc(),
-        SUMS,
-        b"open\nvalues\ninsrow 1\nvalues\nundo\nvalues\nset 1 1 5\nvalues\nundo\nvalues\ndelcol 1\nvalues\n",
-        b"opened - 2\n1,2,3\n6,12,x\n\"\"\n1,2,0\n0,2,x\n1,2,3\n6,12,x\n5,2,7\n14,28,x\n1,2,3\n6,12,x\n2,#CYCLE\n#CYCLE,x\n",
-    )
-}
-
-#[test]
-fn a_refused_edit_leaves_the_values(rt: HostRuntime) -> Result<(), Fail> {
-    expect(
-        &rt,
-        rt.alloc(),
-        SUMS,
-        b"values\nopen\nvalues\nset 9 1 5\ninsrow 9\nvalues\nclose\nvalues\n",
-        b"not open\nopened - 2\n1,2,3\n6,12,x\nout of grid\nout of grid\n1,2,3\n6,12,x\nclosed\nnot open\n",
-    )
-}
-
-#[test]
 fn formulas_that_name_more_than_a_million_cells_have_no_values(
     rt: HostRuntime,
 ) -> Result<(), Fail> {

@@ -10,8 +10,6 @@ const CONTINUE: &str = "HTTP/1.1 100 Continue\r\n\r\n";
 
 const SAVED: &str = "HTTP/1.1 200 OK\r\nContent-Length: 0\r\nX-WOPI-ItemVersion: v2\r\n\r\n";
 
-const BAD: &str = "HTTP/1.1 400 Bad Request\r\nContent-Length: 0\r\nConnection: close\r\n\r\n";
-
 const BODY: &[u8] = b"4\r\n1,9\n\r\n0\r\n\r\n";
 
 /// The lines that a usual client puts into its heads.
@@ -45,36 +43,6 @@ fn a_save_in_chunks_parted_anywhere_gets_its_line_and_its_reply(
             assert!(rt; left.output.as_slice() == wanted.as_bytes(), "by {piece}");
             assert!(rt; left.kept("a.csv") == b"1,9\n".as_slice());
         }
-    }
-    Ok(())
-}
-
-/// What is answered to an input that ends at a place: the lock's request ends at the first of the places, and the
-/// head of the save at the second.
-fn answered(cut: usize, locked: usize, asked: usize) -> &'static [&'static str] {
-    if cut < locked {
-        &[BAD]
-    } else if cut == locked {
-        &[LOCKED]
-    } else if cut < asked {
-        &[LOCKED, BAD]
-    } else {
-        &[LOCKED, CONTINUE, BAD]
-    }
-}
-
-#[test]
-fn a_save_in_chunks_cut_at_any_place_is_bad(rt: HostRuntime) -> Result<(), Fail> {
-    let alloc = rt.alloc();
-    let locked = lock_request(alloc, "L1")?.len();
-    let mut input = lock_and_head(alloc, "")?;
-    let asked = input.len();
-    input.extend_from_slice(BODY)?;
-    for cut in 1..input.len() {
-        let left = once(&rt, alloc, &input[..cut])?;
-        let wanted = joined(alloc, answered(cut, locked, asked))?;
-        assert!(rt; left.output.as_slice() == wanted.as_slice(), "at {cut}");
-        assert!(rt; left.kept("a.csv") == b"1,2\n".as_slice());
     }
     Ok(())
 }

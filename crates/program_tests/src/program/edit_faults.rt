@@ -51,27 +51,6 @@ fn a_request_whose_answer_is_lost_is_sent_again(rt: HostRuntime) -> Result<(), F
 }
 
 #[test]
-fn a_read_of_a_script_that_fails_leaves_nothing_done(rt: HostRuntime) -> Result<(), Fail> {
-    let alloc = rt.alloc();
-    let mut given = whole(SCRIPT);
-    given.piece = 8;
-    let reads = SCRIPT.len().div_ceil(8).saturating_add(1) as u64;
-    for place in 1..10 {
-        given.failing_read = place;
-        let left = edit_on(&rt, alloc, &given, answering(alloc)?)?;
-        if place <= reads {
-            assert!(rt; left.status == 3, "read {place}");
-            assert!(rt; left.output.as_slice().is_empty(), "read {place}");
-            assert!(rt; left.dialer.exchanges().is_empty(), "read {place}");
-        } else {
-            assert!(rt; left.status == 0, "read {place}");
-            assert!(rt; left.output.as_slice() == TOLD, "read {place}");
-        }
-    }
-    Ok(())
-}
-
-#[test]
 fn a_line_that_fails_is_the_last_of_a_script(rt: HostRuntime) -> Result<(), Fail> {
     let alloc = rt.alloc();
     let mut given = whole(SCRIPT);

@@ -187,18 +187,3 @@ X-WOPI-Override: PUT\r\nX-WOPI-Lock: n-1\r\nContent-Length: 4\r\nConnection: clo
     assert!(rt; last.request.as_slice() == put.as_bytes());
     Ok(())
 }
-
-#[test]
-fn faults_of_the_streams_are_told(rt: HostRuntime) -> Result<(), Fail> {
-    let alloc = rt.alloc();
-    let mut given = whole(b"show\n");
-    for (read, write, status, line) in [(1, 0, 3, "read fault\n"), (0, 1, 4, "write fault\n")] {
-        given.failing_read = read;
-        given.failing_write = write;
-        let left = run_with(&rt, alloc, &WORDS, &given)?;
-        assert!(rt; left.status == status, "{line}");
-        assert!(rt; left.notes.as_slice() == line.as_bytes());
-        assert!(rt; left.output.as_slice().is_empty(), "{line}");
-    }
-    Ok(())
-}

@@ -143,89 +143,6 @@ fn requests_spoiled_anywhere_get_replies_that_a_client_reads(rt: HostRuntime) ->
     Ok(())
 }
 
-#[test]
-fn one_request_spoiled_gets_replies_that_a_client_reads(rt: HostRuntime) -> Result<(), Fail> {
-    let alloc = rt.alloc();
-    let mut draws = Draws { state: 2 };
-    let save = save_in_chunks(alloc)?;
-    let lock = requests(alloc, &[LOCK])?;
-    for round in 0..300 {
-        let mut input = lock.as_slice().to_vec(alloc)?;
-        input.extend_from_slice(&spoiled(alloc, &mut draws, &save)?)?;
-        let piece = draws.below(400).saturating_add(1);
-        assert!(rt; is_answered(&rt, alloc, &input, piece)?, "round {round}");
-    }
-    Ok(())
-}
-
-const SCRIPT: &[u8] =
-    b"open\nset 1 2 9\nshow\ninsrow 1\ninscol 2\nundo\ndelrow 1\nsave\nsaveas b.csv\nrefresh\nclose\n";
-
-const GOOD: [&[u8]; 7] = [
-    INFO, VERSION_1, CONTENTS, VERSION_2, VERSION_2, VERSION_2, VERSION_2,
-];
-
-#[test]
-fn scripts_spoiled_anywhere_end_by_a_status_of_edit(rt: HostRuntime) -> Result<(), Fail> {
-    let alloc = rt.alloc();
-    let mut draws = Draws { state: 3 };
-    for round in 0..200 {
-        let script = spoiled(alloc, &mut draws, SCRIPT)?;
-        let left = edit(&rt, alloc, &script, &GOOD)?;
-        assert!(rt; [0, 7, 8, 9, 11].contains(&left.status), "round {round}");
-        assert!(rt; left.notes.as_slice().is_empty(), "round {round}");
-    }
-    Ok(())
-}
-
-#[test]
-fn replies_spoiled_anywhere_end_by_a_status_of_edit(rt: HostRuntime) -> Result<(), Fail> {
-    let alloc = rt.alloc();
-    let mut draws = Draws { state: 4 };
-    for round in 0..60 {
-        let info = spoiled(alloc, &mut draws, INFO)?;
-        let locked = spoiled(alloc, &mut draws, VERSION_1)?;
-        let contents = spoiled(alloc, &mut draws, CONTENTS)?;
-        for replies in [
-            [info.as_slice(), VERSION_1, CONTENTS, VERSION_2],
-            [INFO, locked.as_slice(), CONTENTS, VERSION_2],
-            [INFO, VERSION_1, contents.as_slice(), VERSION_2],
-            [INFO, VERSION_1, CONTENTS, locked.as_slice()],
-        ] {
-            let left = edit(&rt, alloc, b"open\nset 1 1 7\nsave\nshow\n", &replies)?;
-            assert!(rt; [0, 8, 9, 11].contains(&left.status), "round {round}");
-            assert!(rt; left.notes.as_slice().is_empty(), "round {round}");
-        }
-    }
-    Ok(())
-}
-
-/// What a host tells of a file and of a copy.
-const TELLS_INFO: &[u8] =
-    b"{\"BaseFileName\":\"a.csv\",\"OwnerId\":\"owner\",\"Size\":4,\"UserCanWrite\":true,\"UserId\":\"u\",\"Version\":\"v1\"}";
-
-const TELLS_COPY: &[u8] =
-    b"{\"Name\":\"b.csv\",\"Url\":\"http://h/wopi/files/622e637376?access_token=t\"}";
-
-#[test]
-fn bodies_spoiled_anywhere_end_by_a_status_of_edit(rt: HostRuntime) -> Result<(), Fail> {
-    let alloc = rt.alloc();
-    let mut draws = Draws { state: 7 };
-    for round in 0..150 {
-        let info = sized(alloc, &spoiled(alloc, &mut draws, TELLS_INFO)?)?;
-        let copy = sized(alloc, &spoiled(alloc, &mut draws, TELLS_COPY)?)?;
-        for replies in [
-            [info.as_slice(), VERSION_1, CONTENTS, VERSION_2],
-            [INFO, VERSION_1, CONTENTS, copy.as_slice()],
-        ] {
-            let left = edit(&rt, alloc, b"open\nsaveas b.csv\n", &replies)?;
-            assert!(rt; left.status == 0 || left.status == 11, "round {round}");
-            assert!(rt; left.notes.as_slice().is_empty(), "round {round}");
-        }
-    }
-    Ok(())
-}
-
 /// What comes in the place of a byte of a token.
 const LETTERS: [&[u8]; 13] = [
     b"", b"0", b"00", b"1", b"a", b"f", b"A", b"r", b"w", b".", b"-", b"_", b"~",
@@ -276,32 +193,6 @@ fn schedules_spoiled_anywhere_end_by_a_status_of_replay(rt: HostRuntime) -> Resu
         } else {
             assert!(rt; left.status == 0, "round {round}");
         }
-    }
-    Ok(())
-}
-
-#[test]
-fn tokens_words_spoiled_anywhere_are_refused_or_written(rt: HostRuntime) -> Result<(), Fail> {
-    let alloc = rt.alloc();
-    let mut draws = Draws { state: 6 };
-    for round in 0..500 {
-        let user = spoiled(alloc, &mut draws, b"ann")?;
-        let name = spoiled(alloc, &mut draws, b"a.csv")?;
-        let expires = spoiled(alloc, &mut draws, b"253402300799999")?;
-        let words = [
-            "token",
-            "4a656665",
-            str::from_utf8(&user).unwrap_or("ann"),
-            str::from_utf8(&name).unwrap_or("a.csv"),
-            "w",
-            "1",
-            "253402300000000",
-            str::from_utf8(&expires).unwrap_or("1"),
-        ];
-        let left = run_with(&rt, alloc, &words, &whole(b""))?;
-        assert!(rt; [0, 2].contains(&left.status), "round {round}");
-        let is_written = left.output.as_slice().starts_with(b"v2.0.");
-        assert!(rt; is_written == (left.status == 0), "round {round}");
     }
     Ok(())
 }

@@ -24,10 +24,6 @@ const WORDS: [&str; 8] = [
 const TEXT: &str =
     "v2.0.ann.612e637376.w.1.253402300000000.253402300799999.d3b4214de337cbf0652f67ed52815e0780b10913047024cbdc4448712c891e48";
 
-/// A token for `a.csv` that version 1 wrote under the key `k`.
-const FIRST_TEXT: &str =
-    "v1.ann.612e637376.w.1.253402300000000.253402300799999.cc2a63af1977455f07844c926dffa4b64cbdc55115b559283b5df65b09d8289a";
-
 const LOCK: [&str; 4] = [
     "POST",
     "",
@@ -54,34 +50,6 @@ fn a_token_is_written_with_a_line_feed(rt: HostRuntime) -> Result<(), Fail> {
     assert!(rt; left.status == 0);
     assert!(rt; left.output.as_slice() == wanted.as_slice());
     assert!(rt; left.notes.as_slice() == b"".as_slice());
-    Ok(())
-}
-
-/// Runs these words where the output and the notes take so many bytes.
-fn run_into<R: Threads + Wait + Sync>(
-    rt: &R,
-    alloc: Global,
-    words: &[&str],
-    output: usize,
-    notes: usize,
-) -> Result<Left, Fail> {
-    let mut outside = fakes(alloc, &whole(b""))?;
-    outside.output = MemSink::new(alloc, output, Vec::new(alloc))?;
-    outside.notes = MemSink::new(alloc, notes, Vec::new(alloc))?;
-    Ok(run_in(rt, alloc, words, outside)?)
-}
-
-#[test]
-fn full_streams_have_a_front_of_their_texts(rt: HostRuntime) -> Result<(), Fail> {
-    let alloc = rt.alloc();
-    for (room, told) in [(100, "write fault\n"), (5, "write"), (0, "")] {
-        let left = run_into(&rt, alloc, &WORDS, 20, room)?;
-        assert!(rt; left.status == 4, "{room}");
-        assert!(rt; left.output.as_slice() == b"v2.0.ann.612e637376.".as_slice());
-        assert!(rt; left.notes.as_slice() == told.as_bytes());
-    }
-    let left = run_into(&rt, alloc, &["token"], 20, 0)?;
-    assert!(rt; left.status == 2);
     Ok(())
 }
 
@@ -148,57 +116,6 @@ fn a_key_is_exchanged_while_the_former_one_stays(rt: HostRuntime) -> Result<(), 
             left.output.as_slice().starts_with(line.as_bytes()),
             "{host} {keys}"
         );
-    }
-    Ok(())
-}
-
-#[test]
-fn a_token_of_version_1_counts_under_the_key_0(rt: HostRuntime) -> Result<(), Fail> {
-    let alloc = rt.alloc();
-    let input = request_by(alloc, FIRST_TEXT, &LOCK)?;
-    for (keys, line) in [
-        ("6b", "HTTP/1.1 200 "),
-        ("1:4a656665,0:6b", "HTTP/1.1 200 "),
-        ("1:4a656665", "HTTP/1.1 401 "),
-        ("0:4a656665,1:6b", "HTTP/1.1 401 "),
-    ] {
-        let words = ["once", ".", keys, "http://localhost:8880"];
-        let left = run_with(&rt, alloc, &words, &whole(&input))?;
-        assert!(rt;
-            left.output.as_slice().starts_with(line.as_bytes()),
-            "{keys}"
-        );
-    }
-    Ok(())
-}
-
-/// Words that are no keys.
-const NO_KEYS: [&str; 9] = [
-    "",
-    "1:4a,1:6b",
-    "2:4a,1:6b,0:6c",
-    "4a,6b",
-    "256:4a",
-    "01:4a",
-    "1:",
-    ":4a",
-    "1:4a,",
-];
-
-#[test]
-fn keys_out_of_form_are_no_command(rt: HostRuntime) -> Result<(), Fail> {
-    let alloc = rt.alloc();
-    for keys in &NO_KEYS {
-        let lists: [&[&str]; 3] = [
-            &["once", ".", keys, "http://localhost"],
-            &["serve", ".", "8880", keys, "http://localhost", "1"],
-            &["token", keys, "ann", "a.csv", "w", "1", "0", "1"],
-        ];
-        for words in &lists {
-            let left = run_with(&rt, alloc, words, &whole(b""))?;
-            assert!(rt; left.status == 2, "{keys}");
-            assert!(rt; left.notes.as_slice() == b"usage\n".as_slice());
-        }
     }
     Ok(())
 }

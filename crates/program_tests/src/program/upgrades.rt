@@ -104,19 +104,6 @@ fn given(input: &[u8], piece: usize, failing_read: u64, failing_write: u64) -> G
 }
 
 #[test]
-fn a_journal_whose_reads_fail_is_not_written(rt: HostRuntime) -> Result<(), Fail> {
-    let alloc = rt.alloc();
-    let input = joined(alloc, &[FIRST_HEAD, FILE, FIRST_LINE, "end\n"])?;
-    for failing in [1, 2, 3] {
-        let left = run_with(&rt, alloc, &["upgrade"], &given(&input, 50, failing, 0))?;
-        assert!(rt; left.status == 3, "read {failing}");
-        assert!(rt; left.notes.as_slice() == "read fault\n".as_bytes());
-        assert!(rt; left.output.as_slice().is_empty(), "read {failing}");
-    }
-    Ok(())
-}
-
-#[test]
 fn a_journal_whose_write_fails_is_told(rt: HostRuntime) -> Result<(), Fail> {
     let alloc = rt.alloc();
     let good = joined(alloc, &[FIRST_HEAD, FILE, FIRST_LINE, "end\n"])?;
@@ -125,19 +112,6 @@ fn a_journal_whose_write_fails_is_told(rt: HostRuntime) -> Result<(), Fail> {
         let left = run_with(&rt, alloc, &["upgrade"], &given(input, 1_000, 0, 1))?;
         assert!(rt; left.status == 4);
         assert!(rt; left.notes.as_slice() == "write fault\n".as_bytes());
-        assert!(rt; left.output.as_slice().is_empty());
-    }
-    Ok(())
-}
-
-#[test]
-fn upgrade_has_no_further_words(rt: HostRuntime) -> Result<(), Fail> {
-    let alloc = rt.alloc();
-    let input = joined(alloc, &[FIRST_HEAD, FILE, FIRST_LINE, "end\n"])?;
-    for words in [["upgrade", ""], ["upgrade", "upgrade"], ["upgrade", "2"]] {
-        let left = run_with(&rt, alloc, &words, &whole(&input))?;
-        assert!(rt; left.status == 2);
-        assert!(rt; left.notes.as_slice() == "usage\n".as_bytes());
         assert!(rt; left.output.as_slice().is_empty());
     }
     Ok(())

@@ -24,29 +24,6 @@ fn each_operation_is_answered(rt: HostRuntime) -> Result<(), Fail> {
     expect_over(&rt, rt.alloc(), &mut Straight, EACH, EACH_SHOWN)
 }
 
-#[test]
-fn a_session_reads_and_refreshes_and_learns_that_its_token_is_over(
-    rt: HostRuntime,
-) -> Result<(), Fail> {
-    let text = b"file 612e637376 312c320a\nsession 612e637376 n 100\nopen 1\ndeliver 1 0\n\
-answer 1\ndeliver 2 0\nanswer 2\ndeliver 3 0\nanswer 3\nread 1\ndeliver 4 1\nanswer 4\nrefresh 1\n\
-deliver 5 2\nanswer 5\nrefresh 1\ndeliver 6 100\nanswer 6\n";
-    let shown = b"send 1 info\nreply 1 200 v1 4\nsend 2 lock n-1\nreply 2 200 v1\nsend 3 get\n\
-reply 3 200 v1 312c320a\ntell 1 opened v1\nsend 4 get\nreply 4 200 v1 312c320a\ntell 1 read v1\n\
-send 5 refresh n-1\nreply 5 200\ntell 1 refreshed\nsend 6 refresh n-1\nreply 6 401\n\
-tell 1 token dead\nend 612e637376 v1 n-1 312c320a\n";
-    expect_over(&rt, rt.alloc(), &mut Straight, text, shown)
-}
-
-#[test]
-fn a_name_that_is_not_ascii_is_asked_for_and_copied(rt: HostRuntime) -> Result<(), Fail> {
-    let text = b"file c3a42e637376 31\nforeign 0 9000000 info c3a42e637376\n\
-foreign 1 9000000 relative c3a42e637376 e282ac2e637376 no 32\nforeign 2 9000000 get e282ac2e637376\n";
-    let shown = b"reply 1 200 v1 1\nreply 2 200 e282ac2e637376\nreply 3 200 v1 32\n\
-end c3a42e637376 v1 - 31\nend e282ac2e637376 v1 - 32\n";
-    expect_over(&rt, rt.alloc(), &mut Straight, text, shown)
-}
-
 /// The longest contents that a line has, in hex.
 fn longest(alloc: Global) -> Result<Vec<u8>, Fail> {
     let mut text = Vec::new(alloc);
@@ -65,31 +42,4 @@ fn the_longest_contents_are_saved(rt: HostRuntime) -> Result<(), Fail> {
     shown.extend_from_slice(&contents)?;
     shown.push(b'\n')?;
     expect_over(&rt, alloc, &mut Straight, &text, &shown)
-}
-
-/// What opens a file, as it goes over the wire.
-const MESSAGES: [&[u8]; 4] = [
-    b"GET /wopi/files/612e637376?access_token=v2.0.s1.612e637376.w.1.0.9000000.d22f2c646844607e2483fa9850ccefee5aec7564acc745c4a7ddaa6ab44d2583 HTTP/1.1\r\nHost: localhost\r\n\
-Connection: close\r\n\r\n",
-    b"HTTP/1.1 200 OK\r\nContent-Length: 258\r\nContent-Type: application/json\r\nConnection: close\r\n\r\n{\"BaseFileName\":\"a.csv\",\"OwnerId\":\"owner\",\"Size\":4,\"SupportsDeleteFile\":true,\"SupportsExtendedLockLength\":true,\"SupportsGetLock\":true,\"SupportsLocks\":true,\"SupportsUpdate\":true,\"UserCanNotWriteRelative\":false,\"UserCanWrite\":true,\"UserId\":\"s1\",\"Version\":\"v1\"}",
-    b"POST /wopi/files/612e637376?access_token=v2.0.s1.612e637376.w.1.0.9000000.d22f2c646844607e2483fa9850ccefee5aec7564acc745c4a7ddaa6ab44d2583 HTTP/1.1\r\nHost: localhost\r\nX-WOPI-Override: LOCK\r\nX-WOPI-Lock: n-1\r\nContent-Length: 0\r\nConnection: close\r\n\r\n",
-    b"HTTP/1.1 200 OK\r\nContent-Length: 0\r\nX-WOPI-ItemVersion: v1\r\nConnection: close\r\n\r\n",
-];
-
-#[test]
-fn what_goes_over_the_wire_is_the_request_and_the_reply(rt: HostRuntime) -> Result<(), Fail> {
-    let alloc = rt.alloc();
-    let schedule = Schedule::read(
-        alloc,
-        b"file 612e637376 312c320a\nsession 612e637376 n 9000000\nopen 1\ndeliver 1 0\nanswer 1\n\
-deliver 2 0\nanswer 2\n",
-    )?;
-    let mut wire = ScriptWire::new(alloc, Vec::new(alloc));
-    let _world = World::run(alloc, &schedule, &mut wire)?;
-    assert!(rt; wire.carried().len() == 4);
-    for (carried, message) in wire.carried().iter().zip(MESSAGES) {
-        assert!(rt; carried.given.as_slice() == message);
-        assert!(rt; carried.got.as_slice() == message);
-    }
-    Ok(())
 }

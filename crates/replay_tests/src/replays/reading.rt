@@ -36,15 +36,6 @@ fn expect_bad_fifth(rt: &impl Abort, alloc: Global, line: &[u8]) -> Result<(), F
 }
 
 #[test]
-fn the_opening_is_read(rt: HostRuntime) -> Result<(), Fail> {
-    let schedule = Schedule::read(rt.alloc(), OPENING)?;
-    assert!(rt; schedule.files().len() == 2);
-    assert!(rt; schedule.sessions().len() == 2);
-    assert!(rt; schedule.events().len() == 0);
-    Ok(())
-}
-
-#[test]
 fn each_event_is_read(rt: HostRuntime) -> Result<(), Fail> {
     let lines = b"open 1\nread 2\nsave 1 00ff\nsave 2 -\nrefresh 1\nclose 2\nlose 1\n\
 deliver 1 0\ndeliver ^3 253402300799999\nanswer 18446744073709551615\nanswer ^1\ntick 10\n";
@@ -59,33 +50,6 @@ foreign 1 9 put 62 L -\nforeign 1 9 lock 62 L\nforeign 1 9 getlock 62\nforeign 1
 foreign 1 9 unlock 62 L\nforeign 1 9 relock 62 L --\nforeign 1 9 delete 62\n\
 foreign 1 9 relative 62 63 yes 00\nforeign 1 9 relative 62 202e63 no -\n";
     assert!(rt; events_behind(rt.alloc(), OPENING, lines)? == 12);
-    Ok(())
-}
-
-#[test]
-fn sessions_are_counted_from_0_within(rt: HostRuntime) -> Result<(), Fail> {
-    let mut text = OPENING.to_vec(rt.alloc())?;
-    text.extend_from_slice(b"open 2\nanswer ^7")?;
-    let schedule = Schedule::read(rt.alloc(), &text)?;
-    let events = schedule.events();
-    assert!(rt; events.len() == 2);
-    assert!(rt;
-        matches!(
-            &events[0],
-            EventLine::Asks {
-                session: 1,
-                wish: Wish::Start
-            }
-        )
-    );
-    assert!(rt;
-        matches!(
-            &events[1],
-            EventLine::Answer {
-                reply: Reference::Last(7)
-            }
-        )
-    );
     Ok(())
 }
 
@@ -112,94 +76,6 @@ foreign 1 9000000 relative 652e637376 612e637376 no 78\nforeign 2 9000000 delete
 #[test]
 fn a_line_of_no_kind_is_bad(rt: HostRuntime) -> Result<(), Fail> {
     expect_bad(&rt, rt.alloc(), b"jump 1", 1)
-}
-
-#[test]
-fn empty_lines_and_comments_count(rt: HostRuntime) -> Result<(), Fail> {
-    let schedule = Schedule::read(rt.alloc(), b"\n# file 61 -\n#\nfile 61 -\n\n")?;
-    assert!(rt; schedule.files().len() == 1);
-    expect_bad(&rt, rt.alloc(), b"\n# a\n\n # a\n", 4)
-}
-
-#[test]
-fn the_last_line_may_lack_its_line_feed(rt: HostRuntime) -> Result<(), Fail> {
-    assert!(rt; events_behind(rt.alloc(), OPENING, b"open 1")? == 1);
-    Ok(())
-}
-
-#[test]
-fn names_and_nonces_stand_once(rt: HostRuntime) -> Result<(), Fail> {
-    let alloc = rt.alloc();
-    expect_bad(&rt, alloc, b"file 61 -\nfile 62 -\nfile 61 00\n", 3)?;
-    expect_bad(&rt, alloc, b"session 61 n 1\nsession 62 n 2\n", 2)
-}
-
-#[test]
-fn files_and_sessions_come_first(rt: HostRuntime) -> Result<(), Fail> {
-    let alloc = rt.alloc();
-    expect_bad(&rt, alloc, b"session 61 n 1\nfile 61 -\n", 2)?;
-    expect_bad(&rt, alloc, b"session 61 n 1\nopen 1\nsession 61 m 1\n", 3)?;
-    expect_bad(&rt, alloc, b"file 61 -\nopen 1\nsession 61 n 1\n", 2)
-}
-
-#[test]
-fn a_session_may_say_when_its_token_was_issued(rt: HostRuntime) -> Result<(), Fail> {
-    let text = b"session 61 n 9\nsession 61 m 9 0\nsession 61 k 9 253402300799999\n";
-    let schedule = Schedule::read(rt.alloc(), text)?;
-    let sessions = schedule.sessions();
-    assert!(rt; sessions.len() == 3);
-    assert!(rt; sessions[0].issued == 0);
-    assert!(rt; sessions[1].issued == 0);
-    assert!(rt; sessions[2].issued == 253_402_300_799_999);
-    Ok(())
-}
-
-/// A file and two sessions, the second with a token that was issued at 100.
-const ISSUED: &[u8] = b"file 62 -\nsession 62 n 9000000\nsession 62 m 9000000 100\n";
-
-/// Behind the opening with a token that was issued at 100 the last of the lines is bad, and they are
-/// good with the restart a millisecond later.
-fn expect_early(rt: &impl Abort, alloc: Global, lines: &[u8], moment: u64) -> Result<(), Fail> {
-    let feeds = lines.iter().filter(|byte| **byte == b'\n').count() as u64;
-    let mut text = ISSUED.to_vec(alloc)?;
-    text.extend_from_slice(lines)?;
-    let early = format!(in alloc; "restart {moment}\n")?;
-    let mut bad = text.as_slice().to_vec(alloc)?;
-    bad.extend_from_slice(early.as_bytes())?;
-    expect_bad(rt, alloc, &bad, feeds.saturating_add(4))?;
-    let later = moment.saturating_add(1);
-    let late = format!(in alloc; "restart {later}\n")?;
-    text.extend_from_slice(late.as_bytes())?;
-    let events = Schedule::read(alloc, &text)?.events().len() as u64;
-    assert!(rt; events == feeds.saturating_add(1));
-    Ok(())
-}
-
-#[test]
-fn a_restart_comes_later_than_all_before_it(rt: HostRuntime) -> Result<(), Fail> {
-    let alloc = rt.alloc();
-    expect_early(&rt, alloc, b"", 0)?;
-    expect_early(&rt, alloc, b"tick 7\ntick 5\nanswer 9\n", 7)?;
-    expect_early(&rt, alloc, b"deliver 9 7\n", 7)?;
-    expect_early(&rt, alloc, b"foreign 7 9 info 62\n", 7)?;
-    expect_early(&rt, alloc, b"restart 7\ntick 3\n", 7)
-}
-
-#[test]
-fn a_restart_comes_later_than_the_tokens_of_the_sessions_before_it(
-    rt: HostRuntime,
-) -> Result<(), Fail> {
-    let alloc = rt.alloc();
-    expect_early(&rt, alloc, b"open 2\n", 100)?;
-    expect_early(&rt, alloc, b"lose 2\n", 100)?;
-    expect_early(&rt, alloc, b"open 1\nlose 1\n", 0)?;
-    expect_early(&rt, alloc, b"restart 7\nopen 2\n", 100)
-}
-
-#[test]
-fn a_session_may_do_something_after_any_restart(rt: HostRuntime) -> Result<(), Fail> {
-    assert!(rt; events_behind(rt.alloc(), ISSUED, b"restart 100\nopen 2\nopen 1\n")? == 3);
-    Ok(())
 }
 
 const BAD: [&[u8]; 43] = [
@@ -256,13 +132,6 @@ fn the_first_bad_line_is_named(rt: HostRuntime) -> Result<(), Fail> {
     Ok(())
 }
 
-#[test]
-fn a_foreign_id_may_begin_with_a_nonce_alone(rt: HostRuntime) -> Result<(), Fail> {
-    let lines = b"foreign 1 9 lock 62 n\nforeign 1 9 lock 62 n2-1\nforeign 1 9 lock 62 nn-1\n";
-    assert!(rt; events_behind(rt.alloc(), OPENING, lines)? == 3);
-    Ok(())
-}
-
 /// So many sessions.
 fn sessions(alloc: Global, count: usize) -> Result<Vec<u8>, Fail> {
     let mut text = Vec::new(alloc);
@@ -303,13 +172,6 @@ fn files(alloc: Global) -> Result<Vec<u8>, Fail> {
 }
 
 #[test]
-fn a_schedule_may_have_files_alone(rt: HostRuntime) -> Result<(), Fail> {
-    let text = files(rt.alloc())?;
-    assert!(rt; Schedule::read(rt.alloc(), &text)?.files().len() == 16_000);
-    Ok(())
-}
-
-#[test]
 fn a_schedule_ends_at_16_000_lines(rt: HostRuntime) -> Result<(), Fail> {
     let mut text = b"tick 1\n".to_vec(rt.alloc())?;
     for _ in 1..16_000 {
@@ -318,15 +180,6 @@ fn a_schedule_ends_at_16_000_lines(rt: HostRuntime) -> Result<(), Fail> {
     assert!(rt; Schedule::read(rt.alloc(), &text)?.events().len() == 16_000);
     text.push(b'\n')?;
     expect_bad(&rt, rt.alloc(), &text, 16_001)
-}
-
-#[test]
-fn a_line_ends_at_20_000_bytes(rt: HostRuntime) -> Result<(), Fail> {
-    let mut comment = b"#".to_vec(rt.alloc())?;
-    comment.resize(20_000, b'x')?;
-    assert!(rt; Schedule::read(rt.alloc(), &comment)?.files().len() == 0);
-    comment.push(b'x')?;
-    expect_bad(&rt, rt.alloc(), &comment, 1)
 }
 
 #[test]

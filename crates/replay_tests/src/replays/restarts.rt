@@ -21,26 +21,6 @@ fn a_late_save_is_refused_after_a_restart_by_its_token(rt: HostRuntime) -> Resul
 }
 
 #[test]
-fn entries_are_counted_anew_after_a_restart(rt: HostRuntime) -> Result<(), Fail> {
-    let alloc = rt.alloc();
-    let schedule = Schedule::read(alloc, LATE)?;
-    let world = World::run(alloc, &schedule, &mut Straight)?;
-    let stage = &world.stage;
-    assert!(rt; stage.history.len() == 8);
-    assert!(rt;
-        stage.history[4]
-            == Item::Restart {
-                moment: 100,
-                first: 3
-            }
-    );
-    assert!(rt; stage.history[5] == Item::Entry);
-    assert!(rt; stage.host.len() == 3);
-    assert!(rt; stage.desk.opened == 100);
-    Ok(())
-}
-
-#[test]
 fn versions_go_on_over_a_restart_and_a_name_that_is_gone_was_never_met(
     rt: HostRuntime,
 ) -> Result<(), Fail> {
@@ -51,18 +31,6 @@ restart 5\n";
     let shown = b"reply 1 200 v2\nreply 2 200\nrestarted 3\nreply 3 200 v3 1\nreply 4 404\n\
 reply 5 200 632e637376\nrestarted 4\nend 622e637376 v4 - 41\nend 632e637376 v4 - 78\n";
     expect_over(&rt, rt.alloc(), &mut Straight, text, shown)
-}
-
-#[test]
-fn a_host_without_files_begins_again_where_it_began(rt: HostRuntime) -> Result<(), Fail> {
-    let text = b"restart 1\nrestart 2\n";
-    expect_over(
-        &rt,
-        rt.alloc(),
-        &mut Straight,
-        text,
-        b"restarted 1\nrestarted 1\n",
-    )
 }
 
 #[test]
@@ -102,14 +70,6 @@ fn was_ruled(past: &Past<FaultlessFolder>, place: u64, name: &[u8], status: u16)
     }
 }
 
-/// The file at a place of the opening has that name and these contents.
-fn stood(past: &Past<FaultlessFolder>, place: u64, name: &[u8], contents: &[u8]) -> bool {
-    match past.opening(place) {
-        Some((found, bytes)) => found.as_slice() == name && bytes == contents,
-        None => false,
-    }
-}
-
 /// The entry at a place brought these contents, and they were accepted.
 fn has_brought(past: &Past<FaultlessFolder>, place: u64, contents: &[u8]) -> bool {
     match past.contents(place) {
@@ -139,35 +99,5 @@ fn what_ran_before_each_restart_is_kept(rt: HostRuntime) -> Result<(), Fail> {
     assert!(rt; was_ruled(second, 0, b"a.csv", 409));
     assert!(rt; was_ruled(second, 1, b"a.csv", 200));
     assert!(rt; stage.host.len() == 1);
-    Ok(())
-}
-
-#[test]
-fn the_files_over_which_each_host_opened_are_kept(rt: HostRuntime) -> Result<(), Fail> {
-    let alloc = rt.alloc();
-    let schedule = Schedule::read(alloc, THREE_HOSTS)?;
-    let world = World::run(alloc, &schedule, &mut Straight)?;
-    let stage = &world.stage;
-    assert!(rt; stage.pasts.len() == 2);
-    let first = &stage.pasts[0];
-    assert!(rt; first.files() == 2);
-    assert!(rt; stood(first, 0, b"a.csv", b"1"));
-    assert!(rt; stood(first, 1, b"b.csv", b"2"));
-    let second = &stage.pasts[1];
-    assert!(rt; second.files() == 2);
-    assert!(rt; stood(second, 0, b"a.csv", b"A"));
-    assert!(rt; stood(second, 1, b"b.csv", b"2"));
-    Ok(())
-}
-
-#[test]
-fn a_run_without_a_restart_has_no_past(rt: HostRuntime) -> Result<(), Fail> {
-    let alloc = rt.alloc();
-    let schedule = Schedule::read(
-        alloc,
-        b"file 612e637376 31\nforeign 0 9000000 info 612e637376\n",
-    )?;
-    let world = World::run(alloc, &schedule, &mut Straight)?;
-    assert!(rt; world.stage.pasts.is_empty());
     Ok(())
 }

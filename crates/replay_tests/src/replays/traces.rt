@@ -90,36 +90,12 @@ end 612e637376 v2 - -\n";
 }
 
 #[test]
-fn what_is_not_there_shows_none_and_what_nobody_waits_for_is_late(
-    rt: HostRuntime,
-) -> Result<(), Fail> {
-    let text = b"file 612e637376 312c320a\nsession 612e637376 n 9000000\ndeliver 1 0\nanswer 1\n\
-open 1\nopen 1\ndeliver 1 5\nlose 1\nanswer 1\ntick 3\n";
-    let shown = b"none\nnone\nsend 1 info\nignored\nreply 1 200 v1 4\nsend 2 info\nlate\nnow 5\n\
-end 612e637376 v1 - 312c320a\n";
-    expect_over(&rt, rt.alloc(), &mut Straight, text, shown)
-}
-
-#[test]
 fn somebody_else_fills_copies_and_deletes_a_file(rt: HostRuntime) -> Result<(), Fail> {
     let text = b"file 652e637376 -\nforeign 0 9000000 put 652e637376 - 41\n\
 foreign 1 9000000 relative 652e637376 612e637376 no 78\nforeign 2 9000000 delete 652e637376\n";
     let shown = b"reply 1 200 v2\nreply 2 200 612e637376\nreply 3 200\nend 612e637376 v1 - 78\n\
 end 652e637376 v2 absent\n";
     expect_over(&rt, rt.alloc(), &mut Straight, text, shown)
-}
-
-#[test]
-fn a_copy_has_its_name_without_the_spaces_at_its_front(rt: HostRuntime) -> Result<(), Fail> {
-    let text = b"file 652e637376 -\nforeign 1 9000000 relative 652e637376 2020612e637376 no 78\n";
-    let shown = b"reply 1 200 612e637376\nend 612e637376 v1 - 78\nend 652e637376 v1 - -\n";
-    expect_over(&rt, rt.alloc(), &mut Straight, text, shown)
-}
-
-#[test]
-fn the_trace_shows_what_came_over_a_straight_wire(rt: HostRuntime) -> Result<(), Fail> {
-    let shown = b"send 1 info\nreply 1 200 v1 4\nsend 2 lock n-1\nend 612e637376 v1 - 312c320a\n";
-    expect_over(&rt, rt.alloc(), &mut Straight, BEGUN, shown)
 }
 
 #[test]
@@ -202,16 +178,5 @@ fn what_comes_over_a_wire_is_answered_as_it_came(rt: HostRuntime) -> Result<(), 
         let mut wire = wire_of(alloc, row.instead)?;
         expect_over(&rt, alloc, &mut wire, &text, row.shown)?;
     }
-    Ok(())
-}
-
-#[test]
-fn the_summary_of_no_event(rt: HostRuntime) -> Result<(), Fail> {
-    let alloc = rt.alloc();
-    let schedule = generate(alloc, 7, 0)?;
-    let world = World::run(alloc, &schedule, &mut Straight)?;
-    let text = summary_text(alloc, &world)?;
-    let shown = b"requests 0\nreplies 0\nconflicts 0\nsaved 0\nend 612e637376 v1 - 312c320a\n";
-    assert!(rt; text.as_slice() == shown.as_slice());
     Ok(())
 }

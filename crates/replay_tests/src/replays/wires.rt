@@ -19,30 +19,11 @@ fn first_status(stage: &Stage) -> Option<u16> {
 }
 
 #[test]
-fn a_straight_wire_carries_the_request(rt: HostRuntime) -> Result<(), Fail> {
-    let alloc = rt.alloc();
-    let schedule = generate(alloc, 7, 100)?;
-    let world = World::run(alloc, &schedule, &mut Straight)?;
-    assert!(rt; first_status(&world.stage) == Some(200));
-    Ok(())
-}
-
-#[test]
 fn the_host_answers_what_came(rt: HostRuntime) -> Result<(), Fail> {
     let alloc = rt.alloc();
     let schedule = generate(alloc, 7, 100)?;
     let mut wire = instead(alloc, b"GET /wopi/folders HTTP/1.1\r\nHost: x\r\n\r\n")?;
     let world = World::run(alloc, &schedule, &mut wire)?;
     assert!(rt; first_status(&world.stage) == Some(404));
-    Ok(())
-}
-
-#[test]
-fn nothing_that_came_is_a_bad_request(rt: HostRuntime) -> Result<(), Fail> {
-    let alloc = rt.alloc();
-    let schedule = generate(alloc, 7, 100)?;
-    let mut wire = instead(alloc, b"")?;
-    let world = World::run(alloc, &schedule, &mut wire)?;
-    assert!(rt; first_status(&world.stage) == Some(400));
     Ok(())
 }

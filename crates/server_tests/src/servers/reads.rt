@@ -11,9 +11,6 @@ use wopi_text::Bytes;
 /// A message that doesn't close.
 const GET: &[u8] = b"GET /x HTTP/1.1\r\nHost: h\r\n\r\n";
 
-/// One that does.
-const LAST: &[u8] = b"GET /x HTTP/1.1\r\nHost: h\r\nConnection: close\r\n\r\n";
-
 /// The most bytes of a reply here, and more than a read asks for.
 const ROOM: usize = 9999;
 
@@ -37,22 +34,6 @@ fn the_reply_stands_written_at_the_next_read(rt: HostRuntime) -> Result<(), Fail
     let (end, count) = served(alloc, GET, 2)?;
     assert!(rt; end == ConnEnd::ReadFault);
     assert!(rt; served(alloc, GET, 0)? == (ConnEnd::Done, count));
-    assert!(rt; count > 0);
-    Ok(())
-}
-
-#[test]
-fn nothing_is_read_after_a_message_that_closes(rt: HostRuntime) -> Result<(), Fail> {
-    let (end, count) = served(rt.alloc(), LAST, 2)?;
-    assert!(rt; end == ConnEnd::Done);
-    assert!(rt; count > 0);
-    Ok(())
-}
-
-#[test]
-fn nothing_is_read_after_a_refusal(rt: HostRuntime) -> Result<(), Fail> {
-    let (end, count) = served(rt.alloc(), b"no message\r\n\r\n", 2)?;
-    assert!(rt; end == ConnEnd::Done);
     assert!(rt; count > 0);
     Ok(())
 }

@@ -66,17 +66,6 @@ fn call(single: &mut Single<MemFolder>, act: Act) -> Result<u16, Fail> {
 }
 
 #[test]
-fn the_container_tells_its_name(rt: HostRuntime) -> Result<(), Fail> {
-    let alloc = rt.alloc();
-    let mut single = open(alloc, &["a.csv"])?;
-    let told = answer(alloc, &mut single, TEXT, ContainerOp::Info, 0, 50)?;
-    assert!(rt; told.status == 200);
-    assert!(rt; told.kind == BodyKind::Json);
-    assert!(rt; told.body.as_slice() == br#"{"Name":"root"}"#.as_slice());
-    Ok(())
-}
-
-#[test]
 fn a_file_is_listed_as_it_was_saved_last(rt: HostRuntime) -> Result<(), Fail> {
     let alloc = rt.alloc();
     let mut single = open(alloc, &["a.csv"])?;
@@ -104,23 +93,5 @@ fn the_files_stand_in_the_order_of_their_bytes(rt: HostRuntime) -> Result<(), Fa
         assert!(rt; place > last);
         last = place;
     }
-    Ok(())
-}
-
-#[test]
-fn a_token_that_does_not_count_is_refused(rt: HostRuntime) -> Result<(), Fail> {
-    let alloc = rt.alloc();
-    let mut single = open(alloc, &["a.csv"])?;
-    for text in [FORMER_TEXT, ZERO_TEXT, FILE_TEXT, ""] {
-        for op in [ContainerOp::Info, ContainerOp::Children] {
-            let told = answer(alloc, &mut single, text, op, 0, 50)?;
-            assert!(rt; told.status == 401);
-            assert!(rt; told.body.as_slice().is_empty());
-        }
-    }
-    let info = ContainerOp::Info;
-    assert!(rt; answer(alloc, &mut single, TEXT, info, 0, 8_999_999)?.status == 200);
-    assert!(rt; answer(alloc, &mut single, TEXT, info, 0, 9_000_000)?.status == 401);
-    assert!(rt; answer(alloc, &mut single, TEXT, info, 1, 50)?.status == 401);
     Ok(())
 }

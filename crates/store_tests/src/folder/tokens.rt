@@ -16,14 +16,3 @@ fn a_token_is_written_to_the_letter(rt: HostRuntime) -> Result<(), Fail> {
     assert!(rt; text.as_slice() == LAST_TEXT.as_bytes());
     Ok(())
 }
-
-#[test]
-fn a_token_is_read_under_the_key_whose_number_it_has(rt: HostRuntime) -> Result<(), Fail> {
-    let exchanged = keys(b"1:4a656665,0:6b")?;
-    assert!(rt; container_read(&exchanged, FORMER_TEXT.as_bytes()).is_ok());
-    assert!(rt; container_read(&exchanged, TEXT.as_bytes()).err() == Some(TokenFault::BadMac));
-    let alone = keys(b"1:4a656665")?;
-    assert!(rt; container_read(&alone, FORMER_TEXT.as_bytes()).err() == Some(TokenFault::NoKey));
-    assert!(rt; container_read(&keys(b"255:6b")?, LAST_TEXT.as_bytes()).is_ok());
-    Ok(())
-}

@@ -131,18 +131,3 @@ fn a_host_that_keeps_the_connection_open_holds_no_reply_up(rt: HostRuntime) -> R
     assert!(rt; reply?.as_slice() == b"reply".as_slice());
     Ok(())
 }
-
-fn may_be_sent<T: Send>(_sent: &T) {}
-
-#[test]
-fn folders_listeners_and_clocks_may_be_moved_to_a_worker(rt: HostRuntime) -> Result<(), Fail> {
-    let alloc = rt.alloc();
-    may_be_sent(&DirFolder::new(alloc, &rt, ".")?);
-    may_be_sent(&MemFolder::new(alloc, Vec::new(alloc), Vec::new(alloc)));
-    may_be_sent(&TcpListen::new(None, 0));
-    let links: Vec<Pair<MemSource, MemSink>> = Vec::new(alloc);
-    may_be_sent(&MemListener::new(alloc, links, Vec::new(alloc))?);
-    may_be_sent(&SystemClock::new(&rt));
-    may_be_sent(&ScriptClock::new(0, Vec::new(alloc)));
-    Ok(())
-}

@@ -51,25 +51,6 @@ fn a_request_is_sent_whole_before_anything_is_read(rt: HostRuntime) -> Result<()
 }
 
 #[test]
-fn nothing_is_read_behind_a_whole_reply_or_the_end(rt: HostRuntime) -> Result<(), Fail> {
-    let alloc = rt.alloc();
-    let mut one = [0u8; 1];
-    for (count, number, reply) in [
-        (0, 1, b"".as_slice()),
-        (3, 2, b"repl".as_slice()),
-        (5, 3, b"reply".as_slice()),
-        (9, 4, b"reply".as_slice()),
-    ] {
-        let mut link = link_of(alloc, number)?;
-        assert!(rt;
-            matches!(asked(alloc, &mut link, count, b"ask"), Ok(found) if found.as_slice() == reply)
-        );
-        assert!(rt; link.read(&mut one) == Err(Failed));
-    }
-    Ok(())
-}
-
-#[test]
 fn a_reply_of_more_than_the_most_bytes_is_a_fault(rt: HostRuntime) -> Result<(), Fail> {
     let alloc = rt.alloc();
     let mut link = link_of(alloc, 9)?;
