@@ -24,6 +24,24 @@ fn expect_text(rt: &impl Abort, sheet: &Sheet, expected: &str) -> Result<(), Fai
 }
 
 #[test]
+fn sums_and_products_follow_a_set(rt: HostRuntime) -> Result<(), Fail> {
+    let alloc = rt.alloc();
+    let mut grid = Grid::read(alloc, b"1,2,=A1+B1\n=SUM(A1:C1),=A2*2,x\n")?;
+    let mut sheet = Sheet::new(alloc, &grid)?;
+    assert!(rt; sheet.value(1, 3) == Value::Number(3));
+    assert!(rt; sheet.value(2, 1) == Value::Number(6));
+    assert!(rt; sheet.value(2, 2) == Value::Number(12));
+    assert!(rt; sheet.value(2, 3) == Value::Text);
+    grid.set(1, 1, Bytes::from_slice(alloc, b"5")?)?;
+    let changed = sheet.set(&grid, 1, 1)?;
+    assert!(rt; changed.as_slice() == [(1, 1), (1, 3), (2, 1), (2, 2)].as_slice());
+    assert!(rt; sheet.value(1, 3) == Value::Number(7));
+    assert!(rt; sheet.value(2, 1) == Value::Number(14));
+    assert!(rt; sheet.value(2, 2) == Value::Number(28));
+    Ok(())
+}
+
+#[test]
 fn the_text_of_a_sheet_has_its_values(rt: HostRuntime) -> Result<(), Fail> {
     let alloc = rt.alloc();
     let numbers = sheet_of(alloc, "1,2,=A1+B1\n=SUM(A1:C1),=A2*2,x\n")?;
