@@ -12,7 +12,7 @@ mod stopping;
 
 use crate::making::{Streams, world};
 use crate::stopping::{stop_path, wake_path};
-use outside::{StdSink, StdSource};
+use adapters::{StdSink, StdSource};
 use std::alloc::Global;
 use std::env::{self, Args, Env};
 use std::io::{self, ErrorKind};

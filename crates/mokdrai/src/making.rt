@@ -5,7 +5,7 @@ ghost use Rattle.wopi_program.specs.Asking.{IsEditAt, IsOnceOver, IsServeOver};
 
 use crate::sharing::{SharedListener, bind, close_later, share};
 use crate::stopping::{StopListener, until_stopped};
-use outside::{DirFolder, SystemClock, TcpDialer, TcpListen};
+use adapters::{DirFolder, SystemClock, TcpDialer, TcpListen};
 use std::alloc::Global;
 use std::fs::{File, Files};
 use std::net::{Net, TcpListener, TcpStream};

@@ -7,7 +7,8 @@ ghost use Rattle.std.specs.List.{AllByRecursion};
 ghost use Rattle.mokdrai.specs.Stopping.{PassesOnShared, TakesBack};
 
 use crate::stopping::CloseAll;
-use outside::{Accepted, Listener, OutFault, TcpListen};
+use adapters::TcpListen;
+use outside::{Accepted, Listener, OutFault};
 use std::alloc::Global;
 use std::fs::{File, Files};
 use std::io::{self, Read};

@@ -1,14 +1,17 @@
 ghost use Rattle.std.specs.Prelude.{◌≡◌, length, IfOk};
 ghost use Rattle.outside.specs.MemListener.{put_back};
 
+mod failing_files;
+mod folders;
 mod real;
+mod sockets;
 
 use crate::sharing::{SharedListener, SharedSocket, bind, close_at_byte, close_later, share};
 use crate::stopping::{StopListener, no_path, until_stopped};
 use crate::unread;
+use adapters::TcpListen;
 use outside::{
-    Accepted, Listener, MemListener, MemSink, MemSource, OutFault, Pair, TcpListen, read_link,
-    write_link,
+    Accepted, Listener, MemListener, MemSink, MemSource, OutFault, Pair, read_link, write_link,
 };
 use std::alloc::Global;
 use std::env::VarError;

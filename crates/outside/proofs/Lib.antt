@@ -3,4 +3,3 @@ pub mod Told
 pub mod Files
 pub mod Distinct
 pub mod Places
-pub mod Sorted

@@ -7,31 +7,26 @@
 //! answers `Failed` only where the count rose in this call.
 //!
 //! `memory` has a fake of each, which tells all that its trait leaves optional and fails at the
-//! calls that it was told to fail at. `standard`, `directory` and `network` have the real things,
-//! which tell nothing of content. `read_link`, `read_piece`, `write_link` and `write_whole` are what
-//! the crates above read and write by. `ask_link` sends a request, all of it before it reads, and reads
-//! its reply no further than to the end that a `ReplyEnd` tells.
+//! calls that it was told to fail at. The real things stand in the crate `adapters`. `read_link`,
+//! `read_piece`, `write_link` and `write_whole` are what the crates above read and write by. `ask_link`
+//! sends a request, all of it before it reads, and reads its reply no further than to the end that a
+//! `ReplyEnd` tells.
 #![tactic(auto)]
 
 mod asking;
 mod clock;
 mod dialer;
-mod directory;
 mod faults;
 mod folder;
 mod link;
 mod listener;
 mod memory;
 mod names;
-mod network;
-mod reading;
-mod standard;
 mod transfer;
 
 pub use asking::{AskFault, ReplyEnd, ask_link};
 pub use clock::Clock;
 pub use dialer::{Dialer, Exchange};
-pub use directory::DirFolder;
 pub use faults::{Failed, OutFault};
 pub use folder::{Folder, FolderRead};
 pub use link::{Link, Sink, Source};
@@ -40,6 +35,4 @@ pub use memory::{
     Failing, Lent, MemFolder, MemListener, MemSink, MemSource, Pair, ScriptClock, ScriptDialer,
 };
 pub use names::Names;
-pub use network::{TcpDialer, TcpLink, TcpListen};
-pub use standard::{StdSink, StdSource, SystemClock};
 pub use transfer::{piece_room, read_link, read_piece, write_link, write_whole};

@@ -1,4 +1,1 @@
-mod adapters;
 mod asking;
-mod files;
-mod stopping;

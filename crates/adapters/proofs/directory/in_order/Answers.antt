@@ -1,8 +1,8 @@
 use Rattle.std.proofs.Common.{◌≡◌, true, [], ◌++◌, map, string_bytes, sym, ap, ◌∙◌, subst, append-nil}
 use Rattle.std.proofs.lemmas.Map.Iter.{rest_all}
 use Rattle.outside.specs.Folder.{all_differ}
-use Rattle.outside.proofs.Sorted.{sorted_names_differ}
-use Rattle.outside.proofs.directory.in_order.Goals as goal
+use Rattle.adapters.proofs.Sorted.{sorted_names_differ}
+use Rattle.adapters.proofs.directory.in_order.Goals as goal
 
 pub returns : goal.returns
 returns c =

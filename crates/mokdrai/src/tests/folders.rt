@@ -1,5 +1,7 @@
-use super::stopping::Stopping;
-use outside::{DirFolder, Folder, FolderRead, Names, OutFault};
+//! A real folder, and one over a file system that fails.
+use super::failing_files::Stopping;
+use adapters::DirFolder;
+use outside::{Folder, FolderRead, Names, OutFault};
 use std::cell::Cell;
 use std::os::unix::fs::{PermissionsExt, symlink};
 use std::test::Fail;

@@ -1,5 +1,5 @@
 use Rattle.std.proofs.Common.{◌≡◌, ◌++◌, map, string_bytes}
-use Rattle.outside.proofs.directory.in_order.Given as goal
+use Rattle.adapters.proofs.directory.in_order.Given as goal
 
 -- the names so far, and those that are left, are all
 abbrev pub invariant-loop-name : goal.invariant-loop-name

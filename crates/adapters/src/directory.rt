@@ -4,7 +4,7 @@ ghost use Rattle.outside.specs.Faults.{Rose};
 ghost use Rattle.outside.specs.Folder.{all_differ};
 
 use crate::reading::read_up_to;
-use crate::{Failed, Folder, FolderRead, Names, OutFault};
+use outside::{Failed, Folder, FolderRead, Names, OutFault};
 use std::alloc::Global;
 use std::collections::BTreeSet;
 use std::fs::{self, File, Metadata, OpenFile, OpenOptions};

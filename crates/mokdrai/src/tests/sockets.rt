@@ -1,10 +1,9 @@
-ghost use Rattle.std.specs.Prelude.{◌≡◌};
+//! The standard streams, the system's clock, and connections over TCP.
+ghost use Rattle.std.specs.Prelude.{◌≡◌, ◌≤◌, length};
 
-use super::asking::Counted;
+use adapters::{StdSink, StdSource, SystemClock, TcpDialer, TcpListen};
 use outside::{
-    Accepted, Clock, Dialer, DirFolder, Listener, MemFolder, MemListener, MemSink, MemSource,
-    OutFault, Pair, ScriptClock, Sink, Source, StdSink, StdSource, SystemClock, TcpDialer,
-    TcpListen, read_link, write_link,
+    Accepted, Clock, Dialer, Listener, OutFault, ReplyEnd, Sink, Source, read_link, write_link,
 };
 use std::cell::Cell;
 use std::io::{self, ErrorKind};
@@ -13,6 +12,21 @@ use std::sync::Arc;
 use std::test::Fail;
 use std::thread::join;
 use std::time::{self, Duration};
+use wopi_text::Memory;
+
+// A reply of this many bytes.
+#[derive(Drop)]
+struct Counted {
+    count: usize,
+}
+
+impl ReplyEnd for Counted {
+    ghost whole = { λ c bytes. c.count ≤ length bytes };
+
+    fn is_whole(&self, bytes: &[u8]) -> Result<bool, Memory> {
+        Ok(self.count <= bytes.len())
+    }
+}
 
 #[test]
 fn the_standard_streams_read_and_write(rt: HostRuntime) {

@@ -1,5 +1,5 @@
 use Rattle.std.proofs.Common.{◌+◌, ◌-◌, ◌≤◌, length}
-use Rattle.outside.proofs.reading.read_up_to.Given as goal
+use Rattle.adapters.proofs.reading.read_up_to.Given as goal
 
 abbrev pub invariant-loop-filled : goal.invariant-loop-filled
 invariant-loop-filled g l = l.filled ≤ length l.bytes.items
