@@ -4,3 +4,4 @@ pub mod Joining
 pub mod Living
 pub mod Sourcing
 pub mod Saying
+pub mod Reopening

@@ -2,3 +2,4 @@ pub mod Messages
 pub mod Hearing
 pub mod Crossing
 pub mod Sources
+pub mod Restarts

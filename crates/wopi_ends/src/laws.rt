@@ -1,6 +1,6 @@
 //! What holds of both ends, as contracts of functions that do nothing.
 ghost use Rattle.std.specs.List.{AllByRecursion};
-ghost use Rattle.std.specs.Prelude.{◌≡◌, ◌++◌, ◌<◌, ◌≤◌, ℕ, Bool, List, length, map, Option, Result};
+ghost use Rattle.std.specs.Prelude.{◌≡◌, ◌++◌, ◌∷◌, ◌<◌, ◌≤◌, ℕ, Bool, List, length, map, Option, Result};
 ghost use Rattle.outside.specs.declared.dialer.Exchange.{Exchange};
 ghost use Rattle.wopi_http.specs.Limits.{body_limit};
 ghost use Rattle.wopi_http.specs.Replies.{phrase_of};
@@ -31,12 +31,14 @@ ghost use Rattle.host_server.specs.Turns.{Turn, IsTurn};
 ghost use Rattle.wopi_model.specs.Host.{LegalHost, part_of, opening_of};
 ghost use Rattle.wopi_model.specs.Shard as shard;
 ghost use Rattle.wopi_model.specs.Shard.{Opening, Entry, Legal, opened_shard};
-ghost use Rattle.wopi_world.specs.History.{Item, Ran};
+ghost use Rattle.wopi_world.specs.History.{Item, Ran, Along, IsAllowed};
 ghost use Rattle.wopi_world.specs.Requests.{Client, Sent, body};
-ghost use Rattle.wopi_world.specs.Talks.{Speaker, IsNoReply, LooksSame, IsTalkOver, IsSafeFor, first_speaker, told_by};
+ghost use Rattle.wopi_world.specs.Safe.{KeepsAll, TellsAll};
+ghost use Rattle.wopi_world.specs.Talks.{Speaker, IsNoReply, LooksSame, IsTalkOver, RestartsLater, IsSafeFor, first_speaker, told_by};
 ghost use Rattle.wopi_ends.specs.Crossing.{AreExchangedOver};
 ghost use Rattle.wopi_ends.specs.Hearing.{Spoken, Ending, behind_all, Hears, IsReplyHeard, IsTalkHeard, IsDriveHeard, IsEditorOf, IsScriptHeard};
 ghost use Rattle.wopi_ends.specs.Messages.{IsAt, ask_of, bytes_of, IsOwnTurn};
+ghost use Rattle.wopi_ends.specs.Restarts.{Journal, IsLegal, OpenInTurn, start_in, history_over};
 ghost use Rattle.wopi_ends.specs.Sources.{IsOfMessage};
 
 use access_tokens::laws::a_text_has_one_reading;
@@ -134,4 +136,24 @@ pub fn both_ends_are_safe()
 {
     own_messages_make_own_entries();
     talks_over_journals_are_safe();
+}
+
+/// All this holds over restarts of the host too, whatever version each begins with: the next one, or one
+/// above it, as an operator gives who leaves some out. It holds of each history of a shard whose rulings
+/// are outcomes of their steps and whose restarts are later than all before: contents change and
+/// conflicts are told as in one run, and a restart changes none; and a talk over it is safe. So it holds
+/// of the journals of hosts that had a folder one after another, of which each opened later than all
+/// that happened before, over the contents that the one before had left.
+pub fn restarts_begin_at_any_version()
+    ensures items { (opening : Opening) (opened first : ℕ) (history : List Item) → Along IsAllowed (opened_shard opening opened first) history →
+        Along KeepsAll (opened_shard opening opened first) history × Along TellsAll (opened_shard opening opened first) history }
+    ensures talk { (opening : Opening) (opened first : ℕ) (client : Client) (heard : List Input) (history : List Item) →
+        Along IsAllowed (opened_shard opening opened first) history → RestartsLater client history → IsTalkOver client heard history →
+        IsSafeFor client (told_by client heard) (opened_shard opening opened first) history }
+    ensures journals { (desktop : Desktop) (client : Client) (ending : Ending) (spoken : List Spoken) (heard : List Input) (journal : Journal) (later : List Journal) (shard : ℕ) →
+        shard < 16 → AllByRecursion IsLegal (journal ∷ later) → OpenInTurn shard journal later → RestartsLater client (history_over shard journal later) →
+        Hears desktop client ending first_speaker spoken heard → AreExchangedOver desktop client spoken (history_over shard journal later) →
+        IsSafeFor client (told_by client heard) (start_in shard journal) (history_over shard journal later) }
+{
+    both_ends_are_safe();
 }
