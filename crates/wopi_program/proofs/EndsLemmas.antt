@@ -1,6 +1,7 @@
 -- An `edit` and the `serve` or `once` that it speaks with, from the laws of both ends.
-use Rattle.std.proofs.Common.{◌≡◌, ℕ, ◌<◌, List, map, refl, sym, subst, ◌∙◌, arith}
+use Rattle.std.proofs.Common.{◌≡◌, ℕ, ◌<◌, List, [], ◌∷◌, map, refl, sym, subst, ◌∙◌, arith}
 use Rattle.std.proofs.lemmas.Nat.{mod_below}
+use Rattle.std.specs.List.{AllByRecursion}
 use Rattle.std.specs.Prelude.{sum}
 use Rattle.wopi_text.specs.FileName.{shard_of}
 use Rattle.wopi_model.specs.Shard.{Opening, Entry, opened_shard}
@@ -16,14 +17,23 @@ use Rattle.wopi_world.specs.Requests.{Client}
 use Rattle.wopi_world.specs.Talks.{IsSafeFor, first_speaker, told_by}
 use Rattle.wopi_ends.specs.Crossing.{AreExchangedOver}
 use Rattle.wopi_ends.specs.Hearing.{Spoken, Ending, Hears, IsEditorOf}
-use Rattle.wopi_program.specs.BothEnds.{history_at, start_at}
+use Rattle.wopi_ends.specs.Restarts.{IsLegal}
+use Rattle.wopi_program.specs.BothEnds.{WasServed, history_at, journal_of, start_at}
 use Rattle.wopi_program.specs.Edit.{EditRow, IsNewEditor}
+use Rattle.wopi_program.specs.Meanings.{Meanings}
 
-shard_below : (name : List ℕ) → shard_of name < 16
+pub shard_below : (name : List ℕ) → shard_of name < 16
 shard_below name = mod_below (sum name) 16 (omega arith)
 
 pub editor_of : (row : EditRow) (client : Client) (first : Editor) → row.nonce ≡ client.nonce → IsNewEditor first row → IsEditorOf (desktop_of first) client first_speaker first
 editor_of row client first nonce new = record { desktop_is = refl; nonce = new.nonce_is ∙ nonce; state = sym new.session_is }
+
+-- a host's journal is legal
+pub journal_legal : {F : Type 0} → (journal : JournalView F) (opened first : ℕ) → journal.opened ≡ opened → journal.first ≡ first →
+    LegalHost (openings journal.parts) opened first (steps_of journal.merge) → IsLegal (journal_of journal)
+journal_legal journal opened first opened_is first_is legal =
+    subst (λ (n : ℕ). LegalHost (openings journal.parts) n journal.first (steps_of journal.merge)) (sym opened_is)
+    (subst (λ (n : ℕ). LegalHost (openings journal.parts) opened n (steps_of journal.merge)) (sym first_is) legal)
 
 -- what the law of both ends says of each shard's part of a journal
 abbrev HostLaw : Type 0
@@ -38,6 +48,10 @@ pub at_serve : {F : Type 0} → HostLaw → (journal : JournalView F) (opened fi
     IsSafeFor client (told_by client heard) (start_at journal client) (history_at journal client)
 at_serve law journal opened first opened_is first_is legal desktop client ending spoken heard hears crosses =
     law desktop client ending spoken heard (openings journal.parts) journal.opened journal.first (steps_of journal.merge) (shard_of client.token.file) (shard_below client.token.file)
-    (subst (λ (n : ℕ). LegalHost (openings journal.parts) n journal.first (steps_of journal.merge)) (sym opened_is)
-    (subst (λ (n : ℕ). LegalHost (openings journal.parts) opened n (steps_of journal.merge)) (sym first_is) legal))
-    hears crosses
+    (journal_legal journal opened first opened_is first_is legal) hears crosses
+
+module _ {S K F N D C L : Type 0} (m : Meanings S K F N D C L) where
+  pub all_legal : (journals : List (JournalView F)) → AllByRecursion (WasServed m) journals → AllByRecursion IsLegal (map journal_of journals)
+  all_legal [] served = tt
+  all_legal (journal ∷ journals) ((keys, base, ask, ends, old, new, one), served) =
+      (journal_legal journal one.desk.opened ask.first one.journal_is.opened_is one.journal_is.first_is one.journal_is.legal, all_legal journals served)

@@ -6,14 +6,20 @@ use Rattle.wopi_text.specs.FileName.{shard_of}
 use Rattle.wopi_model.specs.Shard.{Shard, Step, Entry, opened_shard}
 use Rattle.wopi_model.specs.Host.{part_of, opening_of}
 use Rattle.host_core.specs.Times.{steps_of}
+use Rattle.access_tokens.specs.declared.keys.Keys.{Keys}
 use Rattle.host_server.specs.declared.desk.Desk.{Desk}
+use Rattle.host_server.specs.declared.working.WorkEnd.{WorkEnd}
 use Rattle.host_server.specs.Deeds.{Deed, made}
 use Rattle.host_server.specs.Visits.{Visit}
 use Rattle.host_table.specs.Journal.{JournalView, openings}
 use Rattle.wopi_world.specs.History.{Item, Ran}
 use Rattle.wopi_world.specs.Requests.{Client}
+use Rattle.wopi_ends.specs.Restarts.{Journal, OpenInTurn, history_over}
 use Rattle.wopi_ends.specs.Sources.{IsOfMessage}
+use Rattle.wopi_program.specs.declared.outside_world.Outside.{Outside}
+use Rattle.wopi_program.specs.declared.serve_words.ServeAsk.{ServeAsk}
 use Rattle.wopi_program.specs.Meanings.{Meanings}
+use Rattle.wopi_program.specs.Serve.{HasServed}
 
 -- what a host's journal has of the shard of the client's file
 abbrev pub history_at : {F : Type 0} → JournalView F → Client → List Item
@@ -22,6 +28,24 @@ history_at journal client = map Ran (part_of (shard_of client.token.file) (steps
 -- that shard as the host opened it
 abbrev pub start_at : {F : Type 0} → JournalView F → Client → Shard
 start_at journal client = opened_shard (opening_of (shard_of client.token.file) (openings journal.parts)) journal.opened journal.first
+
+-- what a host's journal says
+abbrev pub journal_of : {F : Type 0} → JournalView F → Journal
+journal_of journal = record { opening = openings journal.parts; opened = journal.opened; first = journal.first; merge = steps_of journal.merge }
+
+-- a `serve` wrote this journal
+abbrev pub WasServed : {S K F N D C L : Type 0} → Meanings S K F N D C L → JournalView F → Type 0
+WasServed {S} {K} {F} {N} {D} {C} m journal =
+    (keys : Keys) × (base : List ℕ) × (ask : ServeAsk) × (ends : List WorkEnd) × (old : Outside S K F N D C) × (new : Outside S K F N D C)
+    × HasServed m keys base ask ends journal old new
+
+-- each of these hosts opened behind the one before, over the contents that it had left in the shard of the client's file
+abbrev pub OpenOverIt : {F : Type 0} → JournalView F → List (JournalView F) → Client → Type 0
+OpenOverIt journal later client = OpenInTurn (shard_of client.token.file) (journal_of journal) (map journal_of later)
+
+-- what their journals have of that shard, with a restart between two of them
+abbrev pub history_through : {F : Type 0} → JournalView F → List (JournalView F) → Client → List Item
+history_through journal later client = history_over (shard_of client.token.file) (journal_of journal) (map journal_of later)
 
 -- what was done on a host's only connection
 abbrev pub history_by : List Deed → List Item

@@ -1,6 +1,6 @@
 //! What holds of two commands together, as contracts of functions that do nothing.
 ghost use Rattle.std.specs.List.{AllByRecursion};
-ghost use Rattle.std.specs.Prelude.{◌≡◌, ℕ, List};
+ghost use Rattle.std.specs.Prelude.{◌≡◌, ◌∷◌, ℕ, List};
 ghost use Rattle.access_tokens.specs.declared.keys.Keys.{Keys};
 ghost use Rattle.save_session.specs.declared.input.Input.{Input};
 ghost use Rattle.wopi_client.specs.declared.desktop.Desktop.{Desktop};
@@ -10,18 +10,20 @@ ghost use Rattle.host_server.specs.declared.working.WorkEnd.{WorkEnd};
 ghost use Rattle.host_table.specs.Journal.{JournalView};
 ghost use Rattle.wopi_model.specs.Shard.{opened_shard};
 ghost use Rattle.wopi_world.specs.Requests.{Client};
-ghost use Rattle.wopi_world.specs.Talks.{IsSafeFor, first_speaker, told_by};
+ghost use Rattle.wopi_world.specs.Talks.{IsSafeFor, RestartsLater, first_speaker, told_by};
 ghost use Rattle.wopi_ends.specs.Crossing.{AreExchangedOver};
 ghost use Rattle.wopi_ends.specs.Hearing.{Spoken, Ending, Hears, IsScriptHeard};
 ghost use Rattle.wopi_program.specs.declared.outside_world.Outside.{Outside};
 ghost use Rattle.wopi_program.specs.declared.serve_words.ServeAsk.{ServeAsk};
 ghost use Rattle.wopi_program.specs.Meanings.{Meanings};
-ghost use Rattle.wopi_program.specs.BothEnds.{CameOnLink, history_at, start_at, history_by};
+ghost use Rattle.wopi_program.specs.BothEnds.{CameOnLink, OpenOverIt, WasServed, history_at, history_by, history_through, start_at};
 ghost use Rattle.wopi_program.specs.Edit.{EditRan, IsRun};
 ghost use Rattle.wopi_program.specs.Once.{OpensAndServes};
 ghost use Rattle.wopi_program.specs.Serve.{HasServed};
 
-use wopi_ends::laws::{a_script_is_heard, both_ends_are_safe, entries_come_of_messages};
+use wopi_ends::laws::{
+    a_script_is_heard, both_ends_are_safe, entries_come_of_messages, restarts_begin_at_any_version,
+};
 
 /// An `edit` that ran its script, and the `serve` that it spoke with. The editor's session heard what
 /// was read of the replies, and each command's line tells what the session told of its exchanges.
@@ -54,6 +56,20 @@ pub fn exchanges_with_a_serve_are_safe<S, K, F, N, D, C, L>()
         IsSafeFor client (told_by client heard) (start_at journal client) (history_at journal client) }
 {
     both_ends_are_safe();
+}
+
+/// The same over the journals of hosts that had a folder one after another, whatever version each began
+/// with. Each opened later than all that happened in the shard before, over the contents that the one
+/// before had left there; and where anything was accepted under the session's token before a restart, it
+/// was issued before that restart.
+pub fn exchanges_over_restarts_are_safe<S, K, F, N, D, C, L>()
+    ensures { (m : Meanings S K F N D C L) (journal : JournalView F) (later : List (JournalView F)) (desktop : Desktop) (client : Client) (ending : Ending) (spoken : List Spoken)
+        (heard : List Input) → AllByRecursion (WasServed m) (journal ∷ later) → OpenOverIt journal later client → RestartsLater client (history_through journal later client) →
+        Hears desktop client ending first_speaker spoken heard →
+        AreExchangedOver desktop client spoken (history_through journal later client) →
+        IsSafeFor client (told_by client heard) (start_at journal client) (history_through journal later client) }
+{
+    restarts_begin_at_any_version();
 }
 
 /// The same of a client's exchanges with a `once`.
