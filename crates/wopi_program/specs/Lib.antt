@@ -25,3 +25,4 @@ pub mod ContentsWords
 pub mod Contents
 pub mod Asking
 pub mod BothEnds
+pub mod LegalJournals

@@ -1,6 +1,6 @@
 //! What holds of two commands together, as contracts of functions that do nothing.
 ghost use Rattle.std.specs.List.{AllByRecursion};
-ghost use Rattle.std.specs.Prelude.{◌≡◌, ◌∷◌, ℕ, List};
+ghost use Rattle.std.specs.Prelude.{◌≡◌, ◌⊎◌, ◌∷◌, ◌++◌, ℕ, List, Some, length};
 ghost use Rattle.access_tokens.specs.declared.keys.Keys.{Keys};
 ghost use Rattle.save_session.specs.declared.input.Input.{Input};
 ghost use Rattle.wopi_client.specs.declared.desktop.Desktop.{Desktop};
@@ -8,6 +8,9 @@ ghost use Rattle.grid_editor.specs.Views.{desktop_of};
 ghost use Rattle.host_server.specs.declared.connection.ConnEnd.{ConnEnd};
 ghost use Rattle.host_server.specs.declared.working.WorkEnd.{WorkEnd};
 ghost use Rattle.host_table.specs.Journal.{JournalView};
+ghost use Rattle.journal_text.specs.declared.text.JournalText.{JournalText};
+ghost use Rattle.journal_text.specs.Told.{told_by as text_told_by};
+ghost use Rattle.journal_audit.specs.Lines.{LegalText};
 ghost use Rattle.wopi_model.specs.Shard.{opened_shard};
 ghost use Rattle.wopi_world.specs.Requests.{Client};
 ghost use Rattle.wopi_world.specs.Talks.{IsSafeFor, RestartsLater, first_speaker, told_by};
@@ -16,11 +19,17 @@ ghost use Rattle.wopi_ends.specs.Hearing.{Spoken, Ending, Hears, IsScriptHeard};
 ghost use Rattle.wopi_program.specs.declared.outside_world.Outside.{Outside};
 ghost use Rattle.wopi_program.specs.declared.serve_words.ServeAsk.{ServeAsk};
 ghost use Rattle.wopi_program.specs.Meanings.{Meanings};
+ghost use Rattle.wopi_program.specs.Audit.{AuditEnds};
 ghost use Rattle.wopi_program.specs.BothEnds.{CameOnLink, OpenOverIt, WasServed, history_at, history_by, history_through, start_at};
 ghost use Rattle.wopi_program.specs.Edit.{EditRan, IsRun};
+ghost use Rattle.wopi_program.specs.LegalJournals.{CallsLegal, IsLegalJournal};
 ghost use Rattle.wopi_program.specs.Once.{OpensAndServes};
 ghost use Rattle.wopi_program.specs.Serve.{HasServed};
+ghost use Rattle.wopi_program.specs.ServeEnds.{ServeEnds};
 
+use journal_audit::laws::{a_bad_line_is_the_first, legal_lines_tell_entries};
+use journal_text::laws::{a_host_s_journal_is_read, a_journal_has_one_reading};
+use outside::Folder;
 use wopi_ends::laws::{
     a_script_is_heard, both_ends_are_safe, entries_come_of_messages, restarts_begin_at_any_version,
 };
@@ -91,4 +100,29 @@ pub fn entries_of_a_serve_come_of_messages<S, K, F, N, D, C, L>()
         (served : HasServed m keys base ask ends journal old new) → AllByRecursion (λ one. CameOnLink m served.desk served.visits one.step) journal.merge }
 {
     entries_come_of_messages();
+}
+
+/// What `serve` writes is a legal journal: each line is one that a host may write behind the lines before
+/// it. So it is of what its workers did, and of the bytes by which its output grew at status 0, and at 10,
+/// where a listener failed. A run has sixteen folders.
+pub fn journals_of_a_serve_are_legal<S, K, F: Folder, N, D, C, L>()
+    ensures served { (m : Meanings S K F N D C L) (keys : Keys) (base : List ℕ) (ask : ServeAsk) (ends : List WorkEnd) (journal : JournalView F) (old new : Outside S K F N D C) →
+        length old.folders.items ≡ 16 → HasServed m keys base ask ends journal old new → LegalText (text_told_by journal) }
+    ensures written { (m : Meanings S K F N D C L) (words : List (List ℕ)) (status : ℕ) (old new : Outside S K F N D C) (before : List ℕ) → length old.folders.items ≡ 16 →
+        ServeEnds m words status old new → (status ≡ 0) ⊎ (status ≡ 10) → m.held old.output ≡ Some before →
+        (bytes : List ℕ) × (text : JournalText) × (m.held new.output ≡ Some (before ++ bytes)) × IsLegalJournal bytes text }
+{
+    legal_lines_tell_entries();
+    a_host_s_journal_is_read::<F>();
+}
+
+/// A run of `audit` whose input is a legal journal calls it legal: it tells so at status 0, and it never
+/// ends with 7 or 14. What else may end it is a fault of reading or writing, want of memory, or that the
+/// journal is too long.
+pub fn legal_journals_pass_the_audit<S, K, F, N, D, C, L>()
+    ensures { (m : Meanings S K F N D C L) (bytes : List ℕ) (text : JournalText) (status : ℕ) (old new : Outside S K F N D C) → IsLegalJournal bytes text →
+        m.left old.input ≡ Some bytes → AuditEnds m status old new → CallsLegal m text status old new }
+{
+    a_journal_has_one_reading();
+    a_bad_line_is_the_first();
 }
