@@ -10,11 +10,14 @@ and brings one request once more after the lock has gone over to the next id. Be
 lock with an id of their own. Then the exchanges and the journal are looked at alone:
 
 - each premise of the law (docs/PROVED.md): every entry that presents one of the session's ids came of a request that
-  had gone out before; every reply of 200 or 409 that was taken has the status, lock, reason, version and (but for
-  CheckFileInfo) body of what the host says of such an entry; and there is an order of both that is true of time;
+  had gone out before; the token of each request is one under the host's key, for the file; every reply of 200 or 409
+  that was taken has the status, lock, reason, version and (but for CheckFileInfo) body of what the host says of such an
+  entry; and there is an order of both that is true of time;
 - what the law then says: the lines `saved` of the script are those of the replies that were taken of a Put and are 200,
   one for each, in their order; each has its accepted entry, with the contents that its Put carried and the version that
-  was told; and these contents are replaced by nothing but a later save of the session.
+  was told; these contents are replaced by nothing but a later save of the session; each save replaces what the save
+  before it left, or what the session read when it opened; and behind the end of its lock none is accepted;
+- that `audit` calls the journal legal, as it does each that `serve` wrote whole.
 
 It writes the exchanges, the entries and what was found, and ends with status 0 where all holds. It is no part of the
 gate.
@@ -54,9 +57,13 @@ def now():
     return time.time_ns() // 1_000_000
 
 
+def code_of(text):
+    return hmac.new(bytes.fromhex(KEY), text.encode(), hashlib.sha256).hexdigest()
+
+
 def token(user, serial, issued):
     text = f"v2.0.{user}.{ID}.w.{serial}.{issued}.253402300799999"
-    return f"{text}.{hmac.new(bytes.fromhex(KEY), text.encode(), hashlib.sha256).hexdigest()}"
+    return f"{text}.{code_of(text)}"
 
 
 def own_id(number):
@@ -324,11 +331,20 @@ def presents_own(entry):
     return entry.file == ID and any(is_own_id(word) for word in entry.act.split(" ")[1:])
 
 
+def token_in(request):
+    return parted(request)[0].partition("access_token=")[2].split(" ")[0]
+
+
+def is_at_host(request):
+    """Whether the request's token is one under the host's key, for the session's file."""
+    text, _, code = token_in(request).rpartition(".")
+    return code == code_of(text) and text.split(".")[3] == ID
+
+
 def makes(exchange, entry):
     """Whether a message of the exchange's request makes such an entry."""
     act, body = exchange.asked
-    text = parted(exchange.request)[0].partition("access_token=")[2].split(" ")[0]
-    user, file, rights, serial, issued, expires = text.split(".")[2:8]
+    user, file, rights, serial, issued, expires = token_in(exchange.request).split(".")[2:8]
     same_body = entry.act.split(" ")[0] != "put" or entry.status != "200" or bytes.fromhex(entry.contents.replace("-", "")) == body
     return entry.file == ID and entry.act == act and entry.token == f"{user}.{file}.{rights}.{serial}.{issued}.{expires}" and same_body
 
@@ -350,6 +366,7 @@ def order_of(exchanges, entries, contents):
         at += 1
 
     for i, exchange in enumerate(exchanges):
+        must(is_at_host(exchange.request), f"the token of request {i + 1} is none at this host")
         out.append(i)
         order.append(f"    sends    {exchange.asked[0]} (request {i + 1})")
         if exchange.reply is None:
@@ -371,6 +388,19 @@ def order_of(exchanges, entries, contents):
 # what the law says
 
 
+def check_order(exchanges, accepted, entries, contents):
+    """Each accepted save replaces what the one before it left, the first one what was read at the opening; and none is
+    accepted behind an accepted Unlock. (In this run no lock expires.)"""
+    opened = next(parted(exchange.reply)[2] for exchange in exchanges
+                  if exchange.asked[0].startswith("get") and exchange.reply and parted(exchange.reply)[0].split(" ")[1] == "200")
+    left = opened
+    for number, place in accepted:
+        must(contents[place] == left, f"the save under id {number} replaces what the session hasn't seen")
+        left = contents[place + 1]
+    ends = [place for place, entry in enumerate(entries) if presents_own(entry) and entry.act.startswith("unlock ") and entry.status == "200"]
+    must(all(place < end for end in ends for _, place in accepted), "a save is accepted behind the end of its lock")
+
+
 def check_saves(exchanges, written, entries, contents):
     """Each line `saved` is that of a reply to a Put, and has its accepted entry with what that Put carried, which is
     replaced only by a later save of the session."""
@@ -381,6 +411,7 @@ def check_saves(exchanges, written, entries, contents):
     accepted = [(int(bytes.fromhex(entry.act.split(" ")[1]).decode().rpartition("-")[2]), place)
                 for place, entry in enumerate(entries) if presents_own(entry) and entry.act.startswith("put ") and entry.status == "200"]
     must([number for number, _ in accepted] == sorted(number for number, _ in accepted), "a save is accepted behind a later one")
+    check_order(exchanges, accepted, entries, contents)
     for version, carried in puts:
         number, place = next(((number, place) for number, place in accepted if entries[place].version == version), (None, None))
         must(place is not None, f"{version} was told as saved and never accepted")
@@ -390,6 +421,13 @@ def check_saves(exchanges, written, entries, contents):
                 must(any(n > number and p == later for n, p in accepted), f"{version} was replaced by {entries[later]}")
                 break
     return saved
+
+
+def check_audit(program, journal):
+    """What `audit` says of a journal that `serve` wrote whole: that it is legal, and how many entries it has."""
+    entries = journal.splitlines()[-1].removeprefix("end ")
+    said = subprocess.run([program, "audit"], input=journal.encode(), capture_output=True, timeout=120)
+    must(said.returncode == 0 and said.stdout.decode() == f"legal {entries}\n", f"audit ended with {said.returncode}: {said.stdout} {said.stderr}")
 
 
 def main():
@@ -402,6 +440,7 @@ def main():
         print("written by edit:", *(f"    {line}" for line in written.splitlines()), sep="\n")
         print("in an order that is true of time:", *order_of(exchanges, entries, contents), sep="\n")
         saved = check_saves(exchanges, written, entries, contents)
+        check_audit(program, journal)
         print(f"premises hold; {len(saved)} saves were told, each accepted and replaced only by a later one")
         return 0
     except Wrong as wrong:
