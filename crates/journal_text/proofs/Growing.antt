@@ -7,12 +7,11 @@ use Rattle.journal_text.specs.declared.text.Format.{Format}
 use Rattle.journal_text.specs.declared.text.Line.{Line}
 use Rattle.journal_text.specs.declared.text.JournalText.{JournalText}
 use Rattle.journal_text.specs.declared.reading.Reader.{Reader}
-use Rattle.journal_text.specs.declared.journal.Step.TheVariants.{On}
 use Rattle.journal_text.specs.Lines.{IsFile, IsLine}
 use Rattle.journal_text.specs.Words.{file_words, first_words, line_words, words_of}
 use Rattle.journal_text.specs.Journals.{AreFiles, AreTimed, IsAfter, IsTimed, file_text, first_text, line_text, most_entries}
 use Rattle.journal_text.specs.Reader.{Adds, IsReader, TakesFile, TakesLine, begun_text, last_name, time_of, with_file, with_line}
-use Rattle.journal_text.specs.SoFar.{Goes, IsSoFar, Stands, Steps, one_more}
+use Rattle.journal_text.specs.SoFar.{Goes, IsSoFar, one_more}
 use Rattle.journal_text.proofs.Clocks.{HasTimes-more, timed_line}
 use Rattle.journal_text.proofs.Fronts.{Row, begun, file_taken, line_taken, no_items}
 use Rattle.journal_text.proofs.Rows.{row_of_words}
@@ -146,7 +145,7 @@ line_more bytes rest row behind form text n line cut so words few =
     }
 
 -- one line further
-record Further (bytes behind : List ℕ) (new : Reader) (next : JournalText) (n : ℕ) : Type 0 where
+pub record Further (bytes behind : List ℕ) (new : Reader) (next : JournalText) (n : ℕ) : Type 0 where
   pub reader_is : IsReader new next
   pub so : IsSoFar bytes behind new.form next n
 
@@ -174,19 +173,12 @@ further_line bytes rest row behind old new text n line cut h so takes =
           (line_more bytes rest row behind old.form text n line cut so takes.said (omega (arith, entries, few)));
     }
 
-further : (bytes rest row behind : List ℕ) (old new : Reader) (text next : JournalText) (n : ℕ) → Row rest row behind → IsReader old text → IsSoFar bytes rest old.form text n
+pub further : (bytes rest row behind : List ℕ) (old new : Reader) (text next : JournalText) (n : ℕ) → Row rest row behind → IsReader old text → IsSoFar bytes rest old.form text n
     → Adds (words_of row) old text new next → Further bytes behind new next (suc n)
 further bytes rest row behind old new text next n cut h so (inl (file, takes, is)) =
     subst (λ (t : JournalText). Further bytes behind new t (suc n)) (sym is) (further_file bytes rest row behind old new text n file cut h so takes)
 further bytes rest row behind old new text next n cut h so (inr (line, takes, is)) =
     subst (λ (t : JournalText). Further bytes behind new t (suc n)) (sym is) (further_line bytes rest row behind old new text n line cut h so takes)
-
-pub on_more : {R : Type 0} (keeps : R → List File → List Line → Type 0) (bytes rest row behind : List ℕ) (old new : Reader) (keeper keeper' : R) (n : ℕ) → Row rest row behind
-    → Stands keeps bytes rest old keeper n → Steps keeps (words_of row) old keeper On new keeper' → Stands keeps bytes behind new keeper' (suc n)
-on_more keeps bytes rest row behind old new keeper keeper' n cut stands steps =
-    let next = steps stands.text stands.kept in
-    let more = further bytes rest row behind old new stands.text next.0 n cut stands.reader_is stands.so next.2 in
-    record { text = next.0; kept = next.1; reader_is = more.reader_is; so = more.so }
 
 pub so_begun : (bytes row behind : List ℕ) (form : Format) (opened first : ℕ) → Row bytes row behind → words_of row ≡ first_words form opened first
     → IsSoFar bytes behind form (begun_text opened first) 1

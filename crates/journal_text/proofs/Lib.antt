@@ -17,3 +17,4 @@ mod HostBounds
 mod HostTexts
 mod Uniqueness
 mod OneReading
+mod PieceLemmas

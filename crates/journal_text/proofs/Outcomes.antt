@@ -11,7 +11,7 @@ use Rattle.journal_text.specs.Lines.{IsOpening}
 use Rattle.journal_text.specs.Words.{IsRow, first_words, last_words, words_of}
 use Rattle.journal_text.specs.Journals.{BeginsWith, IsBadLine, IsReadingIn, IsWithin, body_rows, file_text, first_text, last_text, line_text, rows_of, text_of}
 use Rattle.journal_text.specs.Reader.{IsReader, IsUnfit, last_name}
-use Rattle.journal_text.specs.SoFar.{Begins, Goes, IsRead, IsSoFar, Stands, more, one_more}
+use Rattle.journal_text.specs.SoFar.{Begins, Goes, IsReadBy, IsSoFar, more, one_more}
 use Rattle.journal_text.proofs.Fronts.{Row, ended, missing, missing_first, not_begun, refused}
 use Rattle.journal_text.proofs.Rows.{row_of_words}
 
@@ -103,21 +103,17 @@ unfit_there words reader text h unfit =
     subst (λ (n : ℕ). IsUnfit words reader.form (last_name None text.files) n) h.entries
     (subst (λ (l : Option (List ℕ)). IsUnfit words reader.form l reader.entries) h.last unfit)
 
-module _ {R : Type 0} (keeps : R → List File → List Line → Type 0) where
-  pub bad_row : (bytes rest row behind : List ℕ) (reader : Reader) (keeper : R) (n : ℕ) → Row rest row behind → Stands keeps bytes rest reader keeper n
-      → IsUnfit (words_of row) reader.form reader.last reader.entries → IsBadLine bytes (suc n)
-  bad_row bytes rest row behind reader keeper n cut stands unfit =
-      let text = stands.text in
-      let h = stands.reader_is in
-      let there = unfit_there (words_of row) reader text h unfit in
-      bad_next bytes rest reader.form text n h.within stands.so
-      (λ other k goes. refused reader.form other (last_name None text.files) (length text.lines) k rest row behind cut there h.within.few goes)
+pub bad_row : (bytes rest row behind : List ℕ) (reader : Reader) (text : JournalText) (n : ℕ) → Row rest row behind → IsReader reader text
+    → IsSoFar bytes rest reader.form text n → IsUnfit (words_of row) reader.form reader.last reader.entries → IsBadLine bytes (suc n)
+bad_row bytes rest row behind reader text n cut h so unfit =
+    let there = unfit_there (words_of row) reader text h unfit in
+    bad_next bytes rest reader.form text n h.within so
+    (λ other k goes. refused reader.form other (last_name None text.files) (length text.lines) k rest row behind cut there h.within.few goes)
 
-  pub no_row_left : (bytes rest : List ℕ) (reader : Reader) (keeper : R) (n : ℕ) → IsRow rest → Stands keeps bytes rest reader keeper n → IsBadLine bytes (suc n)
-  no_row_left bytes rest reader keeper n none stands =
-      let text = stands.text in
-      let h = stands.reader_is in
-      bad_next bytes rest reader.form text n h.within stands.so (λ other k goes. missing reader.form other (last_name None text.files) (length text.lines) k rest none goes)
+pub no_row_left : (bytes rest : List ℕ) (reader : Reader) (text : JournalText) (n : ℕ) → IsRow rest → IsReader reader text → IsSoFar bytes rest reader.form text n
+    → IsBadLine bytes (suc n)
+no_row_left bytes rest reader text n none h so =
+    bad_next bytes rest reader.form text n h.within so (λ other k goes. missing reader.form other (last_name None text.files) (length text.lines) k rest none goes)
 
 last_there : (words : List (List ℕ)) (reader : Reader) (text : JournalText) → IsReader reader text → words ≡ last_words reader.form reader.entries
     → words ≡ last_words reader.form (length text.lines)
@@ -138,18 +134,12 @@ all_read_in bytes rest row behind form text n cut h so words none =
           ∙ ap (λ (l : List ℕ). first_text form text.opened text.first ++ l) (sym (body_text form 0 text.files text.lines)),
     )
 
-pub all_read : {R : Type 0} (keeps : R → List File → List Line → Type 0) (bytes rest row behind : List ℕ) (reader : Reader) (keeper : R) (n : ℕ) → Row rest row behind
-    → Stands keeps bytes rest reader keeper n → words_of row ≡ last_words reader.form reader.entries → behind ≡ [] → IsRead keeps bytes reader keeper
-all_read keeps bytes rest row behind reader keeper n cut stands words none =
-    let text = stands.text in
-    let h = stands.reader_is in
+pub all_read : (bytes rest row behind : List ℕ) (reader : Reader) (text : JournalText) (n : ℕ) → Row rest row behind → IsReader reader text
+    → IsSoFar bytes rest reader.form text n → words_of row ≡ last_words reader.form reader.entries → behind ≡ [] → IsReadBy bytes reader text
+all_read bytes rest row behind reader text n cut h so words none =
     record {
-      text = text;
-      kept = stands.kept;
-      read = record {
-        reader_is = h;
-        reading = all_read_in bytes rest row behind reader.form text n cut h.within stands.so (last_there (words_of row) reader text h words) none;
-      };
+      reader_is = h;
+      reading = all_read_in bytes rest row behind reader.form text n cut h.within so (last_there (words_of row) reader text h words) none;
     }
 
 last_begins : (form : Format) (before n : ℕ) (files : List File) (lines : List Line) (behind : List ℕ) → n ≡ length files + length lines
@@ -208,12 +198,10 @@ more_behind_in bytes rest row behind form text n cut h so words some =
           omega (arith, some, ap length none);
     }
 
-pub more_behind : {R : Type 0} (keeps : R → List File → List Line → Type 0) (bytes rest row behind : List ℕ) (reader : Reader) (keeper : R) (n : ℕ) → Row rest row behind
-    → Stands keeps bytes rest reader keeper n → words_of row ≡ last_words reader.form reader.entries → 0 < length behind → IsBadLine bytes (suc (suc n))
-more_behind keeps bytes rest row behind reader keeper n cut stands words some =
-    let text = stands.text in
-    let h = stands.reader_is in
-    more_behind_in bytes rest row behind reader.form text n cut h.within stands.so (last_there (words_of row) reader text h words) some
+pub more_behind : (bytes rest row behind : List ℕ) (reader : Reader) (text : JournalText) (n : ℕ) → Row rest row behind → IsReader reader text
+    → IsSoFar bytes rest reader.form text n → words_of row ≡ last_words reader.form reader.entries → 0 < length behind → IsBadLine bytes (suc (suc n))
+more_behind bytes rest row behind reader text n cut h so words some =
+    more_behind_in bytes rest row behind reader.form text n cut h.within so (last_there (words_of row) reader text h words) some
 
 -- the first line is none
 abbrev small_text : JournalText

@@ -9,3 +9,4 @@ pub mod SoFar
 pub mod Written
 pub mod Told
 pub mod Inputs
+pub mod Coming

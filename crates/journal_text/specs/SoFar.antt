@@ -5,8 +5,8 @@ use Rattle.journal_text.specs.declared.text.Format.{Format}
 use Rattle.journal_text.specs.declared.text.JournalText.{JournalText}
 use Rattle.journal_text.specs.declared.text.Line.{Line}
 use Rattle.journal_text.specs.declared.reading.Reader.{Reader}
-use Rattle.journal_text.specs.declared.journal.Step.{Step}
-use Rattle.journal_text.specs.declared.journal.Step.TheVariants.{On, Last, Bad}
+use Rattle.journal_text.specs.declared.pieces.Step.{Step}
+use Rattle.journal_text.specs.declared.pieces.Step.TheVariants.{On, Last, Bad}
 use Rattle.journal_text.specs.Lines.{IsLine}
 use Rattle.journal_text.specs.Words.{last_words}
 use Rattle.journal_text.specs.Journals.{AreFiles, IsReadingIn, IsWithin, body_rows, file_text, first_text, line_text, most_entries, rows_of}
@@ -54,23 +54,17 @@ pub record IsReadBy (bytes : List ℕ) (reader : Reader) (text : JournalText) : 
 
 -- ---- a reader, and a keeper of what it reads
 
-module _ {R : Type 0} (keeps : R → List (List ℕ × List ℕ) → List Line → Type 0) where
-  -- so many lines were read, and this is left of the bytes
-  pub record Stands (bytes rest : List ℕ) (reader : Reader) (keeper : R) (n : ℕ) : Type 0 where
-    pub text : JournalText
-    pub kept : keeps keeper text.files text.lines
-    pub reader_is : IsReader reader text
-    pub so : IsSoFar bytes rest reader.form text n
-
+module _ {R : Type 0} (keeps : R → JournalText → Type 0) where
   -- all lines were read
   pub record IsRead (bytes : List ℕ) (reader : Reader) (keeper : R) : Type 0 where
     pub text : JournalText
-    pub kept : keeps keeper text.files text.lines
+    pub kept : keeps keeper text
     pub read : IsReadBy bytes reader text
 
-  -- what a line did
-  abbrev pub Steps : List (List ℕ) → Reader → R → Step → Reader → R → Type 0
-  Steps words old keeper On new keeper' =
-      (text : JournalText) → keeps keeper text.files text.lines → (next : JournalText) × keeps keeper' next.files next.lines × Adds words old text new next
-  Steps words old keeper Last new keeper' = (words ≡ last_words old.form old.entries) × (new ≡ old) × (keeper' ≡ keeper)
-  Steps words old keeper Bad new keeper' = IsUnfit words old.form old.last old.entries
+  -- what the line of that number did
+  abbrev pub Steps : List (List ℕ) → ℕ → Reader → R → Step → Reader → R → Type 0
+  Steps words number old keeper On new keeper' =
+      (text : JournalText) → old.entries ≡ length text.lines → number ≡ length text.lines + length text.files + 2 → keeps keeper text
+      → (next : JournalText) × keeps keeper' next × Adds words old text new next
+  Steps words number old keeper Last new keeper' = (words ≡ last_words old.form old.entries) × (new ≡ old) × (keeper' ≡ keeper)
+  Steps words number old keeper Bad new keeper' = IsUnfit words old.form old.last old.entries

@@ -6,9 +6,10 @@
 //! there are. A shard's time is then the greatest of when the host opened and the moments of the shard's
 //! entries so far, and the version is 1. The lock ids of the first form have at most 256 bytes.
 //!
-//! [`read_journal`] reads both forms, and names the first line that can't stand where it does.
-//! [`write_lines`] writes the second form. [`rewrite`] does both at once, in little memory. [`read_bytes`]
-//! gives the bytes of an input that is a journal. Bytes read as one text at most, and what is written of a
+//! [`read_lines`] reads both forms from an input, gives each line to a [`Keeper`] as soon as it has come, and
+//! names the first line that can't stand where it does. [`read_journal`] does it with bytes that are there, and
+//! keeps all. [`write_lines`] writes the second form. [`rewrite`] reads and writes at once, in little memory.
+//! [`read_bytes`] gives the bytes of an input that is a journal. Bytes read as one text at most, and what is written of a
 //! text that keeps a reading's bounds is read as that text: see [`laws`].
 #![tactic(auto)]
 
@@ -21,6 +22,7 @@ mod journal;
 mod keeping;
 pub mod laws;
 mod opening;
+mod pieces;
 mod reading;
 mod rewriting;
 mod text;
@@ -31,8 +33,9 @@ mod writing;
 
 pub use host_core::EntryAct as LineAct;
 pub use host_table::WriteEnd;
-pub use input::{SizeFault, read_bytes};
+pub use input::{SizeFault, read_bytes, read_lines};
 pub use journal::{JournalFault, read_journal};
+pub use keeping::Keeper;
 pub use rewriting::{RewriteFault, rewrite};
 pub use text::{Files, Format, JournalText, Line, Lines};
 pub use writing::{write_lines, write_lines_into};

@@ -40,8 +40,8 @@ pub enum RewriteFault {
 }
 
 /// Writes the journal that these bytes are in the second form. All of it is read before anything is written,
-/// and no file and no entry is kept: beside the bytes this takes the memory of one file's contents and their
-/// digits, and 64 KiB.
+/// and no file and no entry is kept: beside the bytes this takes the memory of one line, of its contents and
+/// their digits, and 64 KiB.
 pub fn rewrite<K: Sink>(alloc: Global, sink: &mut K, bytes: &[u8]) -> Result<(), RewriteFault>
     ensures written { OnOk result ((text : JournalText) × IsReading bytes.now text × Appends (K.held sink.old) (K.held sink.new) (text_of (rows_of Second text))) }
     ensures too_long { (result ≡ Err (Journal TooLong)) ↔ (most_bytes < length bytes.now) }
@@ -51,8 +51,8 @@ pub fn rewrite<K: Sink>(alloc: Global, sink: &mut K, bytes: &[u8]) -> Result<(),
     ensures never_falls { K.write_faults sink.old ≤ K.write_faults sink.new }
     ensures failed { result ≡ Err Write → Rose (K.write_faults sink.old) (K.write_faults sink.new) }
 {
-    let reader = match read_with(alloc, bytes, &mut Nothing) {
-        Ok(reader) => reader,
+    let (reader, _nothing) = match read_with(alloc, bytes, Nothing) {
+        Ok(read) => read,
         Err(fault) => return Err(RewriteFault::Journal(fault)),
     };
     let Ok(room) = WriteRoom::new(alloc) else {
