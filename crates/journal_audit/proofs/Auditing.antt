@@ -69,7 +69,7 @@ track_takes old new mid line ruled shard knows timed later takes opened first no
 
 -- ---- opening files
 
-contents-push : (opening : Opening) (file : List ℕ × List ℕ) (name : List ℕ) →
+pub contents-push : (opening : Opening) (file : List ℕ × List ℕ) (name : List ℕ) →
     opened_contents (opening ++ file ∷ []) name ≡ elim (opened_contents opening name) [ None ↦ cond (bytes_eq file.0 name) (Some file.1) None | Some contents ↦ Some contents ]
 contents-push [] file name = refl
 contents-push (one ∷ opening) file name = by_test (bytes_eq one.0 name) (contents-push opening file name)

@@ -10,7 +10,7 @@ use Rattle.journal_audit.specs.Contents.{Gives, GivesNone, HadContents, IsGiven,
 use Rattle.journal_audit.proofs.Auditing.{take_next}
 use Rattle.host_table.proofs.WritingLemmas.{all_append}
 
-of_all : (P : Line → Type 0) (before : List Line) (line : Line) (after : List Line) → AllByRecursion P (before ++ line ∷ after) → P line
+pub of_all : (P : Line → Type 0) (before : List Line) (line : Line) (after : List Line) → AllByRecursion P (before ++ line ∷ after) → P line
 of_all P [] line after all = all.0
 of_all P (one ∷ before) line after all = of_all P before line after all.1
 

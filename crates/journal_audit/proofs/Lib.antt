@@ -9,3 +9,5 @@ mod Hosts
 mod Ordering
 mod Auditing
 mod Givings
+mod Streaming
+mod Seeking

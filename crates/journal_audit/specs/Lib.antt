@@ -8,3 +8,4 @@ pub mod Orders
 pub mod Audits
 pub mod Merges
 pub mod Contents
+pub mod Streams

@@ -1,5 +1,5 @@
 -- Spent ids of many files, each by the file's number and its bytes. (Own.)
-use Rattle.std.specs.Prelude.{◌≡◌, ℕ, ◌≤◌, Bool, true, false, ◌&&◌, ◌||◌, IsTrue, List, [], ◌∷◌, ◌++◌, Option, None, Some, map, max, nat_lt, nat_eq, bytes_eq, if◌then◌else◌}
+use Rattle.std.specs.Prelude.{◌≡◌, ℕ, ◌≤◌, Bool, true, false, ◌&&◌, ◌||◌, IsTrue, List, [], ◌∷◌, ◌++◌, Option, None, Some, map, nat_lt, nat_eq, bytes_eq, if◌then◌else◌}
 use Rattle.std.specs.Ordering.{on, eq_of_both}
 use Rattle.std.specs.Hash as fed
 use Rattle.std.specs.Cmp.Lexicographic.{bytes_decides}
@@ -7,6 +7,7 @@ use Rattle.std.specs.HashMap.{HashMap, get}
 use Rattle.std.proofs.Common.{ap, refl, ◌∙◌}
 use Rattle.std.proofs.lemmas.Bool.{eqb-true}
 use Rattle.wopi_model.specs.declared.locks.Spent.{Spent}
+pub use Rattle.kept_locks.specs.Refusals.{ends_after, later_of}
 use Rattle.journal_audit.specs.declared.spent.SpentOn.{SpentOn}
 
 abbrev pub file_of : SpentOn → ℕ
@@ -37,16 +38,6 @@ pub fed_alike : (one other : SpentOn) → IsTrue (is_same one other) → fed_of 
 fed_alike one other e =
     let parts = same_parts one other e in
     ap (λ file. fed.u32 file ++ (one.id ∷ [])) parts.0 ∙ ap (λ (id : List ℕ). fed.u32 other.file ++ (id ∷ [])) parts.1
-
--- that moment is before the end
-abbrev pub ends_after : ℕ → Option ℕ → Bool
-ends_after now None = false
-ends_after now (Some until) = nat_lt now until
-
--- the later one of two ends
-abbrev pub later_of : ℕ → Option ℕ → ℕ
-later_of until None = until
-later_of until (Some known) = max until known
 
 -- the id is refused on the file at that moment
 abbrev pub refused_in : {S : Type 0} → HashMap SpentOn ℕ S → ℕ → List ℕ → ℕ → Bool
