@@ -80,11 +80,11 @@ contents-push (one ∷ opening) file name = by_test (bytes_eq one.0 name) (conte
     by_test false e = e
 
 -- the file of an opening that has these contents, or of one that lacks the name
-abbrev file_of : ℕ → Option (List ℕ) → File
+abbrev pub file_of : ℕ → Option (List ℕ) → File
 file_of first None = never_met first
 file_of first (Some contents) = opened_with first contents
 
-opening-file : (first : ℕ) (opening : Opening) (name : List ℕ) → opening_file first opening name ≡ file_of first (opened_contents opening name)
+pub opening-file : (first : ℕ) (opening : Opening) (name : List ℕ) → opening_file first opening name ≡ file_of first (opened_contents opening name)
 opening-file first [] name = refl
 opening-file first (one ∷ opening) name = by_test (bytes_eq one.0 name) (opening-file first opening name)
   where

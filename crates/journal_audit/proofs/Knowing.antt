@@ -107,7 +107,7 @@ size-after file (act.Create overwrite new) status (Some bytes) size ok sized is 
     ap (λ (n : ℕ). Some n) (sym told.1)
 size-after file act.Delete status contents size ok sized is = refl
 
-told-same : (old : ℕ) (one : EntryAct) (contents : Option (List ℕ)) (told : Option ℕ) → version_told old one told ≡ version_told old (kept_act (act_of one contents)) told
+pub told-same : (old : ℕ) (one : EntryAct) (contents : Option (List ℕ)) (told : Option ℕ) → version_told old one told ≡ version_told old (kept_act (act_of one contents)) told
 told-same old act.Info contents told = refl
 told-same old (act.Get most) contents told = refl
 told-same old (act.Put lock size) contents told = refl

@@ -11,3 +11,4 @@ mod Auditing
 mod Givings
 mod Streaming
 mod Seeking
+mod Standing

@@ -44,7 +44,7 @@ no_bad_line text line wrong none bad = no_bad_at (opened_host text.files text.op
 
 -- ---- entries
 
-behind_more : (begun : Begun) (lines : List Line) (line : Line) → behind_lines begun (lines ++ line ∷ []) ≡ behind_line (behind_lines begun lines) line
+pub behind_more : (begun : Begun) (lines : List Line) (line : Line) → behind_lines begun (lines ++ line ∷ []) ≡ behind_line (behind_lines begun lines) line
 behind_more begun [] line = refl
 behind_more begun (one ∷ lines) line = behind_more (behind_line begun one) lines line
 

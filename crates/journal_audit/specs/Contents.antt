@@ -1,9 +1,12 @@
 -- The contents that a journal's files had at their versions. (Own.)
 use Rattle.std.specs.Prelude.{◌≡◌, ◌⊎◌, ℕ, List, ◌∷◌, ◌++◌, Some}
 use Rattle.std.specs.List.{AllByRecursion}
+use Rattle.wopi_text.specs.FileName.{shard_of}
+use Rattle.wopi_model.specs.File.{File}
 use Rattle.host_core.specs.Opening.{opened_contents}
 use Rattle.journal_text.specs.declared.text.JournalText.{JournalText}
 use Rattle.journal_text.specs.declared.text.Line.{Line}
+use Rattle.journal_audit.specs.Lines.{behind_lines, opened_host}
 
 -- The line's call gave the file of that name that version, with these contents. Only the line of an accepted Put or Create tells
 -- contents.
@@ -33,3 +36,17 @@ abbrev pub HadContents : JournalText → List ℕ → ℕ → List ℕ → Type 
 HadContents text name version contents =
     StoodThere text name version contents
     ⊎ (((others : List ℕ) → StoodThere text name version others → ⊥) × IsGiven name version text.lines contents)
+
+-- ---- in a legal journal
+
+-- what these lines leave of the file of that name
+abbrev pub left_of : JournalText → List Line → List ℕ → File
+left_of text lines name = ((behind_lines (opened_host text.files text.opened text.first) lines).shards (shard_of name)).files name
+
+-- behind some of the journal's lines, from the first on, the file has that version, with these contents
+pub record Stood (text : JournalText) (name : List ℕ) (version : ℕ) (contents : List ℕ) : Type 0 where
+  pub front : List Line
+  pub back : List Line
+  pub lines_are : text.lines ≡ front ++ back
+  pub version_is : (left_of text front name).version ≡ version
+  pub contents_are : (left_of text front name).contents ≡ Some contents

@@ -9,7 +9,7 @@ ghost use Rattle.journal_text.specs.declared.text.JournalText.{JournalText};
 ghost use Rattle.journal_text.specs.declared.text.Line.{Line};
 ghost use Rattle.journal_text.specs.Told.{line_of, told_by};
 ghost use Rattle.journal_audit.specs.declared.verdict.AuditFault.{AuditFault};
-ghost use Rattle.journal_audit.specs.Contents.{HadContents};
+ghost use Rattle.journal_audit.specs.Contents.{HadContents, Stood};
 ghost use Rattle.journal_audit.specs.Lines.{Begun, IsBadLine, KeepsBounds, LegalLines, LegalText, behind_lines};
 ghost use Rattle.journal_audit.specs.Merges.{GoesOn, IsOfHost, IsSafe};
 ghost use Rattle.journal_audit.specs.Tracks.{IsSound};
@@ -54,4 +54,10 @@ pub fn legal_texts_are_safe()
 /// A file had one contents at a version, whatever journal it is.
 pub fn a_version_has_one_contents()
     ensures { (text : JournalText) (name : List ℕ) (version : ℕ) (contents others : List ℕ) → HadContents text name version contents → HadContents text name version others → contents ≡ others }
+{}
+
+/// What is found of a legal journal stood there: behind some of its lines the file has that version, with these
+/// contents.
+pub fn contents_that_are_found_stood()
+    ensures { (text : JournalText) (name : List ℕ) (version : ℕ) (contents : List ℕ) → KeepsBounds text → LegalText text → HadContents text name version contents → Stood text name version contents }
 {}
