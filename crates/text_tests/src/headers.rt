@@ -1,6 +1,6 @@
 use std::alloc::Global;
 use std::test::Fail;
-use wopi_headers::{Answer, Ask, AskFault, BodyKind, Op, Target, ask_of, reply_of};
+use wopi_headers::{Answer, AskFault, BodyKind, Op, ask_of, reply_of};
 use wopi_http::{Field, Fields, Method, Request};
 use wopi_text::{Bytes, LockField, LockId, Memory, Reason};
 
@@ -62,31 +62,18 @@ fn a_lock_request_names_its_file_its_token_and_its_id(rt: HostRuntime) -> Result
     Ok(())
 }
 
-const OVERWRITE: &str = "X-WOPI-OverwriteRelativeTarget";
-
-/// The target of a copy that these fields ask for.
-fn target<'x>(
-    alloc: Global,
-    name: (&'x str, &'x str),
-    overwrite: &'x str,
-) -> Result<Option<Target>, Memory> {
+#[test]
+fn a_copy_is_asked_for_by_a_name_in_utf_7_alone(rt: HostRuntime) -> Result<(), Fail> {
+    let alloc = rt.alloc();
     let copy = ("X-WOPI-Override", "PUT_RELATIVE");
-    let named = [copy, name, (OVERWRITE, overwrite)];
-    match ask_of(alloc, &request(alloc, Method::Post, FILE, &named)?) {
-        Ok(ask) => {
-            let Ask {
-                file: _file,
-                token: _token,
-                op,
-            } = ask;
-            match op {
-                Op::PutRelative { target } => Ok(Some(target)),
-                _other => Ok(None),
-            }
-        }
-        Err(AskFault::Refused { .. }) => Ok(None),
-        Err(AskFault::Memory) => Err(Memory),
+    for (text, wanted) in [("+AOk-.csv", 200), ("+AOl-", 400)] {
+        let named = [copy, ("X-WOPI-SuggestedTarget", text)];
+        assert!(rt;
+            status(alloc, Method::Post, FILE, &named)? == wanted,
+            "{text}"
+        );
     }
+    Ok(())
 }
 
 #[test]

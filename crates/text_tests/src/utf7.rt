@@ -63,3 +63,15 @@ fn other_forms_of_a_text_are_read_as_python_and_iconv_read_them(
     assert!(rt; is_read(rt.alloc(), b"\\~", "\\~")?);
     Ok(())
 }
+
+#[test]
+fn a_bad_shift_is_told_by_its_place(rt: HostRuntime) {
+    for (bytes, at) in [
+        (b"+AOl-".as_slice(), 0),
+        (b"a+", 1),
+        (b"+AOk-+AOl-", 5),
+        (b"x\t+AOl-", 1),
+    ] {
+        assert!(rt; utf7_read(rt.alloc(), bytes).err() == Some(Utf7Fault::Bad { at }));
+    }
+}

@@ -55,6 +55,24 @@ fn requests_as_a_client_writes_them(rt: HostRuntime) -> Result<(), Fail> {
     Ok(())
 }
 
+#[test]
+fn a_save_is_asked_for_with_its_lock_and_its_body(rt: HostRuntime) -> Result<(), Fail> {
+    let alloc = rt.alloc();
+    let put = Op::Put {
+        lock: Some(id(b"n-1")?),
+    };
+    let request = request_of(alloc, &ask(alloc, put)?, "h:80", b"1,9\n")?;
+    assert!(rt; request.body.as_slice() == b"1,9\n".as_slice());
+    let back = ask_of(alloc, &request)?;
+    assert!(rt; back.file.as_str() == "a.csv");
+    assert!(rt; back.token.as_slice() == b"t 0+~".as_slice());
+    match &back.op {
+        Op::Put { lock: Some(lock) } => assert!(rt; lock.as_slice() == b"n-1".as_slice()),
+        _ => assert!(rt; false),
+    }
+    Ok(())
+}
+
 /// What a reply with these fields tells.
 fn told(alloc: Global, named: &[(&str, &str)], body: &[u8]) -> Result<Answer, Memory> {
     let mut fields = Fields::new(alloc);

@@ -1,11 +1,9 @@
 //! Requests as a client writes them, and replies as it reads them.
-use super::joined;
-use outside::{MemSink, MemSource, Pair, ReplyEnd, ask_link};
+use outside::ReplyEnd;
 use std::alloc::Global;
 use std::test::Fail;
 use wopi_http::{
-    Field, Fields, Method, ReplyFault, ReplyLength, Request, read_placed_reply, read_reply,
-    request_text,
+    Field, Fields, Method, ReplyFault, ReplyLength, Request, read_reply, request_text,
 };
 use wopi_text::Bytes;
 
@@ -48,6 +46,40 @@ fn replies_as_other_servers_write_them(rt: HostRuntime) -> Result<(), Fail> {
         let reply = read_reply(alloc, bytes)?;
         assert!(rt; reply.status == status);
         assert!(rt; reply.body.as_slice() == body);
+    }
+    Ok(())
+}
+
+#[test]
+fn a_reply_is_bad_where_its_part_begins(rt: HostRuntime) {
+    for (bytes, place) in [
+        (b"".as_slice(), 0),
+        (b"HTTP/1.1 100 Continue\r\n\r\n".as_slice(), 25),
+        (
+            b"HTTP/1.1 200 OK\r\nContent-Length: 5\r\n\r\nabc".as_slice(),
+            38,
+        ),
+    ] {
+        let read = read_reply(rt.alloc(), bytes);
+        assert!(rt; matches!(read, Err(ReplyFault::Bad { at }) if at == place));
+    }
+}
+
+#[test]
+fn a_reply_that_says_how_long_it_is_ends_behind_its_body(rt: HostRuntime) -> Result<(), Fail> {
+    let end = ReplyLength::new(rt.alloc());
+    for (bytes, is_whole) in [
+        (
+            b"HTTP/1.1 200 OK\r\nContent-Length: 3\r\n\r\n1,".as_slice(),
+            false,
+        ),
+        (
+            b"HTTP/1.1 200 OK\r\nContent-Length: 3\r\n\r\n1,2".as_slice(),
+            true,
+        ),
+        (b"HTTP/1.1 200 OK\r\n\r\n1,2".as_slice(), false),
+    ] {
+        assert!(rt; end.is_whole(bytes)? == is_whole);
     }
     Ok(())
 }

@@ -9,6 +9,12 @@ use std::test::Fail;
 use wopi_http::{Buffer, Got, Request, read_request};
 use wopi_text::Bytes;
 
+/// Three messages: one with a length, one in chunks, and one without a body.
+const INPUT: &[u8] =
+    b"PUT /a HTTP/1.1\r\nHost: a\r\nContent-Length: 7\r\nExpect: 100-continue\r\n\r\n1,2\r\n3\nPUT /b HTTP/1.1\r\nHost: a\r\nTransfer-Encoding: chunked\r\n\r\n4;name=value\r\n4,5\n\r\n2\r\n\r\n\r\n0\r\nTrailer: x\r\n\r\nGET /c HTTP/1.1\r\nHost: a\r\n\r\n";
+
+const HEARD: &[u8] = b"/a [1,2\r\n3\n]\n/b [4,5\n\r\n]\n/c []\nend\nHTTP/1.1 100 Continue\r\n\r\n";
+
 /// Gives what comes first, and then the others.
 #[derive(Drop)]
 struct Cut {
@@ -57,6 +63,17 @@ fn heard(alloc: Global, first: &'static [u8], others: &'static [u8]) -> Result<V
     }
     heard.extend_from_slice(link.sink.as_slice())?;
     Ok(heard)
+}
+
+#[test]
+fn messages_cut_at_any_place_are_heard_as_when_they_come_whole(
+    rt: HostRuntime,
+) -> Result<(), Fail> {
+    for cut in 0..INPUT.len() {
+        let heard = heard(rt.alloc(), &INPUT[..cut], &INPUT[cut..])?;
+        assert!(rt; heard.as_slice() == HEARD, "at {cut}");
+    }
+    Ok(())
 }
 
 /// The memory that the body of 16 MiB has that comes behind this head, and how many bytes the buffer
