@@ -13,6 +13,7 @@ fn id(rt: &impl Abort, text: &[u8]) -> LockId {
 fn a_spent_id_goes_when_its_time_is_over(rt: HostRuntime) -> Result<(), Fail> {
     let mut chains = SpentChains::new(rt.alloc());
     chains.reserve(1).map_err(|_| "memory")?;
+    assert!(rt; chains.reserve(usize::MAX).is_err());
     let chain = chains.add(
         None,
         Spent {
@@ -20,6 +21,7 @@ fn a_spent_id_goes_when_its_time_is_over(rt: HostRuntime) -> Result<(), Fail> {
             until: 30,
         },
     );
+    assert!(rt; chains.reserve(usize::MAX).is_err());
     assert!(rt; chains.holds(chain, &id(&rt, b"L1")));
     assert!(rt; chains.refuses(chain, &id(&rt, b"L1"), 29));
     assert!(rt; !chains.refuses(chain, &id(&rt, b"L1"), 30));

@@ -199,6 +199,17 @@ fn a_name_whose_first_store_call_failed_is_no_file(rt: HostRuntime) -> Result<()
 }
 
 #[test]
+fn a_full_shard_takes_no_step(rt: HostRuntime) -> Result<(), Fail> {
+    let alloc = rt.alloc();
+    let mut single = open(alloc, 1, &[])?;
+    let lock = Act::Lock { id: lock_id(&rt) };
+    assert!(rt; step(&rt, &mut single, call(&rt, b"a.csv", lock), 0) == ok(1));
+    let full = single.call(call(&rt, b"a.csv", Act::GetLock), 0);
+    assert!(rt; matches!(full, Err(CallFault::Full(_))));
+    Ok(())
+}
+
+#[test]
 fn a_shard_leaves_its_opening_its_entries_and_their_contents(rt: HostRuntime) -> Result<(), Fail> {
     let alloc = rt.alloc();
     let mut single = open(alloc, 4096, &[])?;

@@ -1,8 +1,6 @@
 ghost use Rattle.access_tokens.specs.Remembering.{Remembers};
 
-use access_tokens::{
-    Key, Keys, RecentTokens, Token, TokenFault, User, hmac, live, mint, push_address, read,
-};
+use access_tokens::{Keys, RecentTokens, Token, TokenFault, User, hmac, mint, push_address, read};
 use std::alloc::Global;
 use std::test::Fail;
 use wopi_text::{Bytes, FileName};
@@ -16,6 +14,10 @@ const SIGNED: &str = "v2.0.ann.612e637376.w.1.253402300000000.253402300799999";
 /// Its text under that key.
 const TEXT: &str =
     "v2.0.ann.612e637376.w.1.253402300000000.253402300799999.d3b4214de337cbf0652f67ed52815e0780b10913047024cbdc4448712c891e48";
+
+/// The same token as version 1 wrote it under the key `k`.
+const FIRST_TEXT: &str =
+    "v1.ann.612e637376.w.1.253402300000000.253402300799999.cc2a63af1977455f07844c926dffa4b64cbdc55115b559283b5df65b09d8289a";
 
 /// The same token under the key `k` of the number 255.
 const LAST_TEXT: &str =
@@ -79,6 +81,15 @@ fn an_address_stands_behind_what_was_there_and_has_a_token_for_its_file(
     assert!(rt; text.starts_with(front));
     assert!(rt; text.len() == front.len() + TEXT.len());
     assert!(rt; text.ends_with(TEXT.as_bytes()));
+    Ok(())
+}
+
+#[test]
+fn a_token_of_version_1_is_read_under_the_key_0_alone(rt: HostRuntime) -> Result<(), Fail> {
+    let exchanged = keys(b"1:4a656665,0:6b")?;
+    assert!(rt; read(&exchanged, FIRST_TEXT.as_bytes()).is_ok());
+    let alone = keys(b"1:4a656665")?;
+    assert!(rt; read(&alone, FIRST_TEXT.as_bytes()).err() == Some(TokenFault::NoKey));
     Ok(())
 }
 

@@ -1,6 +1,6 @@
 //! What listings of a shard have.
 use super::*;
-use host_core::{Child, Children, Lister, Listing};
+use host_core::{Child, Children, Lister, Listing, NameList};
 use wopi_text::Memory;
 
 /// The name, the version and the size of the file at a place.
@@ -56,5 +56,22 @@ fn whatever_lists_shards_lists_each(rt: HostRuntime) -> Result<(), Fail> {
     let mut single = open(rt.alloc(), 4096, &[])?;
     assert!(rt; single.shards() == 1);
     assert!(rt; count_files(&mut single)? == 2);
+    Ok(())
+}
+
+#[test]
+fn lists_of_names_and_of_files_grow_at_their_ends(rt: HostRuntime) -> Result<(), Fail> {
+    let mut names = NameList::new(rt.alloc());
+    names.push(name(&rt, b"a.csv"))?;
+    assert!(rt; names.len() == 1);
+    assert!(rt; names.get(0).ok_or("a name")?.as_str() == "a.csv");
+    let mut children = Children::new(rt.alloc());
+    children.push(Child {
+        name: name(&rt, b"a.csv"),
+        version: 7,
+        size: 3,
+    })?;
+    assert!(rt; children.len() == 1);
+    assert!(rt; children.get(0).ok_or("a child")?.version == 7);
     Ok(())
 }
