@@ -129,3 +129,12 @@ fn a_set_under_100_000_formulas(rt: HostRuntime) -> Result<(), Fail> {
     assert!(rt; sheet.value(99_991, 1) == Value::Number(1));
     Ok(())
 }
+
+#[test]
+fn a_list_of_cells_grows_at_its_end(rt: HostRuntime) -> Result<(), Fail> {
+    let mut changed = Changed::new(rt.alloc());
+    changed.push((1, 2))?;
+    changed.push((3, 4))?;
+    assert!(rt; changed.as_slice() == [(1, 2), (3, 4)].as_slice());
+    Ok(())
+}

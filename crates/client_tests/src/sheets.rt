@@ -1,4 +1,4 @@
-use grid_sheet::{Grid, GridFault, MOST_CELLS, MOST_ROWS};
+use grid_sheet::{Grid, GridFault, MOST_ROWS};
 use std::alloc::Global;
 use std::process::Abort;
 use std::test::Fail;
@@ -11,6 +11,58 @@ fn text(alloc: Global, cell: &str) -> Result<Bytes, Fail> {
 fn expect_written(rt: &impl Abort, grid: &Grid, expected: &str) -> Result<(), Fail> {
     let written = grid.write()?;
     assert!(rt; written.as_slice() == expected.as_bytes());
+    Ok(())
+}
+
+#[test]
+fn edits_of_a_small_grid_in_turn(rt: HostRuntime) -> Result<(), Fail> {
+    let alloc = rt.alloc();
+    let mut grid = Grid::read(alloc, b"1,2\n3\n")?;
+    grid.insert_column(2)?;
+    expect_written(&rt, &grid, "1,,2\n3,\n")?;
+    grid.delete_column(1)?;
+    expect_written(&rt, &grid, ",2\n\"\"\n")?;
+    grid.set(2, 3, text(alloc, "a,b")?)?;
+    expect_written(&rt, &grid, ",2\n,,\"a,b\"\n")?;
+    grid.delete_cell(2, 1)?;
+    expect_written(&rt, &grid, ",2\n,\"a,b\"\n")?;
+    grid.insert_cell(2, 1, text(alloc, "")?)?;
+    expect_written(&rt, &grid, ",2\n,,\"a,b\"\n")?;
+    let refused = grid.set(3, 1, text(alloc, "x")?);
+    assert!(rt; refused == Err(GridFault::OutOfGrid));
+    Ok(())
+}
+
+// Cells that need quotes, or look as if they did.
+const AWKWARD: [&str; 9] = [
+    "say \"hi\"",
+    "a,b",
+    "line 1\nline 2",
+    "\r\n",
+    "\r",
+    "",
+    " x ",
+    "\"",
+    "é;ü",
+];
+
+#[test]
+fn a_written_grid_reads_back(rt: HostRuntime) -> Result<(), Fail> {
+    let alloc = rt.alloc();
+    let mut grid = Grid::read(alloc, b"")?;
+    for (place, cell) in AWKWARD.iter().enumerate() {
+        grid.insert_row(place + 1)?;
+        grid.set(place + 1, place + 1, text(alloc, cell)?)?;
+    }
+    let back = Grid::read(alloc, grid.write()?.as_slice())?;
+    assert!(rt; back.rows() == AWKWARD.len());
+    for (place, cell) in AWKWARD.iter().enumerate() {
+        assert!(rt;
+            back.cell(place + 1, place + 1) == Some(cell.as_bytes()),
+            "{place}"
+        );
+        assert!(rt; back.cell(place + 1, place + 2).is_none(), "{place}");
+    }
     Ok(())
 }
 
