@@ -6,7 +6,7 @@
 # and who waited for a worker has to be closed, also while every worker is busy. The reply has to come, the save has to
 # stand in the folder and in the journal, no other connection may be served, and the status has to be 0. SIGTERM goes to
 # the script alone and to its group, as supervisors send it, SIGINT to the group, as a terminal sends it, and each also
-# twice; SIGHUP and SIGQUIT go once. At last signals come before or as the host begins. A second host over the folder,
+# twice; SIGHUP and SIGQUIT go once. At last SIGTERM, SIGQUIT and SIGHUP come before or as the host begins. A second host over the folder,
 # begun meanwhile, has to end with status 5. It is no part of the gate.
 set -um
 top=$(cd "$(dirname "$(readlink -f "${BASH_SOURCE[0]}")")/.." && pwd)
@@ -143,13 +143,13 @@ run() {
 
 # A signal so many seconds after the start. It ends the host in order, or the script before it has begun one.
 run_early() {
-  local ended
+  local signal=$1 ended
   begin_host early
-  sleep "$1"
-  kill -s TERM "$host"
+  sleep "$2"
+  kill -s "$signal" "$host"
   wait "$host" 2>/dev/null
   ended="$? $(tail -n 1 "$room/journal")"
-  [ "$ended" = '143 ' ] || check "the status and the journal's end" '0 end 0' "$ended"
+  [ "$ended" = "$((128 + $(kill -l "$signal"))) " ] || check "the status and the journal's end" '0 end 0' "$ended"
 }
 
 token=$("$program" token "$key" ann a.csv w 1 253402300000000 253402300799999) || exit 1
@@ -162,9 +162,11 @@ run 'SIGTERM to the script, twice' 1 TERM:script TERM:script
 run 'SIGINT to the group, twice' 1 INT:group INT:group
 run 'SIGTERM to the script, with every worker busy' 2 TERM:script
 run 'SIGINT to the group, twice, with every worker busy' 2 INT:group INT:group
-echo 'SIGTERM within half a second'
-for seconds in 0.05 0.1 0.15 0.2 0.25 0.3 0.35 0.4 0.45 0.5; do
-  run_early "$seconds"
+echo 'signals within half a second'
+for signal in TERM QUIT HUP; do
+  for seconds in 0 0.002 0.004 0.006 0.008 0.01 0.015 0.02 0.025 0.03 0.04 0.05 0.1 0.2 0.3 0.5; do
+    run_early "$signal" "$seconds"
+  done
 done
 echo "$faults faults"
 [ "$faults" -eq 0 ]
