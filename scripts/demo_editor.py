@@ -311,6 +311,8 @@ def open_edit_save(desk, browser, pictures):
     must(desk.lock_of("people.csv").startswith("ann-"), "not locked for ann")
     ann.fill("B3", "Arlington")
     must("aren't saved" in ann.text("#unsaved"), "edits aren't told")
+    ann.press("#close")
+    ann.do("POST", "/alert/dismiss")
     ann.picture(pictures, "editor-open")
     ann.press("#save")
     must("v2" in ann.is_told("Saved"), "another version")
