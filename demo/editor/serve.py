@@ -7,6 +7,7 @@ of a file that has it; with the key the server makes tokens for whatever name a 
 alone, for trials. ADDRESS is where browsers find it: http://localhost:PORT where it is left out.
 """
 import argparse
+import contextlib
 import dataclasses
 import html
 import http.server
@@ -221,8 +222,10 @@ class Handler(http.server.BaseHTTPRequestHandler):
         self.send_header("Cache-Control", "no-store")
         for name, value in (headers or {}).items():
             self.send_header(name, value)
-        self.end_headers()
-        self.wfile.write(body)
+        # A window that has gone away waits for no answer.
+        with contextlib.suppress(ConnectionError):
+            self.end_headers()
+            self.wfile.write(body)
 
     def log_message(self, text, *words):
         """Nothing is told of requests that were answered."""
