@@ -1,6 +1,6 @@
 //! All that sessions and somebody else may ask, as it is written, read and answered over a wire.
 use super::traces::expect_over;
-use replay_cmd::{Schedule, ScriptWire, Straight, World};
+use replay_cmd::Straight;
 use std::alloc::Global;
 use std::test::Fail;
 

@@ -1,5 +1,5 @@
 //! Texts as schedules.
-use replay_cmd::{EventLine, Reference, Schedule, ScheduleFault, Wish};
+use replay_cmd::{Schedule, ScheduleFault};
 use std::alloc::Global;
 use std::process::Abort;
 use std::test::Fail;
@@ -152,23 +152,6 @@ fn a_schedule_has_64_sessions(rt: HostRuntime) -> Result<(), Fail> {
     assert!(rt; Schedule::read(rt.alloc(), &text)?.sessions().len() == 64);
     let text = sessions(rt.alloc(), 65)?;
     expect_bad(&rt, rt.alloc(), &text, 65)
-}
-
-/// 16,000 files.
-fn files(alloc: Global) -> Result<Vec<u8>, Fail> {
-    let mut text = Vec::new(alloc);
-    for first in b"0123456789abcdef" {
-        for second in b"0123456789" {
-            for third in b"0123456789" {
-                for fourth in b"0123456789" {
-                    text.extend_from_slice(b"file 4")?;
-                    text.extend_from_slice(&[*first, b'3', *second, b'3', *third, b'3', *fourth])?;
-                    text.extend_from_slice(b" -\n")?;
-                }
-            }
-        }
-    }
-    Ok(text)
 }
 
 #[test]

@@ -1,5 +1,5 @@
 //! Traces and summaries of runs.
-use replay_cmd::{Schedule, ScriptWire, Straight, Wire, World, generate, summary_text, trace_text};
+use replay_cmd::{Schedule, ScriptWire, Straight, Wire, World, trace_text};
 use std::alloc::Global;
 use std::process::Abort;
 use std::test::Fail;
@@ -98,6 +98,38 @@ end 652e637376 v2 absent\n";
     expect_over(&rt, rt.alloc(), &mut Straight, text, shown)
 }
 
+/// A locked file that another's copy is to overwrite, until its lock is over and it is deleted.
+const OVERWRITTEN: &[u8] = b"file 612e637376 312c320a\nfile 652e637376 -\n\
+foreign 0 9000000 lock 612e637376 L1\nforeign 1 9000000 delete 612e637376\n\
+foreign 2 9000000 relative 652e637376 612e637376 yes 78\n\
+foreign 1800002 9000000 relative 652e637376 612e637376 yes 78\n\
+foreign 1800002 9000000 info 612e637376\nforeign 1800003 9000000 delete 612e637376\n\
+foreign 1800003 9000000 get 612e637376\n\
+foreign 1800004 9000000 relative 652e637376 612e637376 no 78\n\
+foreign 1800005 9000000 lock 612e637376 L1\n";
+
+const OVERWRITTEN_SHOWN: &[u8] = b"reply 1 200 v1\nreply 2 409 L1 locked\n\
+reply 3 409 L1 locked\nreply 4 200 612e637376\nreply 5 200 v2 1\nreply 6 200\nreply 7 404\n\
+reply 8 200 612e637376\nreply 9 409 - lock id spent\nend 612e637376 v3 - 78\n\
+end 652e637376 v1 - -\n";
+
+#[test]
+fn a_locked_file_is_overwritten_once_its_lock_ended(rt: HostRuntime) -> Result<(), Fail> {
+    expect_over(
+        &rt,
+        rt.alloc(),
+        &mut Straight,
+        OVERWRITTEN,
+        OVERWRITTEN_SHOWN,
+    )
+}
+
+#[test]
+fn the_trace_shows_what_came_over_a_straight_wire(rt: HostRuntime) -> Result<(), Fail> {
+    let shown = b"send 1 info\nreply 1 200 v1 4\nsend 2 lock n-1\nend 612e637376 v1 - 312c320a\n";
+    expect_over(&rt, rt.alloc(), &mut Straight, BEGUN, shown)
+}
+
 #[test]
 fn the_trace_shows_the_request_that_came(rt: HostRuntime) -> Result<(), Fail> {
     let alloc = rt.alloc();
@@ -130,7 +162,7 @@ struct OverWire {
     shown: &'static [u8],
 }
 
-const OVER_WIRES: [OverWire; 4] = [
+const OVER_WIRES: [OverWire; 5] = [
     // What somebody else asks goes over the wire too.
     OverWire {
         instead: &[Some(b"GET /wopi/folders HTTP/1.1\r\nHost: x\r\n\r\n")],
@@ -140,6 +172,12 @@ const OVER_WIRES: [OverWire; 4] = [
     // A request that is cut off.
     OverWire {
         instead: &[Some(b"GET /wopi/folders HTTP/1.1\r\nHo")],
+        lines: b"foreign 0 9000000 info 612e637376\n",
+        shown: b"reply 1 400\nend 612e637376 v1 - 312c320a\n",
+    },
+    // No bytes.
+    OverWire {
+        instead: &[Some(b"")],
         lines: b"foreign 0 9000000 info 612e637376\n",
         shown: b"reply 1 400\nend 612e637376 v1 - 312c320a\n",
     },
