@@ -19,7 +19,7 @@ use Rattle.wopi_world.specs.World as in_world
 use Rattle.wopi_world.proofs.Lists.{get_left, get_new}
 use Rattle.replay_cmd.specs.declared.replies.Reply.{Reply}
 use Rattle.replay_cmd.specs.Answers.{answer_told, IsLastOf, IsReply, AreReplies}
-use Rattle.replay_cmd.proofs.Calling.{told_status}
+use Rattle.replay_cmd.proofs.Calling.{told_status, told_lock}
 
 -- an answer has the ruling's status, lock and reason
 abbrev pub SaysSame : Answer → Ruling → Type 0
@@ -34,6 +34,11 @@ pub answer_status : (desk : Desk) (entry : Entry) (ruling : Ruling) → (answer_
 answer_status desk entry ruling =
     cond_both (is_create entry.call.act) (file_told desk entry.call.name entry.call.token entry.moment ruling) (told_of entry.call ruling)
     (λ (a : Answer). a.status ≡ ruling.status) (λ e. (told_file desk entry.call.name entry.call.token entry.moment ruling).0) (λ e. told_status entry.call ruling)
+
+pub answer_lock : (desk : Desk) (entry : Entry) (ruling : Ruling) → (answer_told desk entry ruling).lock ≡ ruling.lock
+answer_lock desk entry ruling =
+    cond_both (is_create entry.call.act) (file_told desk entry.call.name entry.call.token entry.moment ruling) (told_of entry.call ruling)
+    (λ (a : Answer). a.lock ≡ ruling.lock) (λ e. (told_file desk entry.call.name entry.call.token entry.moment ruling).1) (λ e. told_lock entry.call ruling)
 
 -- what tells a call that makes no copy
 pub plain_answer : (desk : Desk) (entry : Entry) (ruling : Ruling) → is_create entry.call.act ≡ false → answer_told desk entry ruling ≡ told_of entry.call ruling

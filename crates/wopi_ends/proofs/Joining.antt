@@ -42,16 +42,21 @@ hears_stays client speaker input sent h =
 
 same_text : (asked : SessionOp) (got a other : Answer) → IsSameText asked got a → IsSameText asked a other → IsSameText asked got other
 same_text op.Info got a other g h = tt
-same_text op.TakeLock got a other g h = (g.0 ∙ h.0, g.1 ∙ h.1)
+same_text op.TakeLock got a other g h = tt
 same_text op.Get got a other g h = (g.0 ∙ h.0, g.1 ∙ h.1)
-same_text (op.Put number) got a other g h = (g.0 ∙ h.0, g.1 ∙ h.1)
-same_text (op.Relock number) got a other g h = (g.0 ∙ h.0, g.1 ∙ h.1)
-same_text (op.Refresh number) got a other g h = (g.0 ∙ h.0, g.1 ∙ h.1)
-same_text (op.Unlock number) got a other g h = (g.0 ∙ h.0, g.1 ∙ h.1)
+same_text (op.Put number) got a other g h = g ∙ h
+same_text (op.Relock number) got a other g h = tt
+same_text (op.Refresh number) got a other g h = tt
+same_text (op.Unlock number) got a other g h = tt
 
 looks_through : (asked : SessionOp) (got a other : Answer) → LooksSame asked got a → LooksSame asked a other → LooksSame asked got other
 looks_through asked got a other g h =
-    record { status = g.status ∙ h.status; lock = g.lock ∙ h.lock; reason = g.reason ∙ h.reason; text = same_text asked got a other g.text h.text }
+    record {
+      status = g.status ∙ h.status;
+      lock = λ conflict. g.lock conflict ∙ h.lock (sym g.status ∙ conflict);
+      reason = λ conflict. g.reason conflict ∙ h.reason (sym g.status ∙ conflict);
+      text = λ ok. same_text asked got a other (g.text ok) (h.text (sym g.status ∙ ok));
+    }
 
 fault_ok : (status : ℕ) → status ≡ 503 → status ≢ 200
 fault_ok status is e = omega (arith, is, e)

@@ -26,7 +26,8 @@ use Rattle.host_server.specs.Answering as host
 use Rattle.host_server.specs.Telling.{is_info, told_of, info_told, told}
 use Rattle.host_server.specs.Turns.{Turn, Said, answer, no_memory, IsSaid}
 use Rattle.wopi_world.specs.Requests.{Client, Sent, Info, TakeLock, Get, Put, Relock, RefreshLock, Unlock, operation, body, act_sent, call_of}
-use Rattle.wopi_world.specs.Talks.{LooksSame}
+use Rattle.wopi_world.specs.Talks.{LooksSame, id_in}
+use Rattle.wopi_world.proofs.Seeing.{looks_itself}
 use Rattle.wopi_ends.specs.Messages.{IsAt, ask_of, TellsNone, TellsEntry, IsOwnTurn, unmade, makes}
 
 -- what is told of a call
@@ -66,13 +67,18 @@ module _ (call : Call) (ruling : Ruling) where
 sees : (client : Client) (sent : Sent) (ruling : Ruling) → LooksSame (operation sent) (told_of (call_of client sent) ruling) (ruling_told ruling)
 sees client Info ruling =
     let call = call_of client Info in
-    record { status = told_status call ruling; lock = told_lock call ruling; reason = told_reason call ruling; text = tt }
-sees client TakeLock ruling = record { status = refl; lock = refl; reason = refl; text = (refl, refl) }
-sees client Get ruling = record { status = refl; lock = refl; reason = refl; text = (refl, refl) }
-sees client (Put number contents) ruling = record { status = refl; lock = refl; reason = refl; text = (refl, refl) }
-sees client (Relock number) ruling = record { status = refl; lock = refl; reason = refl; text = (refl, refl) }
-sees client (RefreshLock number) ruling = record { status = refl; lock = refl; reason = refl; text = (refl, refl) }
-sees client (Unlock number) ruling = record { status = refl; lock = refl; reason = refl; text = (refl, refl) }
+    record {
+      status = told_status call ruling;
+      lock = λ conflict. ap id_in (told_lock call ruling);
+      reason = λ conflict. told_reason call ruling;
+      text = λ ok. tt;
+    }
+sees client TakeLock ruling = looks_itself (operation TakeLock) (ruling_told ruling)
+sees client Get ruling = looks_itself (operation Get) (ruling_told ruling)
+sees client (Put number contents) ruling = looks_itself (operation (Put number contents)) (ruling_told ruling)
+sees client (Relock number) ruling = looks_itself (operation (Relock number)) (ruling_told ruling)
+sees client (RefreshLock number) ruling = looks_itself (operation (RefreshLock number)) (ruling_told ruling)
+sees client (Unlock number) ruling = looks_itself (operation (Unlock number)) (ruling_told ruling)
 
 no_copy : (nonce : List ℕ) (sent : Sent) (target : Target) → op_of nonce (operation sent) ≡ op.PutRelative target → ⊥
 no_copy nonce Info target e = cc

@@ -23,13 +23,14 @@ read_as_said op a got close more written one comes_back tells =
 
 same_text : (asked : SessionOp) (a : Answer) → IsSameText asked (told a) a
 same_text op_of.Info a = tt
-same_text op_of.TakeLock a = (refl, refl)
+same_text op_of.TakeLock a = tt
 same_text op_of.Get a = (refl, refl)
-same_text (op_of.Put number) a = (refl, refl)
-same_text (op_of.Relock number) a = (refl, refl)
-same_text (op_of.Refresh number) a = (refl, refl)
-same_text (op_of.Unlock number) a = (refl, refl)
+same_text (op_of.Put number) a = refl
+same_text (op_of.Relock number) a = tt
+same_text (op_of.Refresh number) a = tt
+same_text (op_of.Unlock number) a = tt
 
 pub looks_told : (asked : SessionOp) (a got : Answer) → got ≡ told a → LooksSame asked got a
 looks_told asked a got is =
-    subst (λ (x : Answer). LooksSame asked x a) (sym is) (record { status = refl; lock = refl; reason = refl; text = same_text asked a })
+    subst (λ (x : Answer). LooksSame asked x a) (sym is)
+    (record { status = refl; lock = λ conflict. refl; reason = λ conflict. refl; text = λ ok. same_text asked a })

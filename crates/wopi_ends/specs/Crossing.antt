@@ -26,8 +26,8 @@ pub record IsOwn (desktop : Desktop) (client : Client) (sent : Sent) (t : Turn) 
   pub asks : AsksFor t.request (ask_of desktop client sent)
   pub body_is : t.request.body ≡ body sent
 
--- What is read is what was said, in all that the session sees of it: the status, the lock, the reason, and, but of CheckFileInfo, the version and
--- the body. What else a reply's fields say doesn't count.
+-- What is read is what was said, in all that the session sees of it: the status, of a 409 the lock id and the reason, of a 200 to Get the
+-- version and the body, and of one to Put the version. What else a reply says doesn't count.
 abbrev pub IsReadAs : Sent → Said → Answer → Type 0
 IsReadAs sent (answer a) got = LooksSame (operation sent) got a
 IsReadAs sent no_memory got = got.status ≡ 503

@@ -1,13 +1,17 @@
 -- A session does the same about answers that look the same to it, and about those that tell a fault by their status alone.
-use Rattle.std.proofs.Common.{◌≡◌, ◌≢◌, ℕ, ◌==◌, ◌+◌, Bool, true, false, ◌&&◌, cond, List, Option, None, Some, refl, sym, subst}
-use Rattle.std.proofs.lemmas.Bool.{ne_eqb}
+use Rattle.std.proofs.Common.{◌≡◌, ◌≢◌, ℕ, ◌==◌, ◌+◌, Bool, true, false, ◌&&◌, cond, List, Option, None, Some, refl, sym, ap, subst, ◌∙◌}
+use Rattle.std.proofs.lemmas.Bool.{eqb-true, ne_eqb}
+use Rattle.std.specs.Str.{bytes_eq}
+use Rattle.wopi_text.specs.declared.reason.Reason.{Reason}
+use Rattle.wopi_text.specs.declared.lock_field.LockField.{LockField}
+use Rattle.wopi_text.specs.declared.lock_field.LockField.TheVariants as field
 use Rattle.wopi_model.specs.Step.{bare}
 use Rattle.wopi_acts.specs.Answers.{ruling_told}
 use Rattle.wopi_headers.specs.declared.answer.Answer.{Answer}
-use Rattle.wopi_headers.specs.declared.answer.BodyKind.{BodyKind}
 use Rattle.save_session.specs.LockIds.{lock_id}
 use Rattle.save_session.specs.declared.input.Input.{Input}
 use Rattle.save_session.specs.declared.input.Input.TheVariants as input
+use Rattle.save_session.specs.declared.output.Outcome.{Outcome}
 use Rattle.save_session.specs.declared.output.Outcome.TheVariants as outcome
 use Rattle.save_session.specs.declared.state.State.{State}
 use Rattle.save_session.specs.declared.state.Waiting.{Waiting}
@@ -19,16 +23,19 @@ use Rattle.save_session.specs.declared.state.Goal.TheVariants as goal
 use Rattle.save_session.specs.declared.state.SessionOp.{SessionOp}
 use Rattle.save_session.specs.declared.state.SessionOp.TheVariants as op
 use Rattle.save_session.specs.Session.{ignores, sends, tells, ends, has_next, refused, was_read, continues_with, continues, names, says_spent, loses, reply_to, answered_while, stepped}
-use Rattle.wopi_world.specs.Talks.{LooksSame}
+use Rattle.wopi_world.specs.Talks.{IsSameText, id_in, LooksSame}
+
+text_itself : (asked : SessionOp) (answer : Answer) → IsSameText asked answer answer
+text_itself op.Info answer = tt
+text_itself op.TakeLock answer = tt
+text_itself op.Get answer = (refl, refl)
+text_itself (op.Put number) answer = refl
+text_itself (op.Relock number) answer = tt
+text_itself (op.Refresh number) answer = tt
+text_itself (op.Unlock number) answer = tt
 
 pub looks_itself : (asked : SessionOp) (answer : Answer) → LooksSame asked answer answer
-looks_itself op.Info answer = record { status = refl; lock = refl; reason = refl; text = tt }
-looks_itself op.TakeLock answer = record { status = refl; lock = refl; reason = refl; text = (refl, refl) }
-looks_itself op.Get answer = record { status = refl; lock = refl; reason = refl; text = (refl, refl) }
-looks_itself (op.Put number) answer = record { status = refl; lock = refl; reason = refl; text = (refl, refl) }
-looks_itself (op.Relock number) answer = record { status = refl; lock = refl; reason = refl; text = (refl, refl) }
-looks_itself (op.Refresh number) answer = record { status = refl; lock = refl; reason = refl; text = (refl, refl) }
-looks_itself (op.Unlock number) answer = record { status = refl; lock = refl; reason = refl; text = (refl, refl) }
+looks_itself asked answer = record { status = refl; lock = λ conflict. refl; reason = λ conflict. refl; text = λ ok. text_itself asked answer }
 
 abbrev pub IsSameEffect : Effect → Effect → Type 0
 IsSameEffect (Sends asked) (Sends other) = asked ≡ other
@@ -49,86 +56,153 @@ same turn = record { session = refl; effect = same_effect turn.effect }
     same_effect (Tells told) = refl
     same_effect (Ignores given) = tt
 
-both : (test : Bool) (x y x' y' : Turn) → IsSameTurn x x' → IsSameTurn y y' → IsSameTurn (cond test x y) (cond test x' y')
-both true x y x' y' p q = p
-both false x y x' y' p q = q
+both : (test : Bool) (x y x' y' : Turn) → (test ≡ true → IsSameTurn x x') → (test ≡ false → IsSameTurn y y') → IsSameTurn (cond test x y) (cond test x' y')
+both true x y x' y' p q = p refl
+both false x y x' y' p q = q refl
 
 handed_back : (session : State) (one other : Input) → IsSameTurn (ignores session one) (ignores session other)
 handed_back session one other = record { session = refl; effect = tt }
 
-module _ (nonce : List ℕ) (session : State) (purpose : Goal) (reply : Answer) (kind : BodyKind) where
-  abbrev other : Answer
-  other = record reply { kind = kind }
+-- a field names the ids that are in it
+abbrev is_id : Option (List ℕ) → List ℕ → Bool
+is_id None id = false
+is_id (Some held) id = bytes_eq held id
 
-  was_read_same : (purpose : Goal) → IsSameTurn (was_read session purpose reply) (was_read session purpose other)
-  was_read_same goal.Start = same (was_read session goal.Start reply)
-  was_read_same goal.Read = same (was_read session goal.Read reply)
-  was_read_same goal.Save = same (was_read session goal.Save reply)
-  was_read_same goal.Refresh = same (was_read session goal.Refresh reply)
-  was_read_same goal.Close = same (was_read session goal.Close reply)
+names_in : (lock : LockField) (id : List ℕ) → names lock id ≡ is_id (id_in lock) id
+names_in field.Absent id = refl
+names_in field.Empty id = refl
+names_in (field.Held held) id = refl
 
-  goes_on_same : (purpose : Goal) → IsSameTurn (continues_with session purpose reply) (continues_with session purpose other)
-  goes_on_same goal.Start = handed_back session (input.Reply reply) (input.Reply other)
-  goes_on_same goal.Read = handed_back session (input.Reply reply) (input.Reply other)
-  goes_on_same goal.Save = same (continues_with session goal.Save reply)
-  goes_on_same goal.Refresh = same (continues_with session goal.Refresh reply)
-  goes_on_same goal.Close = same (continues_with session goal.Close reply)
+pub names_same : (lock other : LockField) (id : List ℕ) → id_in lock ≡ id_in other → names lock id ≡ names other id
+names_same lock other id same = names_in lock id ∙ ap (λ (held : Option (List ℕ)). is_id held id) same ∙ sym (names_in other id)
 
-  continues_same : IsSameTurn (continues session purpose reply) (continues session purpose other)
+-- an answer of the same status, in which the session sees no difference, and whose lock field is the same at a 409
+module _ (nonce : List ℕ) (session : State) (purpose : Goal) (one other : Answer) (lock : one.status ≡ 409 → one.lock ≡ other.lock) (reason : one.status ≡ 409 → one.reason ≡ other.reason) where
+  abbrev like : Answer
+  like = record other { status = one.status }
+
+  abbrev conflicts : Bool
+  conflicts = one.status == 409
+
+  ends_same : (told told' : Outcome) → told ≡ told' → IsSameTurn (ends session told) (ends session told')
+  ends_same told told' is = record { session = refl; effect = is }
+
+  tells_same : (told told' : Outcome) → told ≡ told' → IsSameTurn (tells session told) (tells session told')
+  tells_same told told' is = record { session = refl; effect = is }
+
+  loses_same : conflicts ≡ true → IsSameTurn (loses session one) (loses session like)
+  loses_same e =
+      let conflict = eqb-true one.status 409 e in
+      let locks = lock conflict in
+      let reasons = reason conflict in
+      let told : outcome.LockLost one.lock one.reason ≡ outcome.LockLost other.lock other.reason = λ i. outcome.LockLost (locks i) (reasons i) in
+      ends_same (outcome.LockLost one.lock one.reason) (outcome.LockLost other.lock other.reason) told
+
+  -- where the version and the body are the same
+  abbrev read_as : Answer
+  read_as = record like { version = one.version; body = one.body }
+
+  was_read_as : (purpose : Goal) → IsSameTurn (was_read session purpose one) (was_read session purpose read_as)
+  was_read_as goal.Start = same (was_read session goal.Start one)
+  was_read_as goal.Read = same (was_read session goal.Read one)
+  was_read_as goal.Save = same (was_read session goal.Save one)
+  was_read_as goal.Refresh = same (was_read session goal.Refresh one)
+  was_read_as goal.Close = same (was_read session goal.Close one)
+
+  was_read_same : one.version ≡ other.version → one.body ≡ other.body → IsSameTurn (was_read session purpose one) (was_read session purpose like)
+  was_read_same versions bodies =
+      let equal : read_as ≡ like =
+      λ i. record { status = one.status; lock = other.lock; reason = other.reason; version = versions i; kind = other.kind; body = bodies i } in
+      subst (λ (a : Answer). IsSameTurn (was_read session purpose one) (was_read session purpose a)) equal (was_read_as purpose)
+
+  goes_on_same : (purpose : Goal) → IsSameTurn (continues_with session purpose one) (continues_with session purpose like)
+  goes_on_same goal.Start = handed_back session (input.Reply one) (input.Reply like)
+  goes_on_same goal.Read = handed_back session (input.Reply one) (input.Reply like)
+  goes_on_same goal.Save = same (continues_with session goal.Save one)
+  goes_on_same goal.Refresh = same (continues_with session goal.Refresh one)
+  goes_on_same goal.Close = same (continues_with session goal.Close one)
+
+  continues_same : IsSameTurn (continues session purpose one) (continues session purpose like)
   continues_same =
-      both (has_next session.number) (continues_with session purpose reply) (ignores session (input.Reply reply)) (continues_with session purpose other) (ignores session (input.Reply other))
-      (goes_on_same purpose) (handed_back session (input.Reply reply) (input.Reply other))
+      both (has_next session.number) (continues_with session purpose one) (ignores session (input.Reply one)) (continues_with session purpose like) (ignores session (input.Reply like))
+      (λ e. goes_on_same purpose) (λ e. handed_back session (input.Reply one) (input.Reply like))
 
-  kind_same : (asked : SessionOp) → IsSameTurn (reply_to nonce session purpose asked reply) (reply_to nonce session purpose asked other)
-  kind_same op.Info = same (reply_to nonce session purpose op.Info reply)
-  kind_same op.TakeLock = same (reply_to nonce session purpose op.TakeLock reply)
-  kind_same op.Get =
-      both (reply.status == 200) (was_read session purpose reply) (refused session reply) (was_read session purpose other) (refused session other)
-      (was_read_same purpose) (same (refused session reply))
-  kind_same (op.Put number) = same (reply_to nonce session purpose (op.Put number) reply)
-  kind_same (op.Relock number) =
-      let test = has_next session.number && names reply.lock (lock_id nonce (session.number + 1)) in
-      let lost = cond test (continues session purpose reply) (loses session reply) in
-      let lost' = cond test (continues session purpose other) (loses session other) in
-      both (reply.status == 200) (continues session purpose reply) (cond (reply.status == 409) lost (refused session reply))
-      (continues session purpose other) (cond (reply.status == 409) lost' (refused session other)) continues_same
-      (both (reply.status == 409) lost (refused session reply) lost' (refused session other)
-      (both test (continues session purpose reply) (loses session reply) (continues session purpose other) (loses session other) continues_same (same (loses session reply)))
-      (same (refused session reply)))
-  kind_same (op.Refresh number) = same (reply_to nonce session purpose (op.Refresh number) reply)
-  kind_same (op.Unlock number) = same (reply_to nonce session purpose (op.Unlock number) reply)
+  abbrev next : List ℕ
+  next = lock_id nonce (session.number + 1)
 
-by_kind : (nonce : List ℕ) (session : State) (purpose : Goal) (asked : SessionOp) (one other : Answer) → one.status ≡ other.status → one.lock ≡ other.lock
-    → one.reason ≡ other.reason → one.version ≡ other.version → one.body ≡ other.body
-    → IsSameTurn (reply_to nonce session purpose asked one) (reply_to nonce session purpose asked other)
-by_kind nonce session purpose asked one other status lock reason version body =
-    let equal : record one { kind = other.kind } ≡ other =
-    λ i. record { status = status i; lock = lock i; reason = reason i; version = version i; kind = other.kind; body = body i } in
-    subst (λ (a : Answer). IsSameTurn (reply_to nonce session purpose asked one) (reply_to nonce session purpose asked a)) equal
-    (kind_same nonce session purpose one other.kind asked)
+  relocked_same : conflicts ≡ true → IsSameTurn (cond (has_next session.number && names one.lock next) (continues session purpose one) (loses session one))
+      (cond (has_next session.number && names like.lock next) (continues session purpose like) (loses session like))
+  relocked_same e =
+      let named : names one.lock next ≡ names like.lock next = ap (λ (l : LockField). names l next) (lock (eqb-true one.status 409 e)) in
+      subst (λ (b : Bool). IsSameTurn (cond (has_next session.number && names one.lock next) (continues session purpose one) (loses session one))
+      (cond (has_next session.number && b) (continues session purpose like) (loses session like))) named
+      (both (has_next session.number && names one.lock next) (continues session purpose one) (loses session one) (continues session purpose like) (loses session like)
+      (λ f. continues_same) (λ f. loses_same e))
 
--- what comes of CheckFileInfo's answer, by its status
-abbrev after_info : State → Goal → ℕ → Turn
-after_info session purpose status =
-    cond (status == 200) (sends session purpose op.TakeLock)
-    (cond (status == 401) (ends session outcome.TokenDead) (cond (status == 404) (ends session outcome.Gone) (tells session (outcome.HostFault status))))
+  unlocked_same : conflicts ≡ true → IsSameTurn (cond (says_spent one.reason) (ends session outcome.Closed) (loses session one))
+      (cond (says_spent like.reason) (ends session outcome.Closed) (loses session like))
+  unlocked_same e =
+      subst (λ (r : Option Reason). IsSameTurn (cond (says_spent one.reason) (ends session outcome.Closed) (loses session one))
+      (cond (says_spent r) (ends session outcome.Closed) (loses session like))) (reason (eqb-true one.status 409 e))
+      (both (says_spent one.reason) (ends session outcome.Closed) (loses session one) (ends session outcome.Closed) (loses session like)
+      (λ f. same (ends session outcome.Closed)) (λ f. loses_same e))
+
+  conflict_same : conflicts ≡ true → IsSameTurn (tells session (outcome.Conflict one.lock one.reason)) (tells session (outcome.Conflict other.lock other.reason))
+  conflict_same e =
+      let conflict = eqb-true one.status 409 e in
+      let locks = lock conflict in
+      let reasons = reason conflict in
+      let told : outcome.Conflict one.lock one.reason ≡ outcome.Conflict other.lock other.reason = λ i. outcome.Conflict (locks i) (reasons i) in
+      tells_same (outcome.Conflict one.lock one.reason) (outcome.Conflict other.lock other.reason) told
+
+  -- what comes where the operation wasn't done
+  or_refused : (x x' : Turn) → (conflicts ≡ true → IsSameTurn x x') → (y : Turn) → IsSameTurn (cond conflicts x y) (cond conflicts x' y)
+  or_refused x x' h y = both conflicts x y x' y h (λ e. same y)
+
+  by_op : (asked : SessionOp) → (one.status ≡ 200 → IsSameText asked one other) → IsSameTurn (reply_to nonce session purpose asked one) (reply_to nonce session purpose asked like)
+  by_op op.Info text = same (reply_to nonce session purpose op.Info one)
+  by_op op.TakeLock text =
+      let lost = tells session (outcome.Conflict one.lock one.reason) in
+      let lost' = tells session (outcome.Conflict other.lock other.reason) in
+      both (one.status == 200) (sends session purpose op.Get) (cond conflicts lost (refused session one)) (sends session purpose op.Get) (cond conflicts lost' (refused session one))
+      (λ e. same (sends session purpose op.Get)) (λ e. or_refused lost lost' conflict_same (refused session one))
+  by_op op.Get text =
+      both (one.status == 200) (was_read session purpose one) (refused session one) (was_read session purpose like) (refused session one)
+      (λ e. let t = text (eqb-true one.status 200 e) in was_read_same t.0 t.1) (λ e. same (refused session one))
+  by_op (op.Put number) text =
+      let rest = cond (one.status == 413) (tells session outcome.TooLarge) (refused session one) in
+      both (one.status == 200) (tells session (outcome.Saved one.version)) (cond conflicts (loses session one) rest)
+      (tells session (outcome.Saved other.version)) (cond conflicts (loses session like) rest)
+      (λ e. tells_same (outcome.Saved one.version) (outcome.Saved other.version) (ap (λ (v : Option ℕ). outcome.Saved v) (text (eqb-true one.status 200 e))))
+      (λ e. or_refused (loses session one) (loses session like) loses_same rest)
+  by_op (op.Relock number) text =
+      let lost = cond (has_next session.number && names one.lock next) (continues session purpose one) (loses session one) in
+      let lost' = cond (has_next session.number && names like.lock next) (continues session purpose like) (loses session like) in
+      both (one.status == 200) (continues session purpose one) (cond conflicts lost (refused session one)) (continues session purpose like) (cond conflicts lost' (refused session one))
+      (λ e. continues_same) (λ e. or_refused lost lost' relocked_same (refused session one))
+  by_op (op.Refresh number) text =
+      let done = tells session outcome.Refreshed in
+      both (one.status == 200) done (cond conflicts (loses session one) (refused session one)) done (cond conflicts (loses session like) (refused session one))
+      (λ e. same done) (λ e. or_refused (loses session one) (loses session like) loses_same (refused session one))
+  by_op (op.Unlock number) text =
+      let done = ends session outcome.Closed in
+      let lost = cond (says_spent one.reason) done (loses session one) in
+      let lost' = cond (says_spent like.reason) done (loses session like) in
+      both (one.status == 200) done (cond conflicts lost (refused session one)) done (cond conflicts lost' (refused session one))
+      (λ e. same done) (λ e. or_refused lost lost' unlocked_same (refused session one))
 
 looks_same : (nonce : List ℕ) (session : State) (purpose : Goal) (asked : SessionOp) (one other : Answer) → LooksSame asked one other
-    → IsSameTurn (reply_to nonce session purpose asked one) (reply_to nonce session purpose asked other)
-looks_same nonce session purpose op.Info one other h =
-    subst (λ (n : ℕ). IsSameTurn (after_info session purpose one.status) (after_info session purpose n)) h.status (same (after_info session purpose one.status))
-looks_same nonce session purpose op.TakeLock one other h = by_kind nonce session purpose op.TakeLock one other h.status h.lock h.reason h.text.0 h.text.1
-looks_same nonce session purpose op.Get one other h = by_kind nonce session purpose op.Get one other h.status h.lock h.reason h.text.0 h.text.1
-looks_same nonce session purpose (op.Put number) one other h = by_kind nonce session purpose (op.Put number) one other h.status h.lock h.reason h.text.0 h.text.1
-looks_same nonce session purpose (op.Relock number) one other h = by_kind nonce session purpose (op.Relock number) one other h.status h.lock h.reason h.text.0 h.text.1
-looks_same nonce session purpose (op.Refresh number) one other h = by_kind nonce session purpose (op.Refresh number) one other h.status h.lock h.reason h.text.0 h.text.1
-looks_same nonce session purpose (op.Unlock number) one other h = by_kind nonce session purpose (op.Unlock number) one other h.status h.lock h.reason h.text.0 h.text.1
+    → (one.status ≡ 409 → one.lock ≡ other.lock) → IsSameTurn (reply_to nonce session purpose asked one) (reply_to nonce session purpose asked other)
+looks_same nonce session purpose asked one other h lock =
+    subst (λ (n : ℕ). IsSameTurn (reply_to nonce session purpose asked one) (reply_to nonce session purpose asked (record other { status = n }))) h.status
+    (by_op nonce session purpose one other lock h.reason asked h.text)
 
+-- where the lock field is the very same too
 pub answered_same : (nonce : List ℕ) (session : State) (waiting : Waiting) (one other : Answer) → session.waits ≡ Some waiting → LooksSame waiting.op one other
-    → IsSameTurn (stepped nonce session (input.Reply one)) (stepped nonce session (input.Reply other))
-answered_same nonce session waiting one other waits h =
+    → (one.status ≡ 409 → one.lock ≡ other.lock) → IsSameTurn (stepped nonce session (input.Reply one)) (stepped nonce session (input.Reply other))
+answered_same nonce session waiting one other waits h lock =
     subst (λ (w : Option Waiting). IsSameTurn (answered_while nonce w session one) (answered_while nonce w session other)) (sym waits)
-    (looks_same nonce session waiting.goal waiting.op one other h)
+    (looks_same nonce session waiting.goal waiting.op one other h lock)
 
 -- where nothing waits, an answer is handed back
 pub unasked_same : (nonce : List ℕ) (session : State) (one other : Answer) → session.waits ≡ None

@@ -280,7 +280,7 @@ talk_2 : TalksOver client after_1 came_1 heard_1 items_1
 unfolding lock_id
 talk_2 =
     answered after_1 came_1 (record { sent = Info; ruling = info 1 1 }) (record { waiting = waits_for goal.Start op.Info; waits = refl; sent_is = refl }) info_answer heard_2 items_1
-    (contains_at came_1 0 (record { sent = Info; ruling = info 1 1 }) refl) (record { status = refl; lock = refl; reason = refl; text = tt }) talk_3
+    (contains_at came_1 0 (record { sent = Info; ruling = info 1 1 }) refl) (record { status = refl; lock = λ conflict. refl; reason = λ conflict. refl; text = λ ok. tt }) talk_3
 
 talk_1 : TalksOver client after_1 came_0 heard_1 items_0
 unfolding lock_id

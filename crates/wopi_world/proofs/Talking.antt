@@ -3,6 +3,7 @@ use Rattle.std.proofs.Common.{◌≡◌, ◌≢◌, ◌⊎◌, ℕ, ◌+◌, ◌
 use Rattle.std.proofs.lemmas.List.{append_assoc, append-nil}
 use Rattle.std.specs.Str.{bytes_eq}
 use Rattle.std.specs.List.{Contains}
+use Rattle.wopi_text.specs.declared.lock_field.LockField.{LockField}
 use Rattle.wopi_model.specs.declared.calls.Act.{Act}
 use Rattle.wopi_model.specs.declared.calls.Act.TheVariants as act
 use Rattle.wopi_model.specs.declared.calls.Call.{Call}
@@ -21,6 +22,7 @@ use Rattle.save_session.specs.declared.input.Input.{Input}
 use Rattle.save_session.specs.declared.input.Input.TheVariants as input
 use Rattle.save_session.specs.declared.output.Outcome.{Outcome}
 use Rattle.save_session.specs.declared.state.SessionOp.{SessionOp}
+use Rattle.save_session.specs.declared.state.SessionOp.TheVariants as op
 use Rattle.save_session.specs.declared.state.State.{State}
 use Rattle.save_session.specs.declared.state.Waiting.{Waiting}
 use Rattle.save_session.specs.declared.state.Effect.{Effect}
@@ -32,8 +34,8 @@ use Rattle.wopi_world.specs.Requests.{Client, Start, Read, Save, Refresh, Close,
 use Rattle.wopi_world.specs.World.{Told}
 use Rattle.wopi_world.specs.Safe.{IsSave, SavesAreOrdered}
 use Rattle.wopi_world.specs.Sessions.{IsDead}
-use Rattle.wopi_world.specs.Talks.{LooksSame, Speaker, first_speaker, does, turns, hears, hears_all, told_by, Awaits, Came, IsNoReply, IsOfOthers, TalksOver, ends, prompted, answered, refused, arrives, passes, IsTalkOver, RestartsLater, IsSafeFor}
-use Rattle.wopi_world.proofs.Seeing.{IsSameEffect, IsSameTurn, answered_same, unasked_same, faulted_same}
+use Rattle.wopi_world.specs.Talks.{IsSameText, id_in, LooksSame, Speaker, first_speaker, does, turns, hears, hears_all, told_by, Awaits, Came, IsNoReply, IsOfOthers, TalksOver, ends, prompted, answered, refused, arrives, passes, IsTalkOver, RestartsLater, IsSafeFor}
+use Rattle.wopi_world.proofs.Seeing.{IsSameEffect, IsSameTurn, names_same, answered_same, unasked_same, faulted_same}
 use Rattle.wopi_world.proofs.Held.{WasHeld, held_id, own_number, under-settled, gone-settled}
 use Rattle.wopi_world.proofs.Acting.{IsReady, by_other, by_session}
 use Rattle.wopi_world.proofs.Moving.{own_file, HasMark, ComesAt}
@@ -88,6 +90,36 @@ bare_holds client start shard history (Put j d) status a b = λ e. absurd (a e)
 bare_holds client start shard history (Relock j) status a b = (λ e. absurd (a e), λ e n. absurd (b e))
 bare_holds client start shard history (RefreshLock j) status a b = tt
 bare_holds client start shard history (Unlock j) status a b = tt
+
+-- the ruling with another lock field
+abbrev with_lock : Ruling → LockField → Ruling
+with_lock ruling lock = record ruling { lock = lock }
+
+-- a reply whose lock field has the same id holds as well
+reply_with_lock : (client : Client) (start shard : Shard) (history : List Item) (sent : Sent) (ruling : Ruling) (lock : LockField) →
+    (ruling.status ≡ 409 → id_in lock ≡ id_in ruling.lock) → ReplyHolds client start shard history sent ruling → ReplyHolds client start shard history sent (with_lock ruling lock)
+reply_with_lock client start shard history Info ruling lock same h = h
+reply_with_lock client start shard history TakeLock ruling lock same h = h
+reply_with_lock client start shard history Get ruling lock same h = h
+reply_with_lock client start shard history (Put j d) ruling lock same h = h
+reply_with_lock client start shard history (Relock j) ruling lock same h =
+    (h.0, λ conflict named. h.1 conflict (sym (names_same lock ruling.lock (lock_id client.nonce (j + 1)) (same conflict)) ∙ named))
+reply_with_lock client start shard history (RefreshLock j) ruling lock same h = h
+reply_with_lock client start shard history (Unlock j) ruling lock same h = h
+
+text_with_lock : (asked : SessionOp) (answer : Answer) (ruling : Ruling) (lock : LockField) → IsSameText asked answer (ruling_told ruling) → IsSameText asked answer (ruling_told (with_lock ruling lock))
+text_with_lock op.Info answer ruling lock h = h
+text_with_lock op.TakeLock answer ruling lock h = h
+text_with_lock op.Get answer ruling lock h = h
+text_with_lock (op.Put number) answer ruling lock h = h
+text_with_lock (op.Relock number) answer ruling lock h = h
+text_with_lock (op.Refresh number) answer ruling lock h = h
+text_with_lock (op.Unlock number) answer ruling lock h = h
+
+-- and an answer looks like what tells it with the answer's own lock field
+looks_with_lock : (asked : SessionOp) (answer : Answer) (ruling : Ruling) → LooksSame asked answer (ruling_told ruling) → LooksSame asked answer (ruling_told (with_lock ruling answer.lock))
+looks_with_lock asked answer ruling h =
+    record { status = h.status; lock = λ conflict. refl; reason = h.reason; text = λ ok. text_with_lock asked answer ruling answer.lock (h.text ok) }
 
 contains_none : {T : Type 0} (x : T) → Contains [] x → ⊥
 contains_none x h = absurd (omega (arith, h.1))
@@ -238,12 +270,14 @@ module _ (client : Client) (start : Shard) where
       Holds client start shard history speaker came → Contains came one → LooksSame awaits.waiting.op answer (ruling_told one.ruling) →
       Holds client start shard history (hears client speaker (input.Reply answer)) came
   kept-answered shard history speaker came one awaits answer h there looks =
-      kept-told shard history speaker came answer one.ruling h (λ w e.
+      kept-told shard history speaker came answer (with_lock one.ruling answer.lock) h (λ w e.
       let both : Some awaits.waiting ≡ Some w = sym awaits.waits ∙ e in
-      let same : awaits.waiting ≡ w = cc in (
-        subst (λ (x : Sent). ReplyHolds client start shard history x one.ruling) (awaits.sent_is ∙ ap (λ (x : Waiting). sent_with speaker.session.body x.op) same) (h.came_holds one there),
-        answered_same client.nonce speaker.session w answer (ruling_told one.ruling) e
-            (subst (λ (x : Waiting). LooksSame x.op answer (ruling_told one.ruling)) same looks),
+      let same : awaits.waiting ≡ w = cc in
+      let lock = λ (conflict : one.ruling.status ≡ 409). looks.lock (looks.status ∙ conflict) in (
+        reply_with_lock client start shard history (sent_with speaker.session.body w.op) one.ruling answer.lock lock
+            (subst (λ (x : Sent). ReplyHolds client start shard history x one.ruling) (awaits.sent_is ∙ ap (λ (x : Waiting). sent_with speaker.session.body x.op) same) (h.came_holds one there)),
+        answered_same client.nonce speaker.session w answer (ruling_told (with_lock one.ruling answer.lock)) e
+            (subst (λ (x : Waiting). LooksSame x.op answer (ruling_told (with_lock one.ruling answer.lock))) same (looks_with_lock awaits.waiting.op answer one.ruling looks)) (λ conflict. refl),
       ))
 
   kept-refused : (shard : Shard) (history : List Item) (speaker : Speaker) (came : List Came) (answer : Answer) → Holds client start shard history speaker came →
@@ -393,7 +427,8 @@ no_restart [] (one ∷ before) later moment first e = cc
 no_restart (item ∷ items) [] later moment first e = cc
 no_restart (item ∷ items) (one ∷ before) later moment first e = let rest : before ++ Restarted moment first ∷ later ≡ map Ran items = cc in no_restart items before later moment first rest
 
-allowed_along : (shard : Shard) (items : List run.Item) → run.Along run.IsAllowed shard items → Along IsAllowed shard (map Ran items)
+-- what is allowed in a run is allowed over restarts
+pub allowed_along : (shard : Shard) (items : List run.Item) → run.Along run.IsAllowed shard items → Along IsAllowed shard (map Ran items)
 allowed_along shard [] h = tt
 allowed_along shard (item ∷ items) h = (h.0, allowed_along (run.happens shard item) items h.1)
 

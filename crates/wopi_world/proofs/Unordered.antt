@@ -79,7 +79,7 @@ unfolding lock_id entry_at
 is_talk =
     record {
       own_or_others = (inr (0, Info, refl, refl), (inr (2, Get, refl, refl), (inl (λ here number e. e), (inr (1, TakeLock, refl, refl), (inr (3, Put 1 (65 ∷ []), refl, refl), tt)))));
-      told = (record { sent = Info; at = 0; entry = entry_at 1 Info (info 1 1); awaits = record { waiting = waits_for goal.Start op.Info; waits = refl; sent_is = refl }; made = refl; call = refl; looks_same = record { status = refl; lock = refl; reason = refl; text = tt } }, (record { sent = TakeLock; at = 3; entry = entry_at 4 TakeLock (ok 2); awaits = record { waiting = waits_for goal.Start op.TakeLock; waits = refl; sent_is = refl }; made = refl; call = refl; looks_same = looks_itself (operation TakeLock) (ruling_told (ok 2)) }, (record { sent = Get; at = 1; entry = entry_at 2 Get (read 1 (49 ∷ [])); awaits = record { waiting = waits_for goal.Start op.Get; waits = refl; sent_is = refl }; made = refl; call = refl; looks_same = looks_itself (operation Get) (ruling_told (read 1 (49 ∷ []))) }, (record { sent = Put 1 (65 ∷ []); at = 4; entry = entry_at 5 (Put 1 (65 ∷ [])) (ok 3); awaits = record { waiting = waits_for goal.Save (op.Put 1); waits = refl; sent_is = refl }; made = refl; call = refl; looks_same = looks_itself (operation (Put 1 (65 ∷ []))) (ruling_told (ok 3)) }, tt))));
+      told = (record { sent = Info; at = 0; entry = entry_at 1 Info (info 1 1); awaits = record { waiting = waits_for goal.Start op.Info; waits = refl; sent_is = refl }; made = refl; call = refl; looks_same = record { status = refl; lock = λ conflict. refl; reason = λ conflict. refl; text = λ ok. tt } }, (record { sent = TakeLock; at = 3; entry = entry_at 4 TakeLock (ok 2); awaits = record { waiting = waits_for goal.Start op.TakeLock; waits = refl; sent_is = refl }; made = refl; call = refl; looks_same = looks_itself (operation TakeLock) (ruling_told (ok 2)) }, (record { sent = Get; at = 1; entry = entry_at 2 Get (read 1 (49 ∷ [])); awaits = record { waiting = waits_for goal.Start op.Get; waits = refl; sent_is = refl }; made = refl; call = refl; looks_same = looks_itself (operation Get) (ruling_told (read 1 (49 ∷ []))) }, (record { sent = Put 1 (65 ∷ []); at = 4; entry = entry_at 5 (Put 1 (65 ∷ [])) (ok 3); awaits = record { waiting = waits_for goal.Save (op.Put 1); waits = refl; sent_is = refl }; made = refl; call = refl; looks_same = looks_itself (operation (Put 1 (65 ∷ []))) (ruling_told (ok 3)) }, tt))));
     }
 
 abbrev read_now : Option (List ℕ)

@@ -1,6 +1,8 @@
 -- One session over one shard, with no world around them: what the session heard, what happened in the shard, and in which order.
-use Rattle.std.specs.Prelude.{◌≡◌, ◌≢◌, ⊤, ℕ, ◌<◌, List, [], ◌∷◌, ◌++◌, Some, unwrap_or}
+use Rattle.std.specs.Prelude.{◌≡◌, ◌≢◌, ⊤, ℕ, ◌<◌, List, [], ◌∷◌, ◌++◌, Option, None, Some, unwrap_or}
 use Rattle.std.specs.List.{slice_get, Contains}
+use Rattle.wopi_text.specs.declared.lock_field.LockField.{LockField}
+use Rattle.wopi_text.specs.declared.lock_field.LockField.TheVariants as field
 use Rattle.wopi_model.specs.declared.calls.Ruling.{Ruling}
 use Rattle.wopi_model.specs.Shard.{Shard, Step, Entry}
 use Rattle.wopi_headers.specs.declared.answer.Answer.{Answer}
@@ -21,17 +23,23 @@ use Rattle.wopi_world.specs.World.{Told}
 use Rattle.wopi_world.specs.Safe.{SavesAreOrdered}
 use Rattle.wopi_world.specs.Sessions.{KeepsIds, IsUse}
 
--- of CheckFileInfo's answer a session sees neither version nor body
+-- In an answer of 200 to the operation the session sees the version and the body of a Get, the version of a Put, and else nothing.
 abbrev pub IsSameText : SessionOp → Answer → Answer → Type 0
-IsSameText op.Info one other = ⊤
-IsSameText _ one other = (one.version ≡ other.version) × (one.body ≡ other.body)
+IsSameText op.Get one other = (one.version ≡ other.version) × (one.body ≡ other.body)
+IsSameText (op.Put number) one other = one.version ≡ other.version
+IsSameText _ one other = ⊤
 
--- a session that waits for the operation sees no difference between the answers
+-- the lock id in the field; a field that is empty has none, as one that isn't there
+abbrev pub id_in : LockField → Option (List ℕ)
+id_in (field.Held id) = Some id
+id_in _ = None
+
+-- A session that waits for the operation sees no difference between the answers: of a 409 it sees the lock id and the reason.
 pub record LooksSame (asked : SessionOp) (one other : Answer) : Type 0 where
   pub status : one.status ≡ other.status
-  pub lock : one.lock ≡ other.lock
-  pub reason : one.reason ≡ other.reason
-  pub text : IsSameText asked one other
+  pub lock : one.status ≡ 409 → id_in one.lock ≡ id_in other.lock
+  pub reason : one.status ≡ 409 → one.reason ≡ other.reason
+  pub text : one.status ≡ 200 → IsSameText asked one other
 
 -- a session, with all that it sent and told so far
 pub record Speaker : Type 0 where
