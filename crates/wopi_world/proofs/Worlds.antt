@@ -558,11 +558,11 @@ session_talks setting events s client valid mine =
 
 -- the whole
 
-keeps_all : (shard : Shard) (item : Item) → IsAllowed shard item → KeepsAll shard item
+pub keeps_all : (shard : Shard) (item : Item) → IsAllowed shard item → KeepsAll shard item
 keeps_all shard (Ran item) allowed = keeps_contents shard item allowed
 keeps_all shard (Restarted moment first) allowed = λ name. same_reopened first (shard.files name).contents
 
-tells_all : (shard : Shard) (item : Item) → IsAllowed shard item → TellsAll shard item
+pub tells_all : (shard : Shard) (item : Item) → IsAllowed shard item → TellsAll shard item
 tells_all shard (Ran item) allowed = tells_why shard item allowed
 tells_all shard (Restarted moment first) allowed = tt
 
