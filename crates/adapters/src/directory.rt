@@ -9,6 +9,7 @@ use std::alloc::Global;
 use std::collections::BTreeSet;
 use std::fs::{self, File, Metadata, OpenFile, OpenOptions};
 use std::io::{self, ErrorKind, Write};
+use std::mem;
 use std::os::unix::fs::{OpenOptionsExt, PermissionsExt};
 use std::rt::Files;
 use wopi_text::{Bytes, Memory};
@@ -40,8 +41,20 @@ pub struct DirFolder<'a, R> {
     path: String,
     temporary: String,
     faults: u64,
+    // What the last fault was, and at which path.
+    cause: Option<io::Error>,
+    place: String,
     ghost path_fits: { string_len folder + 256 ≤ string_capacity path },
     ghost temporary_fits: { string_len folder + 256 ≤ string_capacity temporary },
+    ghost place_fits: { string_len folder + 256 ≤ string_capacity place },
+}
+
+/// Why a call failed.
+#[derive(Clone, Copy)]
+pub struct Cause<'a> {
+    /// The path of the folder, or that of the file in it.
+    pub path: &'a str,
+    pub error: io::Error,
 }
 
 impl<'a, R: Files> DirFolder<'a, R> {
@@ -55,15 +68,30 @@ impl<'a, R: Files> DirFolder<'a, R> {
             path: String::with_capacity(alloc, room)?,
             temporary: String::with_capacity(alloc, room)?,
             faults: 0,
+            cause: None,
+            place: String::with_capacity(alloc, room)?,
         })
     }
 
-    // Counts a fault.
+    /// Why the last call that failed did.
+    pub fn cause(&self) -> Option<Cause<'_>> {
+        match self.cause {
+            Some(error) => Some(Cause {
+                path: self.place.as_str(),
+                error,
+            }),
+            None => None,
+        }
+    }
+
+    // Counts a fault at the path of the call.
     fn fault(&mut self, error: io::Error) -> OutFault
         ensures rose { Rose self.old.faults self.new.faults }
         ensures never_falls { self.old.faults ≤ self.new.faults }
     {
         self.faults = self.faults.saturating_add(1);
+        self.cause = Some(error);
+        mem::swap(&mut self.path, &mut self.place);
         if error.kind() == ErrorKind::OutOfMemory {
             OutFault::Memory
         } else {
@@ -86,6 +114,7 @@ impl<'a, R: Files> DirFolder<'a, R> {
         ensures { self.new.faults ≡ self.old.faults }
     {
         if !is_name(name) {
+            self.path.clear();
             return Err(io::Error::from(ErrorKind::InvalidFilename));
         }
         join(&mut self.path, &self.folder, "", name, "");
@@ -114,6 +143,8 @@ impl<'a, R: Files> Folder for DirFolder<'a, R> {
     ghost faults = { λ f. f.faults };
 
     fn list(&mut self) -> Result<Names, OutFault> {
+        self.path.clear();
+        append(&mut self.path, &self.folder);
         match names_in(self.rt, self.alloc, &self.folder) {
             Ok(names) => Ok(names),
             Err(error) => Err(self.fault(error)),

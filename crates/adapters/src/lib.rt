@@ -7,6 +7,6 @@ mod network;
 mod reading;
 mod standard;
 
-pub use directory::DirFolder;
+pub use directory::{Cause, DirFolder};
 pub use network::{TcpDialer, TcpLink, TcpListen};
 pub use standard::{StdSink, StdSource, SystemClock};

@@ -1,6 +1,6 @@
 //! A real folder, and one over a file system that fails.
 use super::failing_files::Stopping;
-use adapters::DirFolder;
+use adapters::{Cause, DirFolder};
 use outside::{Folder, FolderRead, Names, OutFault};
 use std::cell::Cell;
 use std::os::unix::fs::{PermissionsExt, symlink};
@@ -22,6 +22,14 @@ fn joined(rt: &HostRuntime, names: &Names) -> Result<String, Fail> {
     Ok(all)
 }
 
+// Whether the cause is that nothing is at the path.
+fn is_lost(cause: Option<Cause<'_>>, path: &str) -> bool {
+    match cause {
+        Some(cause) => cause.path == path && cause.error.kind() == io::ErrorKind::NotFound,
+        None => false,
+    }
+}
+
 #[test]
 fn a_real_folder_lists_reads_replaces_and_removes(rt: HostRuntime) -> Result<(), Fail> {
     const FOLDER: &str = "outside_test_calls";
@@ -39,9 +47,12 @@ fn a_real_folder_lists_reads_replaces_and_removes(rt: HostRuntime) -> Result<(),
     folder.remove("a.txt")?;
     folder.remove("a.txt")?;
     assert!(rt; matches!(folder.read("a.txt", 5)?, FolderRead::Absent));
+    assert!(rt; folder.cause().is_none());
     fs::remove_dir_all(&rt, FOLDER)?;
     assert!(rt; folder.list().is_err());
+    assert!(rt; is_lost(folder.cause(), FOLDER));
     assert!(rt; folder.replace("a.txt", b"") == Err(OutFault::Failed));
+    assert!(rt; is_lost(folder.cause(), "outside_test_calls/a.txt"));
     Ok(())
 }
 
