@@ -6,10 +6,12 @@ ghost use Rattle.std.specs.Vec.Iter.{into_iter_items};
 ghost use Rattle.std.specs.IoError.{error_kind};
 ghost use Rattle.std.specs.Process.{exit_status};
 
+mod around;
 mod making;
 mod sharing;
 mod stopping;
 
+use crate::around::USUAL;
 use crate::making::{Streams, world};
 use crate::stopping::{stop_path, wake_path};
 use adapters::{StdSink, StdSource};
@@ -86,7 +88,17 @@ fn main(rt: HostRuntime) -> ExitCode {
     };
     let words = words.as_slice();
     let asked = asked_by(words);
-    let Ok(mut outside) = world(alloc, &rt, asked, stop.as_deref(), wake.as_deref(), streams) else {
+    let mut unbound = None;
+    let Ok(mut outside) = world(
+        alloc,
+        &rt,
+        asked,
+        USUAL,
+        stop.as_deref(),
+        wake.as_deref(),
+        streams,
+        &mut unbound,
+    ) else {
         return exit_code(6);
     };
     exit_code(run(&rt, alloc, words, &mut outside))

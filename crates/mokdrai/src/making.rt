@@ -3,14 +3,16 @@ ghost use Rattle.std.specs.Prelude.{◌≡◌, ◌++◌, ℕ, List, None, IfOk, 
 ghost use Rattle.std.specs.List.{AllByRecursion};
 ghost use Rattle.wopi_program.specs.Asking.{IsEditAt, IsOnceOver, IsServeOver};
 
-use crate::sharing::{SharedListener, bind, close_later, share};
+use crate::around::Around;
+use crate::sharing::{SharedListener, SharedSocket, bind, close_later, share};
 use crate::stopping::{StopListener, until_stopped};
 use adapters::{DirFolder, SystemClock, TcpDialer, TcpListen};
 use std::alloc::Global;
 use std::fs::{File, Files};
 use std::net::{Net, TcpListener, TcpStream};
+use std::sync::Arc;
 use std::thread::Threads;
-use std::time;
+use std::{io, time};
 use wopi_http::ReplyLength;
 use wopi_program::{Asked, Outside, ServeAsk};
 use wopi_text::Memory;
@@ -20,7 +22,7 @@ pub(crate) type World<'a, R, S, K> = Outside<
     S,
     K,
     DirFolder<'a, R>,
-    StopListener<'a, R, SharedListener<TcpListen>>,
+    StopListener<'a, R, SharedListener<TcpListen<R>>>,
     TcpDialer<'a, R, ReplyLength>,
     SystemClock<'a, R>,
 >;
@@ -99,45 +101,88 @@ fn clocks<'a, T: time::Clock>(
     Ok(all)
 }
 
-/// The address of a port, as only this machine reaches it.
-fn address_of(alloc: Global, port: u32) -> Result<String, Memory>
-    ensures { IfOk result (λ address. string_bytes address ≡ codes "127.0.0.1:" ++ decimal port) }
+/// The address of a port.
+fn address_of(alloc: Global, listen: &str, port: u32) -> Result<String, Memory>
+    ensures { IfOk result (λ address. string_bytes address ≡ listen.now ++ codes ":" ++ decimal port) }
 {
-    let address = format!(in alloc; "127.0.0.1:{port}")?;
+    let address = format!(in alloc; "{listen}:{port}")?;
     Ok(address)
 }
 
-/// So many listeners over one socket at the port, which a byte over the pipe at `wake` closes.
+/// A socket at the address, or none; why it can't be bound is left in `unbound`.
+fn socket_at<R: Net<Stream = TcpStream, Listener = TcpListener>>(
+    alloc: Global,
+    rt: &R,
+    address: &str,
+    grace: u32,
+    unbound: &mut Option<io::Error>,
+) -> Result<Option<Arc<SharedSocket, Global>>, Memory> {
+    match bind(alloc, rt, address, grace)? {
+        Ok(socket) => Ok(Some(socket)),
+        Err(error) => {
+            *unbound = Some(error);
+            Ok(None)
+        }
+    }
+}
+
+/// So many listeners over one socket at the address and the port, which a byte over the pipe at `wake` closes.
+/// Where it can't be bound, `unbound` has the cause.
 pub(crate) fn listen<
     'a,
-    R: Net<Stream = TcpStream, Listener = TcpListener> + Files<File = File> + Threads,
+    R: Net<Stream = TcpStream, Listener = TcpListener>
+        + Files<File = File>
+        + Threads
+        + time::Clock
+        + Copy
+        + Send,
 >(
     alloc: Global,
     rt: &'a R,
+    around: Around<'_>,
     ask: ServeAsk,
     stop: Option<&'a str>,
     wake: Option<&str>,
-) -> Result<Vec<StopListener<'a, R, SharedListener<TcpListen>>>, Memory>
+    unbound: &mut Option<io::Error>,
+) -> Result<Vec<StopListener<'a, R, SharedListener<TcpListen<R>>>>, Memory>
     ensures count { IfOk result (λ all. vec_len all ≡ ask.workers) }
     ensures each { IfOk result (λ all. AllByRecursion (λ one. IfSome one.listener (λ own. (own.listener.most ≡ ask.each) × (own.listener.accepted ≡ 0) × (own.listener.finished ≡ 0))) all.items) }
     ensures begins { IfOk result (λ all. AllByRecursion (λ one. (one.path ≡ stop.entry) × (one.accepted ≡ 0) × (one.finished ≡ 0)) all.items) }
     ensures untold { stop.entry ≡ None → IfOk result (λ all. AllByRecursion (λ one. IsSome one.listener) all.items) }
 {
-    let address = address_of(alloc, ask.port)?;
-    let socket = bind(alloc, rt, address.as_str())?;
+    let address = address_of(alloc, around.listen, ask.port)?;
+    let socket = socket_at(alloc, rt, address.as_str(), around.grace, unbound)?;
     close_later(rt, wake, &socket)?;
-    let bound = share(alloc, &socket, ask.workers as usize, ask.each as u64)?;
+    let limits = around.limits();
+    let bound = share(
+        alloc,
+        *rt,
+        &socket,
+        limits,
+        ask.workers as usize,
+        ask.each as u64,
+    )?;
     until_stopped(alloc, rt, stop, bound)
 }
 
 /// The listeners of the workers of a `serve`; they are closed once the stop file is there.
-fn listeners<'a, R: Net<Stream = TcpStream, Listener = TcpListener> + Files<File = File> + Threads>(
+fn listeners<
+    'a,
+    R: Net<Stream = TcpStream, Listener = TcpListener>
+        + Files<File = File>
+        + Threads
+        + time::Clock
+        + Copy
+        + Send,
+>(
     alloc: Global,
     rt: &'a R,
     asked: Asked<'_>,
+    around: Around<'_>,
     stop: Option<&'a str>,
     wake: Option<&str>,
-) -> Result<Vec<StopListener<'a, R, SharedListener<TcpListen>>>, Memory>
+    unbound: &mut Option<io::Error>,
+) -> Result<Vec<StopListener<'a, R, SharedListener<TcpListen<R>>>>, Memory>
     ensures count { (name : List ℕ) (ask : ServeAsk) → IsServeOver name ask asked.entry → IfOk result (λ all. vec_len all ≡ ask.workers) }
     ensures each { (name : List ℕ) (ask : ServeAsk) → IsServeOver name ask asked.entry
         → IfOk result (λ all. AllByRecursion (λ one. IfSome one.listener (λ own. (own.listener.most ≡ ask.each) × (own.listener.accepted ≡ 0) × (own.listener.finished ≡ 0))) all.items) }
@@ -145,7 +190,7 @@ fn listeners<'a, R: Net<Stream = TcpStream, Listener = TcpListener> + Files<File
     ensures untold { stop.entry ≡ None → IfOk result (λ all. AllByRecursion (λ one. IsSome one.listener) all.items) }
 {
     match asked {
-        Asked::Serve { numbers, .. } => listen(alloc, rt, numbers, stop, wake),
+        Asked::Serve { numbers, .. } => { listen(alloc, rt, around, numbers, stop, wake, unbound) }
         Asked::Once { .. } => Ok(Vec::new(alloc)),
         Asked::Edit { .. } => Ok(Vec::new(alloc)),
         Asked::Nothing => Ok(Vec::new(alloc)),
@@ -167,19 +212,26 @@ fn authority(alloc: Global, asked: Asked<'_>) -> Result<String, Memory>
     }
 }
 
-/// The streams, and all else that is asked for.
+/// The streams, and all else that is asked for. Where no socket could be bound, `unbound` has the cause.
 pub(crate) fn world<
     'a,
-    R: Net<Stream = TcpStream, Listener = TcpListener> + Files<File = File> + Threads + time::Clock,
+    R: Net<Stream = TcpStream, Listener = TcpListener>
+        + Files<File = File>
+        + Threads
+        + time::Clock
+        + Copy
+        + Send,
     S: Drop,
     K: Drop,
 >(
     alloc: Global,
     rt: &'a R,
     asked: Asked<'_>,
+    around: Around<'_>,
     stop: Option<&'a str>,
     wake: Option<&str>,
     streams: Streams<S, K>,
+    unbound: &mut Option<io::Error>,
 ) -> Result<World<'a, R, S, K>, Memory>
     ensures once { (name : List ℕ) → IsOnceOver name asked.entry
         → IfOk result (λ world. (length world.folders.items ≡ 1) × (length world.clocks.items ≡ 1)) }
@@ -189,7 +241,7 @@ pub(crate) fn world<
 {
     let parts = parts_of(asked);
     let folders = folders(alloc, rt, parts.folder, parts.folders)?;
-    let listeners = listeners(alloc, rt, asked, stop, wake)?;
+    let listeners = listeners(alloc, rt, asked, around, stop, wake, unbound)?;
     let clocks = clocks(alloc, rt, parts.clocks)?;
     let authority = authority(alloc, asked)?;
     Ok(Outside {
@@ -198,7 +250,7 @@ pub(crate) fn world<
         notes: streams.notes,
         folders,
         listeners,
-        dialer: TcpDialer::new(alloc, rt, authority, ReplyLength::new(alloc)),
+        dialer: TcpDialer::new(alloc, rt, authority, ReplyLength::new(alloc), around.idle),
         clocks,
     })
 }

@@ -1,82 +1,61 @@
 //! One socket that many listeners take links of, and that is closed for all of them at once.
-//!
-//! A socket that is let go stays open while another thread waits in an accept, so it is shut: the
-//! system then ends each accept that waits, and refuses whoever connects.
 ghost use Rattle.std.specs.Prelude.{◌≡◌, ◌≤◌, ◌<◌, ◌+◌, false, IfOk, OnOk, IsErrOf, None, vec_len};
 ghost use Rattle.std.specs.List.{AllByRecursion};
 ghost use Rattle.mokdrai.specs.Stopping.{PassesOnShared, TakesBack};
 
 use crate::stopping::CloseAll;
-use adapters::TcpListen;
+use adapters::{Door, Limits, TcpListen};
 use outside::{Accepted, Listener, OutFault};
 use std::alloc::Global;
 use std::fs::{File, Files};
 use std::io::{self, Read};
-use std::net::{Net, Shutdown, TcpListener, TcpStream};
-use std::os::fd::OwnedFd;
+use std::net::{Net, TcpListener, TcpStream};
 use std::sync::Arc;
-use std::sync::atomic::{AtomicBool, AtomicU64, Ordering};
+use std::sync::atomic::{AtomicU64, Ordering};
 use std::thread::{self, Threads};
+use std::time;
 use wopi_text::Memory;
 
 /// A listening socket of many listeners.
 #[derive(Drop)]
 pub(crate) struct SharedSocket {
-    pub listening: Arc<TcpListener, Global>,
-    // The same socket as a stream, since std shuts streams alone.
-    handle: TcpStream,
-    is_closed: AtomicBool,
+    pub door: Arc<Door, Global>,
     // How many listeners take links of it.
     takers: AtomicU64,
 }
 
 impl SharedSocket {
-    fn new(
-        alloc: Global,
-        listening: TcpListener,
-        handle: TcpStream,
-    ) -> Result<SharedSocket, Memory> {
+    fn new(alloc: Global, door: Door) -> Result<SharedSocket, Memory> {
         Ok(SharedSocket {
-            listening: Arc::new(alloc, listening)?,
-            handle,
-            is_closed: AtomicBool::new(false),
+            door: Arc::new(alloc, door)?,
             takers: AtomicU64::new(0),
         })
     }
 
     /// Closes it for all. Who waits to be accepted is closed too.
     pub(crate) fn close(&self) {
-        self.is_closed.store(true, Ordering::SeqCst);
-        let _done = self.handle.shutdown(Shutdown::Both);
+        self.door.close();
     }
 
     fn is_closed(&self) -> bool {
-        self.is_closed.load(Ordering::SeqCst)
+        self.door.is_closed()
     }
 }
 
-// A socket that is bound to the address, and a second handle of it.
-fn bind_twice<R: Net<Stream = TcpStream, Listener = TcpListener>>(
-    rt: &R,
-    address: &str,
-) -> io::Result<(TcpListener, TcpStream)> {
-    let listening = TcpListener::bind(rt, address)?;
-    let handle = TcpStream::from(OwnedFd::from(listening.try_clone()?));
-    Ok((listening, handle))
-}
-
-/// A socket that is bound to this address, as `127.0.0.1:8880`; none where it can't be.
+/// A socket that is bound to this address, as `127.0.0.1:8880`, or why it can't be. So many seconds
+/// after it was closed its links are.
 pub(crate) fn bind<R: Net<Stream = TcpStream, Listener = TcpListener>>(
     alloc: Global,
     rt: &R,
     address: &str,
-) -> Result<Option<Arc<SharedSocket, Global>>, Memory> {
-    match bind_twice(rt, address) {
-        Ok((listening, handle)) => {
-            let socket = SharedSocket::new(alloc, listening, handle)?;
-            Ok(Some(Arc::new(alloc, socket)?))
+    grace: u32,
+) -> Result<io::Result<Arc<SharedSocket, Global>>, Memory> {
+    match Door::bind(rt, address, grace) {
+        Ok(door) => {
+            let socket = SharedSocket::new(alloc, door)?;
+            Ok(Ok(Arc::new(alloc, socket)?))
         }
-        Err(_) => Ok(None),
+        Err(error) => Ok(Err(error)),
     }
 }
 
@@ -201,24 +180,26 @@ impl<N: Listener> Listener for SharedListener<N> {
     }
 }
 
-/// One listener for each worker over the socket, each of which takes `most` connections. With no
-/// socket each accept fails.
-pub(crate) fn share(
+/// One listener for each worker over the socket, each of which takes `most` connections within these
+/// limits. With no socket each accept fails.
+pub(crate) fn share<T: time::Clock + Copy + Send>(
     alloc: Global,
+    clock: T,
     socket: &Option<Arc<SharedSocket, Global>>,
+    limits: Limits,
     workers: usize,
     most: u64,
-) -> Result<Vec<SharedListener<TcpListen>>, Memory>
+) -> Result<Vec<SharedListener<TcpListen<T>>>, Memory>
     ensures count { IfOk result (λ all. vec_len all ≡ workers) }
     ensures each { IfOk result (λ all. AllByRecursion (λ one. (one.listener.most ≡ most) × (one.listener.accepted ≡ 0) × (one.listener.finished ≡ 0)) all.items) }
 {
     let mut all = Vec::with_capacity(alloc, workers)?;
     for _ in 0..workers {
-        let listening = match socket {
-            Some(socket) => Some(socket.listening.clone()?),
+        let door = match socket {
+            Some(socket) => Some(socket.door.clone()?),
             None => None,
         };
-        let own = TcpListen::new(listening, most);
+        let own = TcpListen::new(clock, door, limits, most);
         all.push(SharedListener::new(own, socket.clone()?))?;
     }
     Ok(all)

@@ -6,6 +6,7 @@ mod folders;
 mod real;
 mod sockets;
 
+use crate::around::USUAL;
 use crate::sharing::{SharedListener, SharedSocket, bind, close_at_byte, close_later, share};
 use crate::stopping::{StopListener, no_path, until_stopped};
 use crate::unread;
@@ -123,27 +124,24 @@ fn with_no_stop_file_a_fault_of_a_listener_closes_it(rt: HostRuntime) -> Result<
 
 type Socket = Arc<SharedSocket, Global>;
 
-type Taken<'a> = StopListener<'a, HostRuntime, SharedListener<TcpListen>>;
+type Taken<'a> = StopListener<'a, HostRuntime, SharedListener<TcpListen<HostRuntime>>>;
 
 // A socket at a port that was free.
 fn socket(rt: &HostRuntime) -> Result<Socket, Fail> {
-    match bind(rt.alloc(), rt, "127.0.0.1:0")? {
-        Some(socket) => Ok(socket),
-        None => Err(Fail::from(io::Error::from(ErrorKind::AddrInUse))),
-    }
+    Ok(bind(rt.alloc(), rt, "127.0.0.1:0", 1)??)
 }
 
 // A listener over the socket, until the stop file is there.
 fn one<'a>(rt: &'a HostRuntime, path: &'a str, socket: &Socket) -> Result<Taken<'a>, Fail>
     ensures { IfOk result (λ one. one.finished ≡ one.accepted) }
 {
-    let own = TcpListen::new(Some(socket.listening.clone()?), 9);
+    let own = TcpListen::new(*rt, Some(socket.door.clone()?), USUAL.limits(), 9);
     let shared = SharedListener::new(own, Some(socket.clone()?));
     Ok(StopListener::new(rt, Some(path), shared))
 }
 
 fn connect(rt: &HostRuntime, socket: &Socket) -> io::Result<TcpStream> {
-    TcpStream::connect(rt, socket.listening.local_addr()?)
+    TcpStream::connect(rt, socket.door.address()?)
 }
 
 // Whether somebody who connects is refused at once.
@@ -176,6 +174,7 @@ fn a_stop_that_one_listener_sees_closes_the_socket_of_all(rt: HostRuntime) -> Re
     assert!(rt; write_link(&mut link, b"fine").is_ok());
     client.read_exact(&mut into)?;
     assert!(rt; into == *b"fine");
+    drop(client);
     busy.finish(link);
     assert!(rt; takes_one(&mut busy) == Ok(false));
     Ok(())
@@ -277,9 +276,8 @@ fn the_last_listener_that_is_let_go_closes_the_socket(rt: HostRuntime) -> Result
 #[test]
 fn an_address_that_can_not_be_bound_makes_each_accept_fail(rt: HostRuntime) -> Result<(), Fail> {
     let alloc = rt.alloc();
-    let none = bind(alloc, &rt, "no address")?;
-    assert!(rt; none.is_none());
-    let mut all = share(alloc, &none, 2, 9)?;
+    assert!(rt; bind(alloc, &rt, "no address", 1)?.is_err());
+    let mut all = share(alloc, rt, &None, USUAL.limits(), 2, 9)?;
     assert!(rt; all.len() == 2);
     assert!(rt; takes_one(&mut all[0]) == Err(OutFault::Failed));
     assert!(rt; takes_one(&mut all[1]) == Err(OutFault::Failed));

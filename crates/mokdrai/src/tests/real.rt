@@ -1,12 +1,12 @@
 //! What is made of the words, over a real folder and at a real port.
+use crate::around::USUAL;
 use crate::making::{Streams, listen, world};
 use crate::sharing::bind;
 use outside::{MemSink, MemSource};
 use std::alloc::Global;
-use std::fs;
-use std::io::{self, ErrorKind};
 use std::net::TcpStream;
 use std::test::Fail;
+use std::{fs, io};
 use wopi_program::{ServeAsk, asked_by, run};
 use wopi_text::{Bytes, Memory};
 
@@ -57,7 +57,16 @@ fn requests_are_answered_over_the_folder_of_the_words(rt: HostRuntime) -> Result
     )?;
     let words = words.as_slice();
     let asked = asked_by(words);
-    let mut outside = world(alloc, &rt, asked, None, None, streams(alloc, REQUESTS)?)?;
+    let mut outside = world(
+        alloc,
+        &rt,
+        asked,
+        USUAL,
+        None,
+        None,
+        streams(alloc, REQUESTS)?,
+        &mut None,
+    )?;
     let status = run(&rt, alloc, words, &mut outside);
     assert!(rt; status == 0);
     assert!(rt; outside.output.as_slice() == REPLIES);
@@ -68,10 +77,8 @@ fn requests_are_answered_over_the_folder_of_the_words(rt: HostRuntime) -> Result
 
 // A port that nobody listens at.
 fn free_port(rt: &HostRuntime) -> Result<u16, Fail> {
-    match bind(rt.alloc(), rt, "127.0.0.1:0")? {
-        Some(socket) => Ok(socket.listening.local_addr()?.port()),
-        None => Err(Fail::from(io::Error::from(ErrorKind::AddrInUse))),
-    }
+    let socket = bind(rt.alloc(), rt, "127.0.0.1:0", 1)??;
+    Ok(socket.door.address()?.port())
 }
 
 fn reaches(rt: &HostRuntime, host: &str, port: u16) -> Result<bool, Fail> {
@@ -90,8 +97,9 @@ fn the_port_of_the_words_is_bound_at_one_address_alone(rt: HostRuntime) -> Resul
         each: 1,
         first: 1,
     };
-    let listeners = listen(rt.alloc(), &rt, ask, None, None)?;
-    assert!(rt; listeners.len() == 1);
+    let mut unbound = None;
+    let listeners = listen(rt.alloc(), &rt, USUAL, ask, None, None, &mut unbound)?;
+    assert!(rt; listeners.len() == 1 && unbound.is_none());
     assert!(rt; reaches(&rt, "127.0.0.1", port)?);
     assert!(rt; !reaches(&rt, "127.0.0.2", port)?);
     Ok(())

@@ -1,13 +1,13 @@
 //! The standard streams, the system's clock, and connections over TCP.
 ghost use Rattle.std.specs.Prelude.{◌≡◌, ◌≤◌, length};
 
-use adapters::{StdSink, StdSource, SystemClock, TcpDialer, TcpListen};
+use adapters::{Door, Limits, StdSink, StdSource, SystemClock, TcpDialer, TcpListen};
 use outside::{
     Accepted, Clock, Dialer, Listener, OutFault, ReplyEnd, Sink, Source, read_link, write_link,
 };
+use std::alloc::Global;
 use std::cell::Cell;
 use std::io::{self, ErrorKind};
-use std::net::TcpListener;
 use std::sync::Arc;
 use std::test::Fail;
 use std::thread::join;
@@ -16,8 +16,8 @@ use wopi_text::Memory;
 
 // A reply of this many bytes.
 #[derive(Drop)]
-struct Counted {
-    count: usize,
+pub(super) struct Counted {
+    pub count: usize,
 }
 
 impl ReplyEnd for Counted {
@@ -75,15 +75,27 @@ fn a_system_time_out_of_range_gives_the_nearest_moment(rt: HostRuntime) {
     assert!(rt; SystemClock::new(&rt).now() > 1_600_000_000_000);
 }
 
+const NEVER: Limits = Limits {
+    idle: 0,
+    patience: 0,
+};
+
+// A door at a port that was free, and the port.
+pub(super) fn open_door(rt: &HostRuntime) -> Result<(Arc<Door, Global>, u16), Fail> {
+    let door = Door::bind(rt, "127.0.0.1:0", 1)?;
+    let port = door.address()?.port();
+    Ok((Arc::new(rt.alloc(), door)?, port))
+}
+
 #[test]
 fn a_socket_that_is_not_bound_makes_each_accept_fail(rt: HostRuntime) {
-    let mut listener = TcpListen::new(None, 9);
+    let mut listener = TcpListen::new(rt, None, NEVER, 9);
     assert!(rt; matches!(listener.accept(), Err(OutFault::Failed)));
     assert!(rt; matches!(listener.accept(), Err(OutFault::Failed)));
 }
 
 // Accepts one connection, reads four bytes, and answers.
-fn serve_one(listener: &mut TcpListen) -> bool
+fn serve_one(listener: &mut TcpListen<HostRuntime>) -> bool
     requires { listener.old.finished ≡ listener.old.accepted }
 {
     let Ok(Accepted::Link(mut link)) = listener.accept() else {
@@ -100,10 +112,10 @@ fn serve_one(listener: &mut TcpListen) -> bool
 #[test]
 fn a_link_that_is_finished_is_closed_while_its_listener_lives(rt: HostRuntime) -> Result<(), Fail> {
     let alloc = rt.alloc();
-    let socket = TcpListener::bind(&rt, "127.0.0.1:0")?;
-    let authority = format!(in alloc; "127.0.0.1:{}", socket.local_addr()?.port())?;
-    let mut listener = TcpListen::new(Some(Arc::new(alloc, socket)?), 1);
-    let mut dialer = TcpDialer::new(alloc, &rt, authority, Counted { count: 9 });
+    let (door, port) = open_door(&rt)?;
+    let authority = format!(in alloc; "127.0.0.1:{port}")?;
+    let mut listener = TcpListen::new(rt, Some(door), NEVER, 1);
+    let mut dialer = TcpDialer::new(alloc, &rt, authority, Counted { count: 9 }, 0);
     let (is_served, reply) = join(
         &rt,
         || serve_one(&mut listener),
@@ -115,7 +127,7 @@ fn a_link_that_is_finished_is_closed_while_its_listener_lives(rt: HostRuntime) -
 }
 
 // Accepts one connection, reads four bytes, answers, and closes only once the other end has.
-fn keep_open(listener: &mut TcpListen) -> bool
+fn keep_open(listener: &mut TcpListen<HostRuntime>) -> bool
     requires { listener.old.finished ≡ listener.old.accepted }
 {
     let Ok(Accepted::Link(mut link)) = listener.accept() else {
@@ -132,10 +144,10 @@ fn keep_open(listener: &mut TcpListen) -> bool
 #[test]
 fn a_host_that_keeps_the_connection_open_holds_no_reply_up(rt: HostRuntime) -> Result<(), Fail> {
     let alloc = rt.alloc();
-    let socket = TcpListener::bind(&rt, "127.0.0.1:0")?;
-    let authority = format!(in alloc; "127.0.0.1:{}", socket.local_addr()?.port())?;
-    let mut listener = TcpListen::new(Some(Arc::new(alloc, socket)?), 1);
-    let mut dialer = TcpDialer::new(alloc, &rt, authority, Counted { count: 5 });
+    let (door, port) = open_door(&rt)?;
+    let authority = format!(in alloc; "127.0.0.1:{port}")?;
+    let mut listener = TcpListen::new(rt, Some(door), NEVER, 1);
+    let mut dialer = TcpDialer::new(alloc, &rt, authority, Counted { count: 5 }, 0);
     let (is_closed, reply) = join(
         &rt,
         || keep_open(&mut listener),

@@ -3,4 +3,4 @@ use Rattle.std.specs.List.{AllByRecursion}
 use Rattle.mokdrai.proofs.sharing.share.Given as goal
 
 abbrev pub invariant-loop : goal.invariant-loop
-invariant-loop l = (vec_len l.all ≡ l.counter) × AllByRecursion (λ one. (one.listener.most ≡ l.most) × (one.listener.accepted ≡ 0) × (one.listener.finished ≡ 0)) l.all.items
+invariant-loop g l = (vec_len l.all ≡ l.counter) × AllByRecursion (λ one. (one.listener.most ≡ l.most) × (one.listener.accepted ≡ 0) × (one.listener.finished ≡ 0)) l.all.items

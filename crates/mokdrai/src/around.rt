@@ -1,0 +1,33 @@
+//! What a command has around it beside its words: where it listens, and how long it waits for others.
+use adapters::Limits;
+
+/// The address of a `serve`, and the limits of time of its connections and of an `edit`'s, in seconds.
+#[derive(Clone, Copy, Debug, PartialEq, Eq)]
+pub(crate) struct Around<'a> {
+    /// The address that it listens at, without its port.
+    pub(crate) listen: &'a str,
+    /// So long a connection may be silent; 0 is for ever.
+    pub(crate) idle: u32,
+    /// So long a message may be on its way at less than 1,024 bytes a second; 0 is for ever.
+    pub(crate) patience: u32,
+    /// So long after the end was asked for all connections are closed.
+    pub(crate) grace: u32,
+}
+
+/// Where nothing else is said: only this machine reaches it.
+pub(crate) const USUAL: Around<'static> = Around {
+    listen: "127.0.0.1",
+    idle: 60,
+    patience: 120,
+    grace: 30,
+};
+
+impl<'a> Around<'a> {
+    /// Those of its connections.
+    pub(crate) fn limits(&self) -> Limits {
+        Limits {
+            idle: self.idle,
+            patience: self.patience,
+        }
+    }
+}
