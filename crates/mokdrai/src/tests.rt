@@ -5,6 +5,7 @@ mod failing_files;
 mod folders;
 mod real;
 mod sockets;
+mod timing;
 
 use crate::around::USUAL;
 use crate::sharing::{SharedListener, SharedSocket, bind, close_at_byte, close_later, share};
