@@ -4,7 +4,7 @@
 //! read or a write that fails: where no byte went either way for as long as its limits say, where a message
 //! has been on its way for too long and too slowly, and where the door that it came in by has been closed
 //! for its grace. Between two messages it reads as ended where that door was closed, or where somebody
-//! waits there and no worker is free.
+//! waits there and no worker is free; before the first message too, the latter after five seconds.
 //!
 //! A message is on its way from its first byte that was read since a reply was begun, a reply from its
 //! first write since a message was read. So where a client sends more than one message at once, a link whose
@@ -24,6 +24,9 @@ use std::time;
 
 // What a head begins with that stands before a reply's, as the line that asks for a body.
 const INTERIM: &[u8] = b"HTTP/1.1 1";
+
+// So many milliseconds a link that said nothing yet keeps its worker from somebody who waits.
+const FRESH: u64 = 5_000;
 
 // Where a link stands.
 #[derive(Clone, Copy, Debug, PartialEq, Eq)]
@@ -192,7 +195,7 @@ impl<T: time::Clock + Copy> Wire<T> {
     // After a turn in which nothing came: whether it waits on, or reads as ended.
     fn goes_on(&mut self, begun: u64) -> Result<bool, Failed> {
         let now = moment(&self.clock);
-        if self.is_left() {
+        if self.is_left(now.saturating_sub(begun)) {
             self.stage = Stage::Over;
             self.lingers = false;
             return Ok(false);
@@ -204,24 +207,23 @@ impl<T: time::Clock + Copy> Wire<T> {
         Ok(true)
     }
 
-    // Whether it stands between two messages, and its door was closed or is wanted by another.
-    fn is_left(&mut self) -> bool {
+    // Whether it stands before the first message or between two, and its door was closed or is wanted by another.
+    fn is_left(&mut self, silence: u64) -> bool {
         let Some(door) = &self.door else {
             return false;
         };
-        match self.stage {
-            Stage::Fresh => door.is_closed(),
-            Stage::Going { .. } => {
-                if door.is_closed() {
-                    return true;
-                }
-                if self.gives_way {
-                    self.next = door.waiting();
-                }
-                self.next.is_some()
-            }
-            Stage::Coming { .. } | Stage::Over => false,
+        let gives_way = match self.stage {
+            Stage::Fresh => self.gives_way && silence >= FRESH,
+            Stage::Going { .. } => self.gives_way,
+            Stage::Coming { .. } | Stage::Over => return false,
+        };
+        if door.is_closed() {
+            return true;
         }
+        if gives_way {
+            self.next = door.waiting();
+        }
+        self.next.is_some()
     }
 
     fn is_slow_to_come(&self, now: u64) -> bool {
