@@ -62,6 +62,8 @@ def head(method, behind, *lines):
 class Host:
     """A `serve` over a folder with one file."""
 
+    running = []
+
     def __init__(self, program, workers, contents=b"1,2\n"):
         self.room = tempfile.TemporaryDirectory()
         self.folder, self.stop, self.wake = (os.path.join(self.room.name, name) for name in ("files", "stop", "wake"))
@@ -76,6 +78,7 @@ class Host:
         words = ["serve", self.folder, str(self.port), KEY, "http://localhost", str(workers), *OPTIONS]
         around = {**os.environ, "MOKDRAI_STOP": self.stop, "MOKDRAI_WAKE": self.wake}
         self.process = subprocess.Popen([program, *words], stdout=subprocess.DEVNULL, stderr=subprocess.PIPE, env=around)
+        Host.running.append(self.process)
         self.connect().close()
 
     def connect(self):
@@ -111,6 +114,7 @@ class Host:
             self.process.kill()
             raise Wrong(f"still running after {seconds} seconds") from None
         must(self.process.returncode == 0, f"status {self.process.returncode}, {notes}")
+        Host.running.remove(self.process)
         os.close(self.waking)
         self.room.cleanup()
         return time.monotonic() - begun
@@ -345,6 +349,9 @@ def main():
         except (Wrong, OSError, http.client.HTTPException) as fault:
             wrong += 1
             print(f"{each.__name__}: {fault!r}", flush=True)
+            for process in Host.running:
+                process.kill()
+            Host.running.clear()
     return 1 if wrong else 0
 
 
