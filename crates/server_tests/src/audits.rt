@@ -1,8 +1,11 @@
 //! Journals, judged.
-use journal_audit::{AuditFault, Verdict, audit};
-use journal_text::read_journal;
+use journal_audit::{Audit, AuditFault, Verdict, audit, audit_input};
+use journal_text::{JournalFault, read_journal};
+use line_text::InputFault;
+use outside::MemSource;
 use std::alloc::Global;
 use std::test::Fail;
+use wopi_text::Bytes;
 
 /// A lock that is taken.
 const LOCKED: &[u8] =
@@ -56,5 +59,41 @@ fn a_time_that_runs_ahead_is_bad(rt: HostRuntime) -> Result<(), Fail> {
         fault: AuditFault::Now,
     };
     assert!(rt; said_of(rt.alloc(), journal.as_slice())? == bad);
+    Ok(())
+}
+
+/// A conflict that no spent id explains, and then a last line that tells of one entry more than there are.
+const BAD_BEHIND_ILLEGAL: &[u8] =
+    b"wopi journal 2 opened 0 first 1\nfile 612e637376 312c320a\n1 11 0 5 5 612e637376 lock 4c31 ann.612e637376.w.2.0.9000000 409 - spent - -\nend 2\n";
+
+/// What is said of the journal that an input is, of which at most so many bytes come at once.
+fn said_in_pieces(
+    alloc: Global,
+    bytes: &[u8],
+    piece: usize,
+) -> Result<Result<Audit, InputFault<JournalFault>>, Fail> {
+    let input = Bytes::from_slice(alloc, bytes)?;
+    let mut source = MemSource::new(input, piece.max(1), Vec::new(alloc));
+    Ok(audit_input(alloc, &mut source))
+}
+
+#[test]
+fn a_journal_is_judged_alike_in_whatever_pieces_it_comes(rt: HostRuntime) -> Result<(), Fail> {
+    let alloc = rt.alloc();
+    let legal = Audit {
+        verdict: Verdict::Legal,
+        entries: 1,
+    };
+    for piece in [1, 50, 4_096] {
+        assert!(rt; said_in_pieces(alloc, LOCKED, piece)? == Ok(legal));
+        assert!(rt; said_in_pieces(alloc, LOCKED_BEFORE, piece)? == Ok(legal));
+    }
+    Ok(())
+}
+
+#[test]
+fn a_bad_line_behind_one_that_is_not_legal_leaves_no_verdict(rt: HostRuntime) -> Result<(), Fail> {
+    let bad = InputFault::Text(JournalFault::BadLine { line: 4 });
+    assert!(rt; said_in_pieces(rt.alloc(), BAD_BEHIND_ILLEGAL, 50)? == Err(bad));
     Ok(())
 }

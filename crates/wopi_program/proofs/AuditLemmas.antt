@@ -1,7 +1,9 @@
 -- The statuses of `audit` and `contents`, and their lines.
 use Rattle.std.proofs.Common.{◌≡◌, ◌≢◌, ℕ, ◌<◌, List, ◌++◌, Option, length, codes, decimal, arith, inl, inr}
 use Rattle.std.proofs.lemmas.List.{length-append}
+use Rattle.outside.specs.Faults.{Rose}
 use Rattle.journal_text.specs.declared.text.JournalText.{JournalText}
+use Rattle.journal_audit.specs.Streams.{IsFound, IsFoundIn}
 use Rattle.journal_audit.specs.declared.verdict.AuditFault.{AuditFault}
 use Rattle.wopi_program.specs.declared.outside_world.Outside.{Outside}
 use Rattle.wopi_program.specs.Audit.{AuditEnds, IsJudged, fault_line, fault_word, legal_line}
@@ -35,6 +37,12 @@ looked_up-not-2 held name version text status output output' (inl (contents, had
 looked_up-not-2 held name version text status output output' (inl (contents, had, inr (four, front))) two = absurd (omega (arith, four, two))
 looked_up-not-2 held name version text status output output' (inr (fifteen, same, none)) two = absurd (omega (arith, fifteen, two))
 
+looked_up-not-3 : {K : Type 0} (held : K → Option (List ℕ)) (name : List ℕ) (version : ℕ) (text : JournalText) (status : ℕ) (output output' : K) →
+    IsLookedUp held name version text status output output' → status ≢ 3
+looked_up-not-3 held name version text status output output' (inl (contents, had, inl (zero, whole))) three = absurd (omega (arith, zero, three))
+looked_up-not-3 held name version text status output output' (inl (contents, had, inr (four, front))) three = absurd (omega (arith, four, three))
+looked_up-not-3 held name version text status output output' (inr (fifteen, same, none)) three = absurd (omega (arith, fifteen, three))
+
 module _ {S K F N D C L : Type 0} (m : Meanings S K F N D C L) where
   -- what became of a journal says nothing of the notes
   pub takes_noted : (Does : JournalText → ℕ → K → K → Type 0) (status : ℕ) (old new : Outside S K F N D C) (notes : K) → TakesJournal m Does status old new
@@ -64,6 +72,23 @@ module _ {S K F N D C L : Type 0} (m : Meanings S K F N D C L) where
   takes-not-2 Does apart status old new (inr (inr (inl bad))) two =
       tells-not-2 (m.held old.output) (m.held new.output) status 7 _ _ (λ is. absurd (omega (arith, is))) bad.told two
   takes-not-2 Does apart status old new (inr (inr (inr done))) two = apart done.text status old.output new.output done.does two
+
+  -- what was found of a journal was written
+  pub found_takes : (name : List ℕ) (version : ℕ) (found : Option (List ℕ)) (status : ℕ) (old new : Outside S K F N D C) → IsFoundIn (m.left old.input) (m.left new.input) name version found
+      → ((name : List ℕ) (version : ℕ) (text : JournalText) → IsFound name version text found → IsLookedUp m.held name version text status old.output new.output)
+      → m.read_faults new.input ≡ m.read_faults old.input → (status ≡ 4 → Rose (m.write_faults old.output) (m.write_faults new.output))
+      → new ≡ record old { input = new.input; output = new.output; notes = new.notes } → TakesJournal m (IsLookedUp m.held name version) status old new
+  found_takes name version found status old new so gives fine cause others =
+      let done = gives name version so.text so.found_is in
+      let other : status ≢ 3 = looked_up-not-3 m.held name version so.text status old.output new.output done in
+      record {
+        takes = inr (inr (inr (record { text = so.text; read = so.read; does = done })));
+        read_cause = λ three. absurd (other three);
+        read_cut = λ three. absurd (other three);
+        read_fine = λ apart. fine;
+        write_cause = cause;
+        others = others;
+      }
 
   pub AuditEnds-known : (status : ℕ) (old new : Outside S K F N D C) → AuditEnds m status old new → status ≢ 2
   AuditEnds-known status old new ends = takes-not-2 (IsJudged m.held) (judged-not-2 m.held) status old new ends.audits.takes

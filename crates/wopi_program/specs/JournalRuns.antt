@@ -1,22 +1,13 @@
 -- What runs promise that read a journal from the input. (Own.)
-use Rattle.std.specs.Prelude.{◌≡◌, ◌≢◌, ◌⊎◌, ℕ, List, [], Option}
+use Rattle.std.specs.Prelude.{◌≡◌, ◌≢◌, ◌⊎◌, ℕ}
 use Rattle.outside.specs.Faults.{Rose}
 use Rattle.line_text.specs.Inputs.{HasRead}
 use Rattle.journal_text.specs.declared.text.JournalText.{JournalText}
 use Rattle.journal_text.specs.Inputs.{AreFew, IsWholeInput}
-use Rattle.journal_text.specs.Journals.{IsBadLine, IsReading}
 use Rattle.wopi_program.specs.declared.outside_world.Outside.{Outside}
-use Rattle.wopi_program.specs.Edit.{Tells, bad_line}
 use Rattle.wopi_program.specs.Meanings.{Meanings}
 use Rattle.wopi_program.specs.Replay.{IsNotRun}
 use Rattle.wopi_program.specs.Upgrade.{IsBadJournal, IsTooLong}
-
--- that was done with the journal that the bytes are, or their first bad line was told, or memory was wanted before anything was written
-abbrev pub TakesBytes : {K : Type 0} → (K → Option (List ℕ)) → (JournalText → ℕ → K → K → Type 0) → List ℕ → ℕ → K → K → Type 0
-TakesBytes held Does bytes status output output' =
-    ((status ≡ 6) × (output' ≡ output))
-    ⊎ (((number : ℕ) × IsBadLine bytes number × Tells (held output) (held output') status 7 [] (bad_line number))
-    ⊎ ((text : JournalText) × IsReading bytes text × Does text status output output'))
 
 module _ {S K F N D C L : Type 0} (m : Meanings S K F N D C L) (Does : JournalText → ℕ → K → K → Type 0) where
   -- The whole input is the text of this journal, and that was done with it.

@@ -1,26 +1,26 @@
 //! The command `audit`: whether a host that keeps the rules may have written the journal that the input is.
-ghost use Rattle.std.specs.Prelude.{◌≡◌, ◌≤◌, IfOk, [], length, map, string_bytes};
+ghost use Rattle.std.specs.Prelude.{◌≡◌, IfOk, [], length, map, string_bytes};
 ghost use Rattle.outside.specs.Faults.{Rose};
-ghost use Rattle.journal_text.specs.Journals.{most_bytes};
-ghost use Rattle.journal_audit.specs.Lines.{KeepsBounds};
+ghost use Rattle.journal_text.specs.declared.text.JournalText.{JournalText};
+ghost use Rattle.journal_audit.specs.Streams.{IsVerdict};
 ghost use Rattle.wopi_program.specs.Audit.{AuditEnds, IsJudged, fault_line, fault_word, legal_line};
 ghost use Rattle.wopi_program.specs.Edit.{Tells};
-ghost use Rattle.wopi_program.specs.JournalRuns.{TakesBytes, TakesJournal};
+ghost use Rattle.wopi_program.specs.JournalRuns.{TakesJournal};
 ghost use Rattle.wopi_program.specs.Words.{IsRow};
 
-use crate::edit::say;
-use crate::upgrade::{note_upgrade, refuse_journal};
+use crate::edit::{refuse_script, say};
+use crate::upgrade::note_upgrade;
 use crate::{Command, Meant, Outside};
 use itoa::Buffer;
-use journal_audit::{AuditFault, Verdict, audit};
-use journal_text::{JournalText, SizeFault, read_bytes, read_journal};
+use journal_audit::{Audit, AuditFault, Verdict, audit_input};
+use journal_text::JournalFault;
 use line_text::InputFault;
 use outside::{Clock, Dialer, Folder, Listener, Sink, Source};
 use std::alloc::Global;
 use wopi_text::Memory;
 
 /// The line of a legal journal with so many entries.
-fn legal_line(alloc: Global, entries: usize) -> Result<Vec<u8>, Memory>
+fn legal_line(alloc: Global, entries: u64) -> Result<Vec<u8>, Memory>
     ensures { IfOk result (λ line. line.items ≡ legal_line entries) }
 {
     let mut digits = Buffer::new();
@@ -56,7 +56,7 @@ fn fault_line(alloc: Global, number: u64, wrong: AuditFault) -> Result<Vec<u8>, 
 
 /// Tells that a journal with so many entries is legal, and gives the status.
 #[tactic(auto, using(crate::proofs::EditLemmas::tells_wanting, crate::proofs::AuditLemmas::some_legal_line))]
-fn tell_legal<K: Sink>(alloc: Global, entries: usize, output: &mut K) -> u8
+fn tell_legal<K: Sink>(alloc: Global, entries: u64, output: &mut K) -> u8
     ensures told { Tells (K.held output.old) (K.held output.new) result 0 [] (legal_line entries) }
     ensures cause { result ≡ 4 → Rose (K.write_faults output.old) (K.write_faults output.new) }
 {
@@ -78,49 +78,39 @@ fn tell_fault<K: Sink>(alloc: Global, number: u64, wrong: AuditFault, output: &m
     }
 }
 
-/// Tells whether a journal is legal, and gives the status.
-fn audit_text<K: Sink>(alloc: Global, text: &JournalText, output: &mut K) -> u8
-    requires { KeepsBounds text.now }
-    ensures judged { IsJudged K.held text.now result output.old output.new }
+/// Tells what an audit says, and gives the status.
+fn tell_audit<K: Sink>(alloc: Global, audit: Audit, output: &mut K) -> u8
+    ensures judged { (text : JournalText) → IsVerdict text audit.verdict → audit.entries ≡ length text.lines → IsJudged K.held text result output.old output.new }
     ensures cause { result ≡ 4 → Rose (K.write_faults output.old) (K.write_faults output.new) }
 {
-    match audit(alloc, text) {
-        Ok(Verdict::Legal) => return tell_legal(alloc, text.lines.as_slice().len(), output),
-        Ok(Verdict::Bad { line, fault }) => return tell_fault(alloc, line, fault, output),
-        Err(Memory) => return 6,
-    }
-}
-
-/// Tells whether the journal that the bytes are is legal, or tells their first bad line, and gives the status.
-fn audit_bytes<K: Sink>(alloc: Global, bytes: &[u8], output: &mut K) -> u8
-    requires { length bytes.now ≤ most_bytes }
-    ensures judged { TakesBytes K.held (IsJudged K.held) bytes.now result output.old output.new }
-    ensures cause { result ≡ 4 → Rose (K.write_faults output.old) (K.write_faults output.new) }
-{
-    match read_journal(alloc, bytes) {
-        Ok(text) => return audit_text(alloc, &text, output),
-        Err(fault) => return refuse_journal(alloc, fault, output),
+    match audit.verdict {
+        Verdict::Legal => return tell_legal(alloc, audit.entries, output),
+        Verdict::Bad { line, fault } => return tell_fault(alloc, line, fault, output),
     }
 }
 
 /// Tells whether the journal that the whole input is is legal, or tells its first bad line, and gives the status.
-fn audit_input<S: Source, K: Sink, F: Folder, N: Listener, D: Dialer, C: Clock>(
+fn audit<S: Source, K: Sink, F: Folder, N: Listener, D: Dialer, C: Clock>(
     alloc: Global,
     outside: &mut Outside<S, K, F, N, D, C>,
 ) -> u8
     ensures takes { TakesJournal ⟦<Outside<S, K, F, N, D, C> as Meant<S, K, F, N, D, C, N::Link>>⟧.meanings (IsJudged K.held) result outside.old outside.new }
     ensures notes { outside.new.notes ≡ outside.old.notes }
 {
-    match read_bytes(alloc, &mut outside.input) {
-        Ok(bytes) => return audit_bytes(alloc, &bytes, &mut outside.output),
-        Err(InputFault::Text(SizeFault::TooLong)) => return 13,
-        Err(InputFault::Text(SizeFault::Memory)) => return 6,
+    match audit_input(alloc, &mut outside.input) {
+        Ok(audit) => return tell_audit(alloc, audit, &mut outside.output),
+        Err(InputFault::Text(JournalFault::TooLong)) => return 13,
+        Err(InputFault::Text(JournalFault::BadLine { line })) => {
+            return refuse_script(alloc, &mut outside.output, line);
+        }
+        Err(InputFault::Text(JournalFault::Memory)) => return 6,
         Err(InputFault::Read) => return 3,
     }
 }
 
 /// Reads a journal of either form from the input, and tells whether a host that keeps the rules may have
-/// written it, or which is its first line that none may have written.
+/// written it, or which is its first line that none may have written. The lines are judged as they come, and
+/// none is kept.
 pub fn run_audit<S: Source, K: Sink, F: Folder, N: Listener, D: Dialer, C: Clock>(
     alloc: Global,
     words: &[String],
@@ -130,7 +120,7 @@ pub fn run_audit<S: Source, K: Sink, F: Folder, N: Listener, D: Dialer, C: Clock
     ensures { AuditEnds ⟦<Outside<S, K, F, N, D, C> as Meant<S, K, F, N, D, C, N::Link>>⟧.meanings result outside.old outside.new }
 {
     let _words = words;
-    let status = audit_input(alloc, outside);
+    let status = audit(alloc, outside);
     note_upgrade(&mut outside.notes, status);
     status
 }

@@ -1,53 +1,38 @@
 //! The command `contents`: what a file had at a version, of the journal that the input is.
-ghost use Rattle.std.specs.Prelude.{◌≡◌, ◌≤◌, length, map, string_bytes};
+ghost use Rattle.std.specs.Prelude.{◌≡◌, ℕ, List, map, string_bytes};
 ghost use Rattle.outside.specs.Faults.{Rose};
-ghost use Rattle.journal_text.specs.Journals.{most_bytes};
+ghost use Rattle.journal_text.specs.declared.text.JournalText.{JournalText};
+ghost use Rattle.journal_audit.specs.Streams.{IsFound};
 ghost use Rattle.wopi_program.specs.Contents.{ContentsEnds, IsLookedUp, NotesForContents};
-ghost use Rattle.wopi_program.specs.JournalRuns.{TakesBytes, TakesJournal};
+ghost use Rattle.wopi_program.specs.JournalRuns.{TakesJournal};
 ghost use Rattle.wopi_program.specs.Words.{IsRow};
 
 use crate::contents_words::contents_words;
+use crate::edit::refuse_script;
 use crate::telling::say;
-use crate::upgrade::{note_upgrade, refuse_journal};
+use crate::upgrade::note_upgrade;
 use crate::{Command, Meant, Outside, note};
-use journal_audit::contents_at;
-use journal_text::{JournalText, SizeFault, read_bytes, read_journal};
+use journal_audit::read_contents;
+use journal_text::JournalFault;
 use line_text::InputFault;
 use outside::{Clock, Dialer, Folder, Listener, Sink, Source};
 use std::alloc::Global;
-use wopi_text::FileName;
+use wopi_text::{Bytes, FileName};
 
-/// Writes the contents that a file had at a version, and gives the status.
-fn look_up<K: Sink>(text: &JournalText, name: &FileName, version: u64, output: &mut K) -> u8
-    ensures found { IsLookedUp K.held name.now version text.now result output.old output.new }
+/// Writes the contents that were found, and gives the status.
+fn give_out<K: Sink>(found: Option<Bytes>, output: &mut K) -> u8
+    ensures found { (name : List ℕ) (version : ℕ) (text : JournalText) → IsFound name version text found → IsLookedUp K.held name version text result output.old output.new }
     ensures cause { result ≡ 4 → Rose (K.write_faults output.old) (K.write_faults output.new) }
 {
-    match contents_at(text, name, version) {
+    match found {
         Some(contents) => return say(output, contents.as_slice()),
         None => return 15,
     }
 }
 
-/// The same of the journal that the bytes are, or tells their first bad line.
-fn look_up_in<K: Sink>(
-    alloc: Global,
-    bytes: &[u8],
-    name: &FileName,
-    version: u64,
-    output: &mut K,
-) -> u8
-    requires { length bytes.now ≤ most_bytes }
-    ensures found { TakesBytes K.held (IsLookedUp K.held name.now version) bytes.now result output.old output.new }
-    ensures cause { result ≡ 4 → Rose (K.write_faults output.old) (K.write_faults output.new) }
-{
-    match read_journal(alloc, bytes) {
-        Ok(text) => return look_up(&text, name, version, output),
-        Err(fault) => return refuse_journal(alloc, fault, output),
-    }
-}
-
-/// The same of the journal that the whole input is.
-fn look_up_input<S: Source, K: Sink, F: Folder, N: Listener, D: Dialer, C: Clock>(
+/// Writes the contents that a file had at a version of the journal that the whole input is, or tells its first
+/// bad line, and gives the status.
+fn look_up<S: Source, K: Sink, F: Folder, N: Listener, D: Dialer, C: Clock>(
     alloc: Global,
     name: &FileName,
     version: u64,
@@ -56,10 +41,13 @@ fn look_up_input<S: Source, K: Sink, F: Folder, N: Listener, D: Dialer, C: Clock
     ensures takes { TakesJournal ⟦<Outside<S, K, F, N, D, C> as Meant<S, K, F, N, D, C, N::Link>>⟧.meanings (IsLookedUp K.held name.now version) result outside.old outside.new }
     ensures notes { outside.new.notes ≡ outside.old.notes }
 {
-    match read_bytes(alloc, &mut outside.input) {
-        Ok(bytes) => return look_up_in(alloc, &bytes, name, version, &mut outside.output),
-        Err(InputFault::Text(SizeFault::TooLong)) => return 13,
-        Err(InputFault::Text(SizeFault::Memory)) => return 6,
+    match read_contents(alloc, &mut outside.input, name, version) {
+        Ok(found) => return give_out(found, &mut outside.output),
+        Err(InputFault::Text(JournalFault::TooLong)) => return 13,
+        Err(InputFault::Text(JournalFault::BadLine { line })) => {
+            return refuse_script(alloc, &mut outside.output, line);
+        }
+        Err(InputFault::Text(JournalFault::Memory)) => return 6,
         Err(InputFault::Read) => return 3,
     }
 }
@@ -76,7 +64,8 @@ fn note_contents<K: Sink>(notes: &mut K, status: u8)
 }
 
 /// Reads a journal of either form from the input, and writes the contents that the words' file had at the
-/// words' version. Nothing is written before the whole input was read, and found to be a journal.
+/// words' version. Nothing is written before the whole input was read, and found to be a journal. Of its lines
+/// these contents alone are kept.
 pub fn run_contents<S: Source, K: Sink, F: Folder, N: Listener, D: Dialer, C: Clock>(
     alloc: Global,
     words: &[String],
@@ -88,7 +77,7 @@ pub fn run_contents<S: Source, K: Sink, F: Folder, N: Listener, D: Dialer, C: Cl
     let Some((name, version)) = contents_words(words) else {
         unreachable!()
     };
-    let status = look_up_input(alloc, &name, version, outside);
+    let status = look_up(alloc, &name, version, outside);
     note_contents(&mut outside.notes, status);
     status
 }

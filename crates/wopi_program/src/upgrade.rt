@@ -30,7 +30,7 @@ fn upgrade_bytes<K: Sink>(alloc: Global, bytes: &[u8], output: &mut K) -> u8
 }
 
 /// Tells the first bad line of a journal, or wants memory, and gives the status.
-pub(crate) fn refuse_journal<K: Sink>(alloc: Global, fault: JournalFault, output: &mut K) -> u8
+fn refuse_journal<K: Sink>(alloc: Global, fault: JournalFault, output: &mut K) -> u8
     requires { fault ≡ TooLong → ⊥ }
     ensures bad { (line : ℕ) → fault ≡ BadLine line → Tells (K.held output.old) (K.held output.new) result 7 [] (bad_line line) }
     ensures memory { fault ≡ Memory → (result ≡ 6) × (output.new ≡ output.old) }
@@ -75,8 +75,8 @@ pub(crate) fn note_upgrade<K: Sink>(notes: &mut K, status: u8)
 }
 
 /// Reads a journal of either form from the input, and writes it in the second form. Nothing is written before
-/// the whole input was read, and found to be a journal. Of its memory most is that of the input's bytes: no
-/// entry is kept.
+/// the whole input was read, and found to be a journal: so its bytes are kept, which is most of the memory that
+/// this takes. They are read line by line, and no entry is kept.
 pub fn run_upgrade<S: Source, K: Sink, F: Folder, N: Listener, D: Dialer, C: Clock>(
     alloc: Global,
     words: &[String],

@@ -180,11 +180,11 @@ fn contents_are_those_of_the_version(rt: HostRuntime) -> Result<(), Fail> {
     Ok(())
 }
 
-/// The saved journal, where that read or that write fails.
-fn given(failing_read: u64, failing_write: u64) -> Given<'static> {
+/// The saved journal, of which so many bytes come at once, where that read or that write fails.
+fn given(piece: usize, failing_read: u64, failing_write: u64) -> Given<'static> {
     Given {
         input: SAVED.as_bytes(),
-        piece: 50,
+        piece,
         failing_read,
         failing_write,
         failing_store: 0,
@@ -194,13 +194,35 @@ fn given(failing_read: u64, failing_write: u64) -> Given<'static> {
 #[test]
 fn a_journal_that_fails_is_not_judged(rt: HostRuntime) -> Result<(), Fail> {
     let alloc = rt.alloc();
-    let read = run_with(&rt, alloc, &["audit"], &given(2, 0))?;
+    let read = run_with(&rt, alloc, &["audit"], &given(50, 2, 0))?;
     assert!(rt; read.status == 3);
     assert!(rt; read.notes.as_slice() == "read fault\n".as_bytes());
     assert!(rt; read.output.as_slice().is_empty());
-    let written = run_with(&rt, alloc, &["contents", "612e637376", "2"], &given(0, 1))?;
+    let written = run_with(
+        &rt,
+        alloc,
+        &["contents", "612e637376", "2"],
+        &given(50, 0, 1),
+    )?;
     assert!(rt; written.status == 4);
     assert!(rt; written.notes.as_slice() == "write fault\n".as_bytes());
     assert!(rt; written.output.as_slice().is_empty());
+    Ok(())
+}
+
+#[test]
+fn a_journal_may_come_byte_by_byte(rt: HostRuntime) -> Result<(), Fail> {
+    let alloc = rt.alloc();
+    let judged = run_with(&rt, alloc, &["audit"], &given(1, 0, 0))?;
+    assert!(rt; judged.status == 0);
+    assert!(rt; judged.output.as_slice() == "legal 2\n".as_bytes());
+    let found = run_with(
+        &rt,
+        alloc,
+        &["contents", "612e637376", "2"],
+        &given(1, 0, 0),
+    )?;
+    assert!(rt; found.status == 0);
+    assert!(rt; found.output.as_slice() == "42".as_bytes());
     Ok(())
 }

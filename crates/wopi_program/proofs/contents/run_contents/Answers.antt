@@ -5,7 +5,7 @@ use Rattle.wopi_program.proofs.contents.run_contents.Goals as goal
 
 pub returns : goal.returns
 returns g c =
-    let ran = c.look_up_input-status in
+    let ran = c.look_up-status in
     let notes' = c.note_contents.new.notes in
     record {
       name = c.in-Some.name;
