@@ -7,7 +7,7 @@ use Rattle.host_core.specs.Opening.{most_first}
 use Rattle.host_server.specs.Bases.{is_base}
 use Rattle.wopi_program.specs.declared.serve_words.ServeAsk.{ServeAsk}
 use Rattle.wopi_program.specs.declared.serve_words.ServeOptions.{ServeOptions}
-use Rattle.wopi_program.specs.ServeWords.{IsServe, IsServeRow, asked_of, before_others, number_in, option_before, options_of, unless_told, with_each, with_first, with_journal}
+use Rattle.wopi_program.specs.ServeWords.{IsServe, IsServeRow, asked_of, before_others, number_in, option_before, options_of, unless_told, with_each, with_first, with_journal, with_links}
 use Rattle.access_tokens.specs.declared.keys.Keys.{Keys}
 
 -- a list with these six things at its front
@@ -24,14 +24,15 @@ six_items (p ∷ q ∷ r ∷ s ∷ t ∷ o ∷ xs) u v w x y z some a b c d e f 
 
 -- how many options were told
 abbrev told_many : ServeOptions → ℕ
-told_many told = option_len told.journal + (option_len told.each + option_len told.first)
+told_many told = option_len told.journal + (option_len told.each + (option_len told.first + option_len told.links))
 
 few_len : (number : Option ℕ) → option_len number ≤ 1
 few_len None = omega arith
 few_len (Some number) = omega arith
 
-few_told : (told : ServeOptions) → told_many told ≤ 3
-few_told told = let a = few_len told.journal in let b = few_len told.each in let c = few_len told.first in omega (arith, a, b, c)
+few_told : (told : ServeOptions) → told_many told ≤ 4
+few_told told =
+    let a = few_len told.journal in let b = few_len told.each in let c = few_len told.first in let d = few_len told.links in omega (arith, a, b, c, d)
 
 -- what is told with one option more
 abbrev IsMore : ServeOptions → Option ServeOptions → Type 0
@@ -52,6 +53,11 @@ first_more (Some told) number options is = tt
 first_more None None options is = tt
 first_more None (Some number) options is = let none : option_len options.first ≡ 0 = ap option_len is in omega (arith, none)
 
+links_more : (links number : Option ℕ) (options : ServeOptions) → options.links ≡ links → IsMore options (with_links options (unless_told links number))
+links_more (Some told) number options is = tt
+links_more None None options is = tt
+links_more None (Some number) options is = let none : option_len options.links ≡ 0 = ap option_len is in omega (arith, none)
+
 either : {X : Type 0} (P : X → Type 0) (test : Bool) (x y : X) → P x → P y → P (if test then x else y)
 either P true x y p q = p
 either P false x y p q = q
@@ -60,7 +66,8 @@ before_more : (name word : List ℕ) (options : ServeOptions) → IsMore options
 before_more name word options =
     either (IsMore options) (bytes_eq name (codes "--journal")) _ _ (journal_more options.journal (number_in 32768 word) options refl)
     (either (IsMore options) (bytes_eq name (codes "--each")) _ _ (each_more options.each (number_in 1000000 word) options refl)
-    (either (IsMore options) (bytes_eq name (codes "--first")) _ _ (first_more options.first (number_in (most_first) word) options refl) tt))
+    (either (IsMore options) (bytes_eq name (codes "--first")) _ _ (first_more options.first (number_in (most_first) word) options refl)
+    (either (IsMore options) (bytes_eq name (codes "--links")) _ _ (links_more options.links (number_in 1024 word) options refl) tt)))
 
 -- each option has two words
 abbrev HaveTwo : ℕ → Option ServeOptions → Type 0
@@ -80,7 +87,7 @@ have_two [] = refl
 have_two (name ∷ []) = tt
 have_two (name ∷ word ∷ words) = two_before name word (options_of words) (length words) (have_two words)
 
-none_told : (result : Option ServeOptions) (words : ℕ) → 6 < words → HaveTwo words result → None ≡ result
+none_told : (result : Option ServeOptions) (words : ℕ) → 8 < words → HaveTwo words result → None ≡ result
 none_told None words many two = refl
 none_told (Some told) words many two = let few = few_told told in absurd (omega (arith, many, two, few))
 
@@ -89,9 +96,9 @@ module _ {A : Type 0} (f : A → List ℕ) where
   many_mapped [] = refl
   many_mapped (x ∷ xs) = ap suc (many_mapped xs)
 
-  -- more words than those of three options are no options, nor is one
-  pub many_words : (xs : List A) → 6 < length xs → None ≡ options_of (map f xs)
-  many_words xs many = none_told (options_of (map f xs)) (length (map f xs)) (subst (λ n. 6 < n) (sym (many_mapped xs)) many) (have_two (map f xs))
+  -- more words than those of four options are no options, nor is one
+  pub many_words : (xs : List A) → 8 < length xs → None ≡ options_of (map f xs)
+  many_words xs many = none_told (options_of (map f xs)) (length (map f xs)) (subst (λ n. 8 < n) (sym (many_mapped xs)) many) (have_two (map f xs))
 
   pub one_word : (xs : List A) → 0 < length xs → length xs < 2 → None ≡ options_of (map f xs)
   one_word [] some few = absurd (omega (arith, some))

@@ -1,6 +1,6 @@
 //! The words of the command `serve`.
 ghost use Rattle.std.specs.Prelude.{◌≡◌, ◌≤◌, ◌^◌, ◌↔◌, ℕ, List, map, string_bytes, IfSome, IfNone, Some};
-ghost use Rattle.wopi_program.specs.ServeWords.{AreBounded, IsServe, IsServeRow, asked, asked_of, number_in, option_before, options_of, unless_told, with_each, with_first, with_journal};
+ghost use Rattle.wopi_program.specs.ServeWords.{AreBounded, IsServe, IsServeRow, asked, asked_of, number_in, option_before, options_of, unless_told, with_each, with_first, with_journal, with_links};
 ghost use Rattle.access_tokens.specs.declared.keys.Keys.{Keys};
 ghost use Rattle.host_core.specs.Opening.{most_first};
 
@@ -21,10 +21,17 @@ const LINKS: u32 = 1000000;
 /// The version that a host begins with where the words name no number.
 const FIRST: u64 = 1;
 
+/// The most workers that the word WORKERS names.
+const WORKERS: u32 = 16;
+
+/// The most connections that are served at a time.
+const AT_A_TIME: u32 = 1024;
+
 /// The numbers in the words of `serve`.
 #[derive(Clone, Copy, Debug, PartialEq, Eq)]
 pub struct ServeAsk {
     pub port: u32,
+    /// How many connections are served at a time, each by a worker of its own.
     pub workers: u32,
     /// The most entries of each shard.
     pub capacity: u32,
@@ -40,12 +47,14 @@ pub(crate) struct ServeOptions {
     pub(crate) journal: Option<u32>,
     pub(crate) each: Option<u32>,
     pub(crate) first: Option<u64>,
+    pub(crate) links: Option<u32>,
 }
 
 const NO_OPTIONS: ServeOptions = ServeOptions {
     journal: None,
     each: None,
     first: None,
+    links: None,
 };
 
 /// The number that the word writes, if it is from 1 to the most.
@@ -127,6 +136,23 @@ fn with_first(options: ServeOptions, word: &str) -> Option<ServeOptions>
     }
 }
 
+/// The options with `--links` in front of them.
+fn with_links(options: ServeOptions, word: &str) -> Option<ServeOptions>
+    ensures value { result ≡ with_links options (unless_told options.links (number_in 1024 word.now)) }
+    ensures fits { AreBounded options → IfSome result AreBounded }
+{
+    match options.links {
+        Some(_) => None,
+        None => match small_in(word, AT_A_TIME) {
+            None => None,
+            Some(number) => Some(ServeOptions {
+                links: Some(number),
+                ..options
+            }),
+        },
+    }
+}
+
 /// An option in front of others.
 fn option_before(name: &str, word: &str, options: ServeOptions) -> Option<ServeOptions>
     ensures value { result ≡ option_before name.now word.now options }
@@ -138,6 +164,8 @@ fn option_before(name: &str, word: &str, options: ServeOptions) -> Option<ServeO
         with_each(options, word)
     } else if name == "--first" {
         with_first(options, word)
+    } else if name == "--links" {
+        with_links(options, word)
     } else {
         None
     }
@@ -148,7 +176,7 @@ fn options(words: &[String]) -> Option<ServeOptions>
     ensures value { result ≡ options_of (map string_bytes words.now) }
     ensures fits { IfSome result AreBounded }
 {
-    if words.len() > 6 {
+    if words.len() > 8 {
         return None;
     }
     match words {
@@ -163,9 +191,10 @@ fn options(words: &[String]) -> Option<ServeOptions>
 
 /// The numbers together, each option's own or that which stands for it where it is missing.
 fn asked(port: Option<u32>, workers: Option<u32>, options: Option<ServeOptions>) -> Option<ServeAsk>
-    requires { IfSome options AreBounded }
+    requires workers { IfSome workers (λ number. (1 ≤ number) × (number ≤ 16)) }
+    requires options { IfSome options AreBounded }
     ensures value { result ≡ asked port workers options }
-    ensures workers { IfSome result (λ ask. workers ≡ Some ask.workers) }
+    ensures workers { IfSome result (λ ask. (1 ≤ ask.workers) × (ask.workers ≤ 1024)) }
     ensures capacity { IfSome result (λ ask. (1 ≤ ask.capacity) × (ask.capacity ≤ 32768)) }
     ensures first { IfSome result (λ ask. (1 ≤ ask.first) × (ask.first ≤ most_first)) }
 {
@@ -177,7 +206,7 @@ fn asked(port: Option<u32>, workers: Option<u32>, options: Option<ServeOptions>)
                 None => None,
                 Some(options) => Some(ServeAsk {
                     port,
-                    workers,
+                    workers: options.links.unwrap_or(workers),
                     capacity: options.journal.unwrap_or(ENTRIES),
                     each: options.each.unwrap_or(LINKS),
                     first: options.first.unwrap_or(FIRST),
@@ -190,17 +219,17 @@ fn asked(port: Option<u32>, workers: Option<u32>, options: Option<ServeOptions>)
 /// The numbers of the port's word, of the workers' word and of those behind it.
 fn asked_of(port: &str, workers: &str, rest: &[String]) -> Option<ServeAsk>
     ensures value { result ≡ asked_of port.now workers.now (map string_bytes rest.now) }
-    ensures workers { IfSome result (λ ask. (1 ≤ ask.workers) × (ask.workers ≤ 16)) }
+    ensures workers { IfSome result (λ ask. (1 ≤ ask.workers) × (ask.workers ≤ 1024)) }
     ensures capacity { IfSome result (λ ask. (1 ≤ ask.capacity) × (ask.capacity ≤ 32768)) }
     ensures first { IfSome result (λ ask. (1 ≤ ask.first) × (ask.first ≤ most_first)) }
 {
-    asked(small_in(port, 65535), small_in(workers, 16), options(rest))
+    asked(small_in(port, 65535), small_in(workers, WORKERS), options(rest))
 }
 
 /// The keys, the base and the numbers in the words of `serve`, if the words are that command's.
 pub(crate) fn serve_words(words: &[String]) -> Option<(Keys, &str, ServeAsk)>
     ensures some { IfSome result (λ row. IsServeRow (map string_bytes words.now) row.0 row.1.now row.2) }
-    ensures workers { IfSome result (λ row. (1 ≤ row.2.workers) × (row.2.workers ≤ 16)) }
+    ensures workers { IfSome result (λ row. (1 ≤ row.2.workers) × (row.2.workers ≤ 1024)) }
     ensures capacity { IfSome result (λ row. (1 ≤ row.2.capacity) × (row.2.capacity ≤ 32768)) }
     ensures first { IfSome result (λ row. (1 ≤ row.2.first) × (row.2.first ≤ most_first)) }
     ensures none { IfNone result (¬ IsServe (map string_bytes words.now)) }
