@@ -5,14 +5,16 @@
 
 Starts PROGRAM (./mokdrai where it is left out) as `serve` over a folder with one sheet, and as `edit` over that sheet,
 with a relay between them. The relay passes each request on to the byte, and each reply with a head that it writes
-anew: with another Content-Type and a field more. It keeps both as they were passed on. It loses the reply to one save,
+anew: with another Content-Type and a field more, without a version where the session looks at none, and with a page of
+its own in the place of a body that the session doesn't look at. It keeps both as they were passed on. It loses the reply to one save,
 and brings one request once more after the lock has gone over to the next id. Beside them others read, and ask for the
 lock with an id of their own. Then the exchanges and the journal are looked at alone:
 
 - each premise of the law (docs/PROVED.md): every entry that presents one of the session's ids came of a request that
   had gone out before; the token of each request is one under the host's key, for the file; every reply of 200 or 409
-  that was taken has the status, lock, reason, version and (but for CheckFileInfo) body of what the host says of such an
-  entry; and there is an order of both that is true of time;
+  that was taken has, in what the session looks at of it, what the host says of such an entry (the status; of a 409 the
+  lock id and the reason; of a 200 to GetFile the version and the body, and to PutFile the version); and there is an
+  order of both that is true of time;
 - what the law then says: the lines `saved` of the script are those of the replies that were taken of a Put and are 200,
   one for each, in their order; each has its accepted entry, with the contents that its Put carried and the version that
   was told; these contents are replaced by nothing but a later save of the session; each save replaces what the save
@@ -119,18 +121,16 @@ def asked_of(request):
 
 
 def told_by(entry, contents):
-    """What a session sees of the answer that tells the entry: status, lock, reason, version and body."""
+    """What a session looks at of the answer that tells the entry."""
     kind = entry.act.split(" ")[0]
-    seen = {"status": entry.status, "lock": None, "reason": None, "version": None, "body": b""}
+    seen = {"status": entry.status}
     if entry.status == "409":
         seen["lock"] = "" if entry.lock == "-" else bytes.fromhex(entry.lock).decode()
-        seen["reason"] = entry.reason
-    if entry.status == "200" and kind in ("get", "put", "lock", "relock", "unlock"):
+        seen["reason"] = REASONS.get(entry.reason)
+    if entry.status == "200" and kind in ("get", "put"):
         seen["version"] = entry.version
     if entry.status == "200" and kind == "get":
         seen["body"] = contents
-    if entry.status == "200" and kind == "info":
-        seen["body"] = None
     return seen
 
 
@@ -138,17 +138,16 @@ REASONS = {"locked": "locked", "not-locked": "not locked", "spent": "lock id spe
 
 
 def is_told(reply, entry, contents):
-    """Whether the reply tells the entry."""
+    """Whether the reply tells the entry, in what a session looks at."""
     first, fields, body = parted(reply)
-    seen = told_by(entry, contents)
-    reason = REASONS.get(seen["reason"])
-    return (
-        first.split(" ")[1] == seen["status"]
-        and fields.get("x-wopi-lock") == seen["lock"]
-        and fields.get("x-wopi-lockfailurereason") == reason
-        and fields.get("x-wopi-itemversion") == seen["version"]
-        and (seen["body"] is None or body == seen["body"])
-    )
+    said = {
+        "status": first.split(" ")[1],
+        "lock": fields.get("x-wopi-lock") or "",
+        "reason": fields.get("x-wopi-lockfailurereason"),
+        "version": fields.get("x-wopi-itemversion"),
+        "body": body,
+    }
+    return all(said[part] == seen for part, seen in told_by(entry, contents).items())
 
 
 # the two ends, and what lies between them
@@ -203,10 +202,21 @@ def request_of(method, text, behind="", **fields):
     return f"{method} /wopi/files/{ID}{behind}?access_token={text} HTTP/1.1\r\nHost: h\r\n{more}Connection: close\r\n\r\n".encode()
 
 
-def with_another_head(reply):
-    """The reply as a proxy may pass it on: all that a session sees of it is the same."""
+PAGE = b"<p>passed on by a relay</p>"
+
+
+def passed_on(request, reply):
+    """The reply as a proxy may pass it on: all that a session looks at is the same."""
+    kind = act_of(request)[0].split(" ")[0]
     head, _, body = reply.partition(b"\r\n\r\n")
+    status = head.split(b" ")[1]
     head = re.sub(rb"(?mi)^Content-Type: [^\r]*", b"Content-Type: text/html", head)
+    if status != b"200" or kind not in ("get", "put"):
+        head = re.sub(rb"(?i)\r\nX-WOPI-ItemVersion: [^\r]*", b"", head)
+    head = re.sub(rb"(?i)\r\nX-WOPI-Lock: ?(?=\r|$)", b"", head)
+    if status != b"200" or kind not in ("get", "info"):
+        body = PAGE
+        head = re.sub(rb"(?mi)^Content-Length: [^\r]*", b"Content-Length: %d" % len(body), head)
     return head + b"\r\nVia: 1.1 relay\r\n\r\n" + body
 
 
@@ -232,7 +242,7 @@ class Relay:
                 request = read_request(link)
                 reply = asks(self.to, request)
                 passed = self.meanwhile(request, reply)
-                reply = with_another_head(reply)
+                reply = passed_on(request, reply)
                 if passed:
                     link.sendall(reply)
                 ended_at = now()
