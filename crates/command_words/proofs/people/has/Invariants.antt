@@ -1,0 +1,7 @@
+use Rattle.std.proofs.Common.{◌≡◌, map, drop, string_bytes}
+use Rattle.std.specs.List.{list_any}
+use Rattle.std.specs.Str.{bytes_eq}
+use Rattle.command_words.proofs.people.has.Given as goal
+
+abbrev pub invariant-loop-word : goal.invariant-loop-word
+invariant-loop-word l = list_any (λ word. bytes_eq word l.wanted) (map string_bytes (drop l.word-index l.words)) ≡ list_any (λ word. bytes_eq word l.wanted) (map string_bytes l.words)

@@ -1,0 +1,36 @@
+-- What holds of the meanings of words. (Own.)
+use Rattle.std.specs.Prelude.{◌≡◌, ◌≢◌, ◌+◌, ◌==◌, ℕ, Bool, true, not, ⊤, List, [], ◌∷◌, ◌++◌, length, codes, None, Some, slice_index}
+use Rattle.std.specs.List.{AllByRecursion}
+use Rattle.command_words.specs.declared.around.Around.{Around}
+use Rattle.command_words.specs.declared.options.Kind.TheVariants as kind
+use Rattle.command_words.specs.Meaning.{IsDefault, Means, kind_of, short_for}
+use Rattle.command_words.specs.Options.{is_run_option}
+
+-- no hyphen stands at its front
+abbrev pub IsPlain : List ℕ → Type 0
+IsPlain word = slice_index word 0 ≢ 45
+
+-- options of `serve` that the program reads itself, each with a value
+abbrev pub AreRunOptions : List (List ℕ) → Type 0
+AreRunOptions [] = ⊤
+AreRunOptions (name ∷ []) = ⊥
+AreRunOptions (name ∷ value ∷ options) = (is_run_option name ≡ true) × IsPlain value × AreRunOptions options
+
+-- Words in which nothing new stands: they aren't short for others, and no word behind the first begins with a hyphen, but for the
+-- options of `serve` at their end; and of `edit` no word is missing.
+pub record IsAsBefore (words : List (List ℕ)) : Type 0 where
+  pub name : List ℕ
+  pub places : List (List ℕ)
+  pub options : List (List ℕ)
+  pub words_are : words ≡ name ∷ (places ++ options)
+  pub short : short_for words ≡ None
+  pub plain : AllByRecursion IsPlain places
+  pub options_are : AreRunOptions options
+  pub others : kind_of name ≢ Some kind.Serve → options ≡ []
+  pub edits : kind_of name ≡ Some kind.Edit → length places ≢ 3
+
+-- such words mean themselves, and the adapters take what stands where no option does
+abbrev pub NothingOfBeforeChanges : Type 0
+NothingOfBeforeChanges =
+    (moment : ℕ) (own : List ℕ) (words meant : List (List ℕ)) (around : Around) → IsAsBefore words → Means moment own words meant around
+    → (meant ≡ words) × IsDefault around
