@@ -1,3 +1,4 @@
 pub mod LawLemmas
 pub mod OptionLemmas
 pub mod PartLemmas
+pub mod PartingSteps

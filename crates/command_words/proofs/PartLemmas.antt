@@ -11,13 +11,13 @@ use Rattle.command_words.specs.Values.{values_of}
 use Rattle.command_words.specs.Laws.{AreRunOptions, IsPlain}
 use Rattle.command_words.proofs.OptionLemmas.{of_run_name, plain_no_flag, plain_untaken, plain_whole}
 
-third : {A : Type 0} (a b : Bool) (x y z : A) → a ≡ false → b ≡ false → (if a then x else if b then y else z) ≡ z
+pub third : {A : Type 0} (a b : Bool) (x y z : A) → a ≡ false → b ≡ false → (if a then x else if b then y else z) ≡ z
 third a b x y z untrue none = ap (λ c. if c then x else if b then y else z) untrue ∙ ap (λ c. if c then y else z) none
 
 second : {A : Type 0} (a b : Bool) (x y z : A) → a ≡ false → b ≡ true → (if a then x else if b then y else z) ≡ y
 second a b x y z untrue holds = ap (λ c. if c then x else if b then y else z) untrue ∙ ap (λ c. if c then y else z) holds
 
-first : {A : Type 0} (a b : Bool) (x y z : A) → a ≡ true → (if a then x else if b then y else z) ≡ x
+pub first : {A : Type 0} (a b : Bool) (x y z : A) → a ≡ true → (if a then x else if b then y else z) ≡ x
 first a b x y z holds = ap (λ c. if c then x else if b then y else z) holds
 
 pub parted_place : (k : Kind) (word : List ℕ) (words : List (List ℕ)) → is_flag k word ≡ false → takes k word ≡ false
