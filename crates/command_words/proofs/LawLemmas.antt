@@ -5,10 +5,10 @@ use Rattle.std.specs.Str.{bytes_eq}
 use Rattle.command_words.specs.declared.around.Around.{Around}
 use Rattle.command_words.specs.declared.options.Kind.{Kind}
 use Rattle.command_words.specs.declared.options.Kind.TheVariants as kind
-use Rattle.command_words.specs.Meaning.{IsAround, IsDefault, IsWithFile, IsWithNonce, Means, MeansBehind, MeansCtoken, MeansEdit, MeansOf, MeansPlaces, MeansServe, MeansShort, MeansToken, MeansWhole, is_bare, kind_of, run_options_of, short_for}
+use Rattle.command_words.specs.Meaning.{IsAround, IsDefault, MeansBehind, MeansEdit, MeansOf, MeansServe, MeansShort, MeansWhole, kind_of}
 use Rattle.command_words.specs.Parts.{Parts, halved, parted_of}
-use Rattle.command_words.specs.Values.{number_of, text_of, values_of}
-use Rattle.command_words.specs.Laws.{AreRunOptions, IsAsBefore, IsPlain, NothingOfBeforeChanges}
+use Rattle.command_words.specs.Values.{number_of, text_of}
+use Rattle.command_words.specs.Laws.{AreRunOptions, IsPlain, NothingOfBeforeChanges}
 use Rattle.command_words.proofs.OptionLemmas.{not_true, same_bytes}
 use Rattle.command_words.proofs.PartLemmas.{no_values, options_halved, options_parted, plain_halved, plain_parted, run_options_stay}
 

@@ -1,5 +1,5 @@
 -- Names of options, and words that are none.
-use Rattle.std.proofs.Common.{◌≡◌, ◌≢◌, ℕ, zero, suc, ◌⊎◌, inl, inr, Bool, true, false, nat_lt, ◌||◌, ◌&&◌, if◌then◌else◌, List, [], ◌∷◌, length, codes, refl, sym, ap, ◌∙◌, subst, true≢false, arith}
+use Rattle.std.proofs.Common.{◌≡◌, ℕ, zero, suc, Bool, true, false, nat_lt, ◌||◌, ◌&&◌, if◌then◌else◌, List, [], ◌∷◌, length, codes, refl, sym, ap, subst, true≢false, arith}
 use Rattle.std.specs.Prelude.{slice_index, take}
 use Rattle.std.specs.List.{before_first, position_or_len}
 use Rattle.std.specs.Str.{bytes_eq}

@@ -1,11 +1,11 @@
 -- Words in which nothing new stands, parted.
-use Rattle.std.proofs.Common.{◌≡◌, ℕ, Bool, true, false, ◌||◌, if◌then◌else◌, List, [], ◌∷◌, ◌++◌, codes, refl, sym, ap, ◌∙◌, subst}
+use Rattle.std.proofs.Common.{◌≡◌, ℕ, Bool, true, false, ◌||◌, if◌then◌else◌, List, [], ◌∷◌, ◌++◌, codes, refl, ap, ◌∙◌}
 use Rattle.std.specs.List.{AllByRecursion}
 use Rattle.std.specs.Str.{bytes_eq}
 use Rattle.command_words.specs.declared.options.Kind.{Kind}
 use Rattle.command_words.specs.declared.options.Kind.TheVariants as kind
 use Rattle.command_words.specs.Options.{is_around_option, is_flag, is_run_option, takes}
-use Rattle.command_words.specs.Parts.{Parts, halved, halves, no_parts, parted_of, with_flag, with_option, with_place}
+use Rattle.command_words.specs.Parts.{Parts, halved, halves, parted_of, with_flag, with_option, with_place}
 use Rattle.command_words.specs.Meaning.{run_options_of}
 use Rattle.command_words.specs.Values.{values_of}
 use Rattle.command_words.specs.Laws.{AreRunOptions, IsPlain}

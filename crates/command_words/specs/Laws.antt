@@ -1,5 +1,5 @@
 -- What holds of the meanings of words. (Own.)
-use Rattle.std.specs.Prelude.{◌≡◌, ◌≢◌, ◌+◌, ◌==◌, ℕ, Bool, true, not, ⊤, List, [], ◌∷◌, ◌++◌, length, codes, None, Some, slice_index}
+use Rattle.std.specs.Prelude.{◌≡◌, ◌≢◌, ℕ, true, ⊤, List, [], ◌∷◌, ◌++◌, length, None, Some, slice_index}
 use Rattle.std.specs.List.{AllByRecursion}
 use Rattle.command_words.specs.declared.around.Around.{Around}
 use Rattle.command_words.specs.declared.options.Kind.TheVariants as kind

@@ -66,7 +66,11 @@ fn kind_of(name: &str) -> Option<Kind>
 }
 
 /// Puts those options behind the words that the program reads itself.
-fn push_run_options(alloc: Global, words: &mut Vec<String>, options: &[String]) -> Result<(), Memory>
+fn push_run_options(
+    alloc: Global,
+    words: &mut Vec<String>,
+    options: &[String],
+) -> Result<(), Memory>
     ensures { OnOk result (map string_bytes words.new.items ≡ map string_bytes words.old.items ++ run_options_of (map string_bytes options.now)) }
 {
     match options {
@@ -145,12 +149,7 @@ fn ctoken_meant(alloc: Global, parted: &Parted, now: u64) -> Result<Given, Refus
 }
 
 /// What the words of a command with options mean.
-fn meant_of(
-    alloc: Global,
-    kind: Kind,
-    rest: &[String],
-    chance: &Chance,
-) -> Result<Given, Refused>
+fn meant_of(alloc: Global, kind: Kind, rest: &[String], chance: &Chance) -> Result<Given, Refused>
     ensures { IfOk result (λ given. MeansOf chance.now.moment (encode_lower chance.now.random) kind (parted_of kind (halved kind (map string_bytes rest.now))) (map string_bytes given.words.items) given.around) }
 {
     let halves = halve(alloc, kind, rest)?;

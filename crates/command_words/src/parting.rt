@@ -19,11 +19,7 @@ pub(crate) struct Parted {
 }
 
 /// Puts a copy of a word behind the others.
-pub(crate) fn push_word(
-    alloc: Global,
-    words: &mut Vec<String>,
-    word: &str,
-) -> Result<(), Memory>
+pub(crate) fn push_word(alloc: Global, words: &mut Vec<String>, word: &str) -> Result<(), Memory>
     ensures { OnOk result (map string_bytes words.new.items ≡ map string_bytes words.old.items ++ word.now ∷ []) }
 {
     let copy = String::from_str(alloc, word)?;
@@ -32,12 +28,7 @@ pub(crate) fn push_word(
 }
 
 /// Puts a word behind the others, in two where it is an option, `=` and its value.
-fn push_halves(
-    alloc: Global,
-    kind: Kind,
-    words: &mut Vec<String>,
-    word: &str,
-) -> Result<(), Memory>
+fn push_halves(alloc: Global, kind: Kind, words: &mut Vec<String>, word: &str) -> Result<(), Memory>
     ensures { OnOk result (map string_bytes words.new.items ≡ map string_bytes words.old.items ++ halves kind word.now) }
 {
     match word.split_once('=') {
@@ -85,7 +76,10 @@ pub(crate) fn part(alloc: Global, kind: Kind, words: &[String]) -> Result<Parted
             };
             at += 1;
         } else if at + 1 == words.len() {
-            return Err(missing("the value of the last option", "it stands behind the option, or behind an = at its end"));
+            return Err(missing(
+                "the value of the last option",
+                "it stands behind the option, or behind an = at its end",
+            ));
         } else {
             let Ok(()) = push_word(alloc, &mut options, word) else {
                 return Err(Refused::Memory);

@@ -1,6 +1,4 @@
-use Rattle.std.proofs.Common.{◌≡◌, ◌++◌, ◌∷◌, [], map, string_bytes, length, ℕ, ◌+◌, ◌<◌, ◌≤◌, Bool, true, false, List, drop, sym, ◌∙◌, arith}
-use Rattle.command_words.specs.Options.{is_flag, takes}
-use Rattle.command_words.specs.Parts.{lacks_value, parted_of}
+use Rattle.std.proofs.Common.{map, string_bytes, ◌+◌, drop, sym, ◌∙◌, arith}
 use Rattle.command_words.proofs.PartingSteps.{AreLeft, flag_left, one_left, place_left}
 use Rattle.command_words.proofs.parting.part.Goals as goal
 
