@@ -2,3 +2,5 @@ pub mod LawLemmas
 pub mod OptionLemmas
 pub mod PartLemmas
 pub mod PartingSteps
+pub mod SecretLemmas
+pub mod SpanLemmas
