@@ -1,5 +1,5 @@
 -- Lengths of time as words. (Own.)
-use Rattle.std.specs.Prelude.{◌≡◌, ℕ, ◌*◌, ◌<◌, ◌==◌, if◌then◌else◌, List, [], ◌∷◌, ◌++◌, Option, Some}
+use Rattle.std.specs.Prelude.{◌≡◌, ℕ, ◌*◌, ◌<◌, ◌==◌, if◌then◌else◌, List, [], ◌∷◌, ◌++◌, Some}
 use Rattle.wopi_text.specs.Decimals.{decimal_of}
 use Rattle.wopi_text.specs.Moments.{moments_end}
 

@@ -1,4 +1,4 @@
-use Rattle.std.proofs.Common.{◌≡◌, ◌-◌, length}
+use Rattle.std.proofs.Common.{◌-◌, length}
 use Rattle.command_words.proofs.explaining.wrong_option.Given as goal
 
 abbrev pub decreases-options : goal.decreases-options

@@ -1,4 +1,4 @@
-use Rattle.std.proofs.Common.{◌≡◌, refl, inr, arith}
+use Rattle.std.proofs.Common.{refl, inr, arith}
 use Rattle.std.proofs.lemmas.Str.Pattern.{strip_suffix_char}
 use Rattle.command_words.proofs.secret.secret_of.Goals as goal
 

@@ -1,4 +1,4 @@
-use Rattle.std.proofs.Common.{◌≡◌, ◌<◌, ◌≤◌, length, string_bytes, arith}
+use Rattle.std.proofs.Common.{◌≤◌, length, string_bytes, arith}
 use Rattle.std.proofs.lemmas.Str.Pattern.{strip_prefix_char}
 use Rattle.command_words.proofs.SecretLemmas.{a_path, no_path, no_word}
 use Rattle.command_words.proofs.secret.secret_place.Goals as goal

@@ -1,4 +1,3 @@
-use Rattle.std.proofs.Common.{◌≡◌}
 use Rattle.command_words.proofs.SpanLemmas.{if_none, no_span}
 use Rattle.command_words.proofs.span.span_of.Goals as goal
 
