@@ -58,7 +58,12 @@ fn idle_told(options: &[String]) -> Result<u32, Refused>
 fn patience_told(options: &[String]) -> Result<u32, Refused>
     ensures { IfOk result (λ number. number_of 120 (values_of (codes "--patience") (map string_bytes options.now)) ≡ Some number) }
 {
-    seconds(options, "--patience", PATIENCE, hidden("--patience S", SECONDS))
+    seconds(
+        options,
+        "--patience",
+        PATIENCE,
+        hidden("--patience S", SECONDS),
+    )
 }
 
 /// Those of `--grace`.
@@ -91,11 +96,7 @@ impl Around {
     }
 
     /// What these options tell.
-    pub(crate) fn told(
-        alloc: Global,
-        options: &[String],
-        verbose: bool,
-    ) -> Result<Around, Refused>
+    pub(crate) fn told(alloc: Global, options: &[String], verbose: bool) -> Result<Around, Refused>
         ensures { IfOk result (IsAround (map string_bytes options.now) verbose) }
     {
         let listen = listen_told(options)?;

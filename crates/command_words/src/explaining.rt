@@ -6,7 +6,8 @@ use crate::rules::Rule;
 use crate::wrong::{How, Wrong};
 
 /// The rule of the first word.
-const COMMANDS: &str = "once, serve, edit, replay, token, ctoken, upgrade, audit, contents, --help or --version";
+const COMMANDS: &str =
+    "once, serve, edit, replay, token, ctoken, upgrade, audit, contents, --help or --version";
 
 fn once_rule(place: usize) -> Option<Rule> {
     match place {

@@ -73,7 +73,8 @@ fn time_told(options: &[String]) -> Result<&str, Refused>
 }
 
 /// The rule of TIME.
-const TIME: &str = "it stands once: a number and s, m, h or d, as 10h; its end lies before the year 10000";
+const TIME: &str =
+    "it stands once: a number and s, m, h or d, as 10h; its end lies before the year 10000";
 
 /// The time in milliseconds, where its end is a moment.
 fn span_told(time: &str, now: u64) -> Result<u64, Refused>
@@ -169,7 +170,11 @@ pub(crate) fn ctoken_words(alloc: Global, parted: &Parted, now: u64) -> Result<V
 }
 
 /// Puts copies of words behind the others.
-pub(crate) fn push_words(alloc: Global, words: &mut Vec<String>, more: &[String]) -> Result<(), Memory>
+pub(crate) fn push_words(
+    alloc: Global,
+    words: &mut Vec<String>,
+    more: &[String],
+) -> Result<(), Memory>
     ensures { OnOk result (map string_bytes words.new.items ≡ map string_bytes words.old.items ++ map string_bytes more.now) }
 {
     for word in more {
@@ -219,7 +224,12 @@ fn with_file(alloc: Global, places: &[String], file: Values<'_>) -> Result<Vec<S
 const NONCE: &str = "1 to 32 ASCII letters and digits, once";
 
 /// Puts the nonce behind the words, or one that was made where it alone is missing.
-fn push_nonce(alloc: Global, words: &mut Vec<String>, nonce: Values<'_>, own: &str) -> Result<(), Refused>
+fn push_nonce(
+    alloc: Global,
+    words: &mut Vec<String>,
+    nonce: Values<'_>,
+    own: &str,
+) -> Result<(), Refused>
     ensures { (nonces : List (List ℕ)) → AreValues nonces nonce.entry → OnOk result (IsWithNonce (map string_bytes words.old.items) nonces own.now (map string_bytes words.new.items)) }
 {
     match nonce {

@@ -127,15 +127,18 @@ impl Rule {
         match self {
             Rule::Folder => "the path of a folder, which isn't empty",
             Rule::Port => "a number from 1 to 65535, without leading zeros",
-            Rule::Key => "1 to 64 bytes in hex; or N:HEX, or N:HEX,M:HEX, with different numbers from 0 to 255; or @PATH",
+            Rule::Key =>
+                "1 to 64 bytes in hex; or N:HEX, or N:HEX,M:HEX, with different numbers from 0 to 255; or @PATH",
             Rule::Base => "1 to 200 visible ASCII characters, the last of them no slash",
             Rule::Workers => "a number from 1 to 16, without leading zeros",
-            Rule::Authority => "the host's name, a colon and a port from 1 to 65535; at most 200 visible ASCII characters",
+            Rule::Authority =>
+                "the host's name, a colon and a port from 1 to 65535; at most 200 visible ASCII characters",
             Rule::Id => "a file's name in lower-case hex, as 612e637376 for a.csv",
             Rule::Token => "1 to 2000 visible ASCII characters, or @PATH",
             Rule::Nonce => "1 to 32 ASCII letters and digits",
             Rule::User => "1 to 64 ASCII letters, digits, _ and -",
-            Rule::Name => "a file's name: 1 to 128 bytes, no control character, none of / \\ : * ? \" < > |, no period at its front, no period or space at its end",
+            Rule::Name =>
+                "a file's name: 1 to 128 bytes, no control character, none of / \\ : * ? \" < > |, no period at its front, no period or space at its end",
             Rule::Rights => "r or w",
             Rule::Serial => "a number below 2^64, without leading zeros",
             Rule::Issued => "a moment in milliseconds since 1970, below 253402300800000",

@@ -59,7 +59,9 @@ const MOST_SHOWN: usize = 60;
 /// Whether the word is short, and of visible characters of ASCII alone.
 fn is_plain(word: &str) -> bool {
     let bytes = word.as_bytes();
-    !bytes.is_empty() && bytes.len() <= MOST_SHOWN && bytes.iter().all(|b| (b'!'..=b'~').contains(b))
+    !bytes.is_empty()
+        && bytes.len() <= MOST_SHOWN
+        && bytes.iter().all(|b| (b'!'..=b'~').contains(b))
 }
 
 /// What stands between the name and the colon.
