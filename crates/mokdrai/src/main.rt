@@ -8,11 +8,13 @@ ghost use Rattle.std.specs.Process.{exit_status};
 
 mod around;
 mod making;
+mod reading;
 mod sharing;
 mod stopping;
 
 use crate::around::USUAL;
 use crate::making::{Streams, world};
+use crate::reading::{asking, second_line};
 use crate::stopping::{stop_path, wake_path};
 use adapters::{StdSink, StdSource};
 use std::alloc::Global;
@@ -72,7 +74,10 @@ fn exit_code(status: u8) -> ExitCode
 
 fn main(rt: HostRuntime) -> ExitCode {
     let alloc = rt.alloc();
-    let Ok(words) = words(&rt) else {
+    let Ok(typed) = words(&rt) else {
+        return exit_code(6);
+    };
+    let Ok(asking) = asking(alloc, &rt, typed.as_slice()) else {
         return exit_code(6);
     };
     let Ok(stop) = stop_path(&rt) else {
@@ -86,7 +91,7 @@ fn main(rt: HostRuntime) -> ExitCode {
         output: StdSink::output(rt.stdout()),
         notes: StdSink::notes(rt.stderr()),
     };
-    let words = words.as_slice();
+    let words = asking.given.words.as_slice();
     let asked = asked_by(words);
     let mut unbound = None;
     let Ok(mut outside) = world(
@@ -101,7 +106,11 @@ fn main(rt: HostRuntime) -> ExitCode {
     ) else {
         return exit_code(6);
     };
-    exit_code(run(&rt, alloc, words, &mut outside))
+    let status = run(&rt, alloc, words, &mut outside);
+    if status == 2 {
+        second_line(&mut outside.notes, asking.line.as_deref());
+    }
+    exit_code(status)
 }
 
 #[cfg(test)]

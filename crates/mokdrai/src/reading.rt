@@ -1,0 +1,152 @@
+//! The words as people write them, and what they leave to the machine: a moment, random bytes and files with secrets.
+use command_words::{
+    Around, Chance, Given, How, Refused, Wrong, explain, meant, secret_of, secret_place, wrong_line,
+};
+use outside::{Clock, Sink, SystemClock, write_whole};
+use std::alloc::Global;
+use std::fs::{File, Files, OpenFile};
+use std::io::{self, Read};
+use std::os::unix::fs::PermissionsExt;
+use std::random::RandomSource;
+use std::time;
+use wopi_text::Memory;
+
+/// The most bytes of a file with a secret.
+const MOST_SECRET: u64 = 8192;
+
+/// The permissions of others than the owner.
+const OTHERS: u32 = 0o077;
+
+/// Why a file has no secret.
+#[derive(Clone, Copy, Debug, PartialEq, Eq)]
+pub(crate) enum SecretFault {
+    /// It isn't there, can't be read, or is no text.
+    Unread,
+    /// Others than its owner may read or write it.
+    Open,
+    Memory,
+}
+
+/// The text of an open file, where only its owner may read it.
+fn text_of<F: Read + OpenFile + Drop>(alloc: Global, file: F) -> Result<String, SecretFault> {
+    let Ok(about) = file.metadata() else {
+        return Err(SecretFault::Unread);
+    };
+    if about.permissions().mode() & OTHERS != 0 {
+        return Err(SecretFault::Open);
+    }
+    match io::read_to_string(alloc, file.take(MOST_SECRET)) {
+        Ok(text) => Ok(text),
+        Err(_) => Err(SecretFault::Unread),
+    }
+}
+
+/// The secret of the file at a path: its text without the line feed at its end.
+pub(crate) fn secret_at<R: Files>(alloc: Global, rt: &R, path: &str) -> Result<String, SecretFault> {
+    let Ok(file) = File::open(rt, path) else {
+        return Err(SecretFault::Unread);
+    };
+    let text = text_of(alloc, file)?;
+    match String::from_str(alloc, secret_of(text.as_str())) {
+        Ok(secret) => Ok(secret),
+        Err(_) => Err(SecretFault::Memory),
+    }
+}
+
+/// What is told of such a file.
+fn refused(fault: SecretFault) -> Refused {
+    match fault {
+        SecretFault::Memory => Refused::Memory,
+        SecretFault::Unread => Refused::Words(Wrong {
+            name: "@PATH",
+            rule: "a file that can be read, with a secret of at most 8192 bytes",
+            how: How::Hidden,
+        }),
+        SecretFault::Open => Refused::Words(Wrong {
+            name: "@PATH",
+            rule: "a file that only its owner may read: chmod 600",
+            how: How::Hidden,
+        }),
+    }
+}
+
+/// The words with the secret of its file in the place of a path.
+pub(crate) fn with_secret<R: Files>(alloc: Global, rt: &R, words: &mut Vec<String>) -> Result<(), Refused> {
+    let Some((place, path)) = secret_place(words) else {
+        return Ok(());
+    };
+    match secret_at(alloc, rt, path) {
+        Ok(secret) => {
+            words[place] = secret;
+            Ok(())
+        }
+        Err(fault) => Err(refused(fault)),
+    }
+}
+
+/// What is at hand for words that leave something to the program.
+fn chance<R: time::Clock + RandomSource>(rt: &R) -> Result<Chance, Memory> {
+    let mut random = [0u8; 16];
+    if rt.fill_bytes(&mut random).is_err() {
+        return Err(Memory);
+    }
+    Ok(Chance {
+        moment: SystemClock::new(rt).now(),
+        random,
+    })
+}
+
+/// What the words of the command line mean, with the secret of its file in the place of a path.
+fn read_words<R: Files + time::Clock + RandomSource>(
+    alloc: Global,
+    rt: &R,
+    typed: &[String],
+) -> Result<Given, Refused> {
+    let chance = chance(rt)?;
+    let mut given = meant(alloc, typed, &chance)?;
+    with_secret(alloc, rt, &mut given.words)?;
+    Ok(given)
+}
+
+/// What is run, and the line that is told where the words are none.
+#[derive(Drop)]
+pub(crate) struct Asking {
+    pub(crate) given: Given,
+    pub(crate) line: Option<Vec<u8>>,
+}
+
+/// The same; where words are wrong there are none to run.
+pub(crate) fn asking<R: Files + time::Clock + RandomSource>(
+    alloc: Global,
+    rt: &R,
+    typed: &[String],
+) -> Result<Asking, Memory> {
+    match read_words(alloc, rt, typed) {
+        Ok(given) => {
+            let line = match explain(&given.words) {
+                Some(wrong) => Some(wrong_line(alloc, &given.words, wrong)?),
+                None => None,
+            };
+            Ok(Asking { given, line })
+        }
+        Err(Refused::Memory) => Err(Memory),
+        Err(Refused::Words(wrong)) => {
+            let line = wrong_line(alloc, typed, wrong)?;
+            let given = Given {
+                words: Vec::new(alloc),
+                around: Around::new(alloc)?,
+            };
+            Ok(Asking {
+                given,
+                line: Some(line),
+            })
+        }
+    }
+}
+
+/// The second line of the notes, where there is one.
+pub(crate) fn second_line<K: Sink>(notes: &mut K, line: Option<&[u8]>) {
+    if let Some(line) = line {
+        let _told = write_whole(notes, line);
+    }
+}
