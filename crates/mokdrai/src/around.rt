@@ -1,4 +1,6 @@
 //! What a command has around it beside its words: where it listens, and how long it waits for others.
+ghost use Rattle.std.specs.Prelude.{◌≡◌, string_bytes};
+
 use adapters::Limits;
 
 /// The address of a `serve`, and the limits of time of its connections and of an `edit`'s, in seconds.
@@ -15,6 +17,7 @@ pub(crate) struct Around<'a> {
 }
 
 /// Where nothing else is said: only this machine reaches it.
+#[cfg(test)]
 pub(crate) const USUAL: Around<'static> = Around {
     listen: "127.0.0.1",
     idle: 60,
@@ -23,6 +26,19 @@ pub(crate) const USUAL: Around<'static> = Around {
 };
 
 impl<'a> Around<'a> {
+    /// What the words tell.
+    pub(crate) fn of(told: &'a command_words::Around) -> Around<'a>
+        ensures listen { result.listen.now ≡ string_bytes told.now.listen }
+        ensures waits { (result.idle ≡ told.now.idle) × (result.patience ≡ told.now.patience) × (result.grace ≡ told.now.grace) }
+    {
+        Around {
+            listen: told.listen.as_str(),
+            idle: told.idle,
+            patience: told.patience,
+            grace: told.grace,
+        }
+    }
+
     /// Those of its connections.
     pub(crate) fn limits(&self) -> Limits {
         Limits {

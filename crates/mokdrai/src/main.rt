@@ -6,22 +6,24 @@ ghost use Rattle.std.specs.Vec.Iter.{into_iter_items};
 ghost use Rattle.std.specs.IoError.{error_kind};
 ghost use Rattle.std.specs.Process.{exit_status};
 
+mod after;
 mod around;
 mod making;
 mod reading;
 mod sharing;
 mod stopping;
 
-use crate::around::USUAL;
+use crate::after::End;
+use crate::around::Around;
 use crate::making::{Streams, world};
-use crate::reading::{asking, second_line};
+use crate::reading::understand;
 use crate::stopping::{stop_path, wake_path};
 use adapters::{StdSink, StdSource};
 use std::alloc::Global;
 use std::env::{self, Args, Env};
-use std::io::{self, ErrorKind};
+use std::io::{self, ErrorKind, IsTerminal, Stderr};
 use std::process::ExitCode;
-use wopi_program::{asked_by, run};
+use wopi_program::{Asked, asked_by, run};
 use wopi_text::Memory;
 
 /// What arguments come to that could not be read: no words, or want of memory.
@@ -72,44 +74,64 @@ fn exit_code(status: u8) -> ExitCode
     ExitCode::from(status)
 }
 
+/// Where a `serve` says that it is ready and that it has ended: where it is asked to, or a terminal is there.
+fn told_at(asked: Asked<'_>, verbose: bool, notes: Stderr) -> Option<Stderr> {
+    match asked {
+        Asked::Serve { .. } => {
+            if verbose || notes.is_terminal() {
+                return Some(notes);
+            }
+            None
+        }
+        _ => None,
+    }
+}
+
+/// The program's own streams.
+fn streams(rt: &HostRuntime, ready: Option<Stderr>) -> Streams<StdSource, StdSink> {
+    Streams {
+        input: StdSource::new(rt.stdin()),
+        output: StdSink::output(rt.stdout()),
+        notes: StdSink::notes(rt.stderr()),
+        ready,
+    }
+}
+
 fn main(rt: HostRuntime) -> ExitCode {
     let alloc = rt.alloc();
     let Ok(typed) = words(&rt) else {
         return exit_code(6);
     };
-    let Ok(asking) = asking(alloc, &rt, typed.as_slice()) else {
+    let Ok(asking) = understand(alloc, &rt, typed.as_slice()) else {
         return exit_code(6);
     };
-    let Ok(stop) = stop_path(&rt) else {
+    let (Ok(stop), Ok(wake)) = (stop_path(&rt), wake_path(&rt)) else {
         return exit_code(6);
-    };
-    let Ok(wake) = wake_path(&rt) else {
-        return exit_code(6);
-    };
-    let streams = Streams {
-        input: StdSource::new(rt.stdin()),
-        output: StdSink::output(rt.stdout()),
-        notes: StdSink::notes(rt.stderr()),
     };
     let words = asking.given.words.as_slice();
     let asked = asked_by(words);
+    let ready = told_at(asked, asking.given.around.verbose, rt.stderr());
     let mut unbound = None;
     let Ok(mut outside) = world(
         alloc,
         &rt,
         asked,
-        USUAL,
+        Around::of(&asking.given.around),
         stop.as_deref(),
         wake.as_deref(),
-        streams,
+        streams(&rt, ready),
         &mut unbound,
     ) else {
         return exit_code(6);
     };
     let status = run(&rt, alloc, words, &mut outside);
-    if status == 2 {
-        second_line(&mut outside.notes, asking.line.as_deref());
-    }
+    let end = End {
+        status,
+        wrong: asking.line.as_deref(),
+        unbound: unbound.as_ref(),
+        is_told: ready.is_some(),
+    };
+    end.tell(alloc, &mut outside.notes, &outside.folders);
     exit_code(status)
 }
 

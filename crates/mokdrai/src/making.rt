@@ -4,15 +4,16 @@ ghost use Rattle.std.specs.List.{AllByRecursion};
 ghost use Rattle.wopi_program.specs.Asking.{IsEditAt, IsOnceOver, IsServeOver};
 
 use crate::around::Around;
-use crate::sharing::{SharedListener, SharedSocket, bind, close_later, share};
+use crate::sharing::{Ready, SharedListener, SharedSocket, bind, close_later, share};
 use crate::stopping::{StopListener, until_stopped};
 use adapters::{DirFolder, SystemClock, TcpDialer, TcpListen};
 use std::alloc::Global;
 use std::fs::{File, Files};
+use std::io::{self, Stderr};
 use std::net::{Net, TcpListener, TcpStream};
 use std::sync::Arc;
 use std::thread::Threads;
-use std::{io, time};
+use std::time;
 use wopi_http::ReplyLength;
 use wopi_program::{Asked, Outside, ServeAsk};
 use wopi_text::Memory;
@@ -33,6 +34,15 @@ pub(crate) struct Streams<S, K> {
     pub(crate) input: S,
     pub(crate) output: K,
     pub(crate) notes: K,
+    /// Where a `serve` says that it is ready, if it does.
+    pub(crate) ready: Option<Stderr>,
+}
+
+/// Why no socket could be bound, and its address.
+#[derive(Drop)]
+pub(crate) struct Unbound {
+    pub(crate) address: String,
+    pub(crate) error: io::Error,
 }
 
 /// The folder that a command works over, how often it takes it, and with how many clocks.
@@ -109,18 +119,31 @@ fn address_of(alloc: Global, listen: &str, port: u32) -> Result<String, Memory>
     Ok(address)
 }
 
+/// What tells on the notes, where it is to, that the address is listened at.
+fn ready_at(alloc: Global, notes: Option<Stderr>, address: &str) -> Result<Option<Ready>, Memory> {
+    match notes {
+        Some(notes) => {
+            let line = format!(in alloc; "ready at {address}\n")?;
+            Ok(Some(Ready::new(notes, line)))
+        }
+        None => Ok(None),
+    }
+}
+
 /// A socket at the address, or none; why it can't be bound is left in `unbound`.
 fn socket_at<R: Net<Stream = TcpStream, Listener = TcpListener>>(
     alloc: Global,
     rt: &R,
-    address: &str,
+    address: String,
     grace: u32,
-    unbound: &mut Option<io::Error>,
+    ready: Option<Stderr>,
+    unbound: &mut Option<Unbound>,
 ) -> Result<Option<Arc<SharedSocket, Global>>, Memory> {
-    match bind(alloc, rt, address, grace)? {
+    let ready = ready_at(alloc, ready, address.as_str())?;
+    match bind(alloc, rt, address.as_str(), grace, ready)? {
         Ok(socket) => Ok(Some(socket)),
         Err(error) => {
-            *unbound = Some(error);
+            *unbound = Some(Unbound { address, error });
             Ok(None)
         }
     }
@@ -143,7 +166,8 @@ pub(crate) fn listen<
     ask: ServeAsk,
     stop: Option<&'a str>,
     wake: Option<&str>,
-    unbound: &mut Option<io::Error>,
+    ready: Option<Stderr>,
+    unbound: &mut Option<Unbound>,
 ) -> Result<Vec<StopListener<'a, R, SharedListener<TcpListen<R>>>>, Memory>
     ensures count { IfOk result (λ all. vec_len all ≡ ask.workers) }
     ensures each { IfOk result (λ all. AllByRecursion (λ one. IfSome one.listener (λ own. (own.listener.most ≡ ask.each) × (own.listener.accepted ≡ 0) × (own.listener.finished ≡ 0))) all.items) }
@@ -151,7 +175,7 @@ pub(crate) fn listen<
     ensures untold { stop.entry ≡ None → IfOk result (λ all. AllByRecursion (λ one. IsSome one.listener) all.items) }
 {
     let address = address_of(alloc, around.listen, ask.port)?;
-    let socket = socket_at(alloc, rt, address.as_str(), around.grace, unbound)?;
+    let socket = socket_at(alloc, rt, address, around.grace, ready, unbound)?;
     close_later(rt, wake, &socket)?;
     let limits = around.limits();
     let bound = share(
@@ -181,7 +205,8 @@ fn listeners<
     around: Around<'_>,
     stop: Option<&'a str>,
     wake: Option<&str>,
-    unbound: &mut Option<io::Error>,
+    ready: Option<Stderr>,
+    unbound: &mut Option<Unbound>,
 ) -> Result<Vec<StopListener<'a, R, SharedListener<TcpListen<R>>>>, Memory>
     ensures count { (name : List ℕ) (ask : ServeAsk) → IsServeOver name ask asked.entry → IfOk result (λ all. vec_len all ≡ ask.workers) }
     ensures each { (name : List ℕ) (ask : ServeAsk) → IsServeOver name ask asked.entry
@@ -190,7 +215,9 @@ fn listeners<
     ensures untold { stop.entry ≡ None → IfOk result (λ all. AllByRecursion (λ one. IsSome one.listener) all.items) }
 {
     match asked {
-        Asked::Serve { numbers, .. } => { listen(alloc, rt, around, numbers, stop, wake, unbound) }
+        Asked::Serve { numbers, .. } => {
+            listen(alloc, rt, around, numbers, stop, wake, ready, unbound)
+        }
         Asked::Once { .. } => Ok(Vec::new(alloc)),
         Asked::Edit { .. } => Ok(Vec::new(alloc)),
         Asked::Nothing => Ok(Vec::new(alloc)),
@@ -231,7 +258,7 @@ pub(crate) fn world<
     stop: Option<&'a str>,
     wake: Option<&str>,
     streams: Streams<S, K>,
-    unbound: &mut Option<io::Error>,
+    unbound: &mut Option<Unbound>,
 ) -> Result<World<'a, R, S, K>, Memory>
     ensures once { (name : List ℕ) → IsOnceOver name asked.entry
         → IfOk result (λ world. (length world.folders.items ≡ 1) × (length world.clocks.items ≡ 1)) }
@@ -241,7 +268,7 @@ pub(crate) fn world<
 {
     let parts = parts_of(asked);
     let folders = folders(alloc, rt, parts.folder, parts.folders)?;
-    let listeners = listeners(alloc, rt, asked, around, stop, wake, unbound)?;
+    let listeners = listeners(alloc, rt, asked, around, stop, wake, streams.ready, unbound)?;
     let clocks = clocks(alloc, rt, parts.clocks)?;
     let authority = authority(alloc, asked)?;
     Ok(Outside {

@@ -1,8 +1,12 @@
 //! The words as people write them, and what they leave to the machine: a moment, random bytes and files with secrets.
+ghost use Rattle.std.specs.Prelude.{◌≡◌, IfOk, vec_len};
+ghost use Rattle.command_words.specs.Meaning.{IsDefault};
+
+use adapters::SystemClock;
 use command_words::{
     Around, Chance, Given, How, Refused, Wrong, explain, meant, secret_of, secret_place, wrong_line,
 };
-use outside::{Clock, Sink, SystemClock, write_whole};
+use outside::Clock;
 use std::alloc::Global;
 use std::fs::{File, Files, OpenFile};
 use std::io::{self, Read};
@@ -77,19 +81,31 @@ pub(crate) fn with_secret<R: Files>(alloc: Global, rt: &R, words: &mut Vec<Strin
     };
     match secret_at(alloc, rt, path) {
         Ok(secret) => {
-            words[place] = secret;
+            if let Some(word) = words.get_mut(place) {
+                *word = secret;
+            }
             Ok(())
         }
         Err(fault) => Err(refused(fault)),
     }
 }
 
-/// What is at hand for words that leave something to the program.
-fn chance<R: time::Clock + RandomSource>(rt: &R) -> Result<Chance, Memory> {
+/// Random bytes for a nonce, where the words are an `edit`; of the others none asks for them.
+fn random_for<R: RandomSource>(rt: &R, typed: &[String]) -> Result<[u8; 16], Memory> {
     let mut random = [0u8; 16];
-    if rt.fill_bytes(&mut random).is_err() {
+    let is_edit = match typed.first() {
+        Some(name) => name.as_str() == "edit",
+        None => false,
+    };
+    if is_edit && rt.fill_bytes(&mut random).is_err() {
         return Err(Memory);
     }
+    Ok(random)
+}
+
+/// What is at hand for words that leave something to the program.
+fn chance<R: time::Clock + RandomSource>(rt: &R, typed: &[String]) -> Result<Chance, Memory> {
+    let random = random_for(rt, typed)?;
     Ok(Chance {
         moment: SystemClock::new(rt).now(),
         random,
@@ -102,7 +118,7 @@ fn read_words<R: Files + time::Clock + RandomSource>(
     rt: &R,
     typed: &[String],
 ) -> Result<Given, Refused> {
-    let chance = chance(rt)?;
+    let chance = chance(rt, typed)?;
     let mut given = meant(alloc, typed, &chance)?;
     with_secret(alloc, rt, &mut given.words)?;
     Ok(given)
@@ -115,38 +131,40 @@ pub(crate) struct Asking {
     pub(crate) line: Option<Vec<u8>>,
 }
 
-/// The same; where words are wrong there are none to run.
-pub(crate) fn asking<R: Files + time::Clock + RandomSource>(
+/// What is run of words that are wrong, which is none, and the line that is told.
+fn nothing(alloc: Global, typed: &[String], wrong: Wrong) -> Result<Asking, Memory>
+    ensures words { IfOk result (λ asking. vec_len asking.given.words ≡ 0) }
+    ensures around { IfOk result (λ asking. IsDefault asking.given.around) }
+{
+    let line = wrong_line(alloc, typed, wrong)?;
+    let words = Vec::new(alloc);
+    let around = Around::new(alloc)?;
+    Ok(Asking {
+        given: Given { words, around },
+        line: Some(line),
+    })
+}
+
+/// What is run of words that have a meaning, and the line that is told if it is no command.
+fn something(alloc: Global, given: Given) -> Result<Asking, Memory>
+    ensures { IfOk result (λ asking. asking.given ≡ given) }
+{
+    let line = match explain(&given.words) {
+        Some(wrong) => Some(wrong_line(alloc, &given.words, wrong)?),
+        None => None,
+    };
+    Ok(Asking { given, line })
+}
+
+/// The same of the words of the command line.
+pub(crate) fn understand<R: Files + time::Clock + RandomSource>(
     alloc: Global,
     rt: &R,
     typed: &[String],
 ) -> Result<Asking, Memory> {
     match read_words(alloc, rt, typed) {
-        Ok(given) => {
-            let line = match explain(&given.words) {
-                Some(wrong) => Some(wrong_line(alloc, &given.words, wrong)?),
-                None => None,
-            };
-            Ok(Asking { given, line })
-        }
+        Ok(given) => something(alloc, given),
+        Err(Refused::Words(wrong)) => nothing(alloc, typed, wrong),
         Err(Refused::Memory) => Err(Memory),
-        Err(Refused::Words(wrong)) => {
-            let line = wrong_line(alloc, typed, wrong)?;
-            let given = Given {
-                words: Vec::new(alloc),
-                around: Around::new(alloc)?,
-            };
-            Ok(Asking {
-                given,
-                line: Some(line),
-            })
-        }
-    }
-}
-
-/// The second line of the notes, where there is one.
-pub(crate) fn second_line<K: Sink>(notes: &mut K, line: Option<&[u8]>) {
-    if let Some(line) = line {
-        let _told = write_whole(notes, line);
     }
 }

@@ -8,13 +8,38 @@ use adapters::{Door, Limits, TcpListen};
 use outside::{Accepted, Listener, OutFault};
 use std::alloc::Global;
 use std::fs::{File, Files};
-use std::io::{self, Read};
+use std::io::{self, Print, Read, Stderr};
 use std::net::{Net, TcpListener, TcpStream};
 use std::sync::Arc;
-use std::sync::atomic::{AtomicU64, Ordering};
+use std::sync::atomic::{AtomicBool, AtomicU64, Ordering};
 use std::thread::{self, Threads};
 use std::time;
 use wopi_text::Memory;
+
+/// The line that the first accept writes on the notes.
+#[derive(Drop)]
+pub(crate) struct Ready {
+    notes: Stderr,
+    line: String,
+    is_written: AtomicBool,
+}
+
+impl Ready {
+    pub(crate) fn new(notes: Stderr, line: String) -> Ready {
+        Ready {
+            notes,
+            line,
+            is_written: AtomicBool::new(false),
+        }
+    }
+
+    // Writes it, where nobody has. A failed write changes nothing else.
+    fn write(&self) {
+        if !self.is_written.swap(true, Ordering::SeqCst) {
+            let _written = self.notes.write_all(self.line.as_bytes());
+        }
+    }
+}
 
 /// A listening socket of many listeners.
 #[derive(Drop)]
@@ -22,13 +47,15 @@ pub(crate) struct SharedSocket {
     pub door: Arc<Door, Global>,
     // How many listeners take links of it.
     takers: AtomicU64,
+    ready: Option<Ready>,
 }
 
 impl SharedSocket {
-    fn new(alloc: Global, door: Door) -> Result<SharedSocket, Memory> {
+    fn new(alloc: Global, door: Door, ready: Option<Ready>) -> Result<SharedSocket, Memory> {
         Ok(SharedSocket {
             door: Arc::new(alloc, door)?,
             takers: AtomicU64::new(0),
+            ready,
         })
     }
 
@@ -43,16 +70,17 @@ impl SharedSocket {
 }
 
 /// A socket that is bound to this address, as `127.0.0.1:8880`, or why it can't be. So many seconds
-/// after it was closed its links are.
+/// after it was closed its links are. `ready` is told at its first accept.
 pub(crate) fn bind<R: Net<Stream = TcpStream, Listener = TcpListener>>(
     alloc: Global,
     rt: &R,
     address: &str,
     grace: u32,
+    ready: Option<Ready>,
 ) -> Result<io::Result<Arc<SharedSocket, Global>>, Memory> {
     match Door::bind(rt, address, grace) {
         Ok(door) => {
-            let socket = SharedSocket::new(alloc, door)?;
+            let socket = SharedSocket::new(alloc, door, ready)?;
             Ok(Ok(Arc::new(alloc, socket)?))
         }
         Err(error) => Ok(Err(error)),
@@ -118,6 +146,15 @@ fn is_over(taker: &Option<Taker>) -> bool
     }
 }
 
+// Tells that links are taken now, once for all that share the socket.
+fn tell_ready(taker: &Option<Taker>) {
+    if let Some(taker) = taker {
+        if let Some(ready) = &taker.socket.ready {
+            ready.write();
+        }
+    }
+}
+
 impl<N: Listener> CloseAll for SharedListener<N> {
     fn close_all(&self) {
         if let Some(taker) = &self.taker {
@@ -156,6 +193,7 @@ impl<N: Listener> Listener for SharedListener<N> {
         // It answers what its listener answers. Only where a socket is shared, a fault may be the end.
         ensures asked { PassesOnShared N.links_left N.finished_links N.accepted N.finished N.faults self.old.taker self.old.listener self.new.listener result }
     {
+        tell_ready(&self.taker);
         match self.listener.accept() {
             Ok(accepted) => return Ok(accepted),
             Err(fault) => {

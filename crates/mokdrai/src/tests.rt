@@ -6,6 +6,7 @@ mod folders;
 mod real;
 mod sockets;
 mod timing;
+mod typed;
 
 use crate::around::USUAL;
 use crate::sharing::{SharedListener, SharedSocket, bind, close_at_byte, close_later, share};
@@ -129,7 +130,7 @@ type Taken<'a> = StopListener<'a, HostRuntime, SharedListener<TcpListen<HostRunt
 
 // A socket at a port that was free.
 fn socket(rt: &HostRuntime) -> Result<Socket, Fail> {
-    Ok(bind(rt.alloc(), rt, "127.0.0.1:0", 1)??)
+    Ok(bind(rt.alloc(), rt, "127.0.0.1:0", 1, None)??)
 }
 
 // A listener over the socket, until the stop file is there.
@@ -277,7 +278,7 @@ fn the_last_listener_that_is_let_go_closes_the_socket(rt: HostRuntime) -> Result
 #[test]
 fn an_address_that_can_not_be_bound_makes_each_accept_fail(rt: HostRuntime) -> Result<(), Fail> {
     let alloc = rt.alloc();
-    assert!(rt; bind(alloc, &rt, "no address", 1)?.is_err());
+    assert!(rt; bind(alloc, &rt, "no address", 1, None)?.is_err());
     let mut all = share(alloc, rt, &None, USUAL.limits(), 2, 9)?;
     assert!(rt; all.len() == 2);
     assert!(rt; takes_one(&mut all[0]) == Err(OutFault::Failed));

@@ -31,6 +31,7 @@ fn streams(alloc: Global, input: &[u8]) -> Result<Streams<MemSource, MemSink>, M
         input: MemSource::new(input, 100, Vec::new(alloc)),
         output: MemSink::new(alloc, 1000, Vec::new(alloc))?,
         notes: MemSink::new(alloc, 100, Vec::new(alloc))?,
+        ready: None,
     })
 }
 
@@ -77,7 +78,7 @@ fn requests_are_answered_over_the_folder_of_the_words(rt: HostRuntime) -> Result
 
 // A port that nobody listens at.
 fn free_port(rt: &HostRuntime) -> Result<u16, Fail> {
-    let socket = bind(rt.alloc(), rt, "127.0.0.1:0", 1)??;
+    let socket = bind(rt.alloc(), rt, "127.0.0.1:0", 1, None)??;
     Ok(socket.door.address()?.port())
 }
 
@@ -98,7 +99,7 @@ fn the_port_of_the_words_is_bound_at_one_address_alone(rt: HostRuntime) -> Resul
         first: 1,
     };
     let mut unbound = None;
-    let listeners = listen(rt.alloc(), &rt, USUAL, ask, None, None, &mut unbound)?;
+    let listeners = listen(rt.alloc(), &rt, USUAL, ask, None, None, None, &mut unbound)?;
     assert!(rt; listeners.len() == 1 && unbound.is_none());
     assert!(rt; reaches(&rt, "127.0.0.1", port)?);
     assert!(rt; !reaches(&rt, "127.0.0.2", port)?);

@@ -1,0 +1,85 @@
+//! What is told on the notes once a command has ended: why, and that it has.
+use crate::making::Unbound;
+use adapters::DirFolder;
+use outside::Sink;
+use std::alloc::Global;
+use std::fs::Files;
+use std::io;
+use wopi_program::note;
+use wopi_text::Memory;
+
+/// The line that tells why something failed.
+fn cause_line(alloc: Global, what: &str, error: io::Error) -> Result<String, Memory> {
+    let line = format!(in alloc; "{what}: {error}\n")?;
+    Ok(line)
+}
+
+/// That of the first folder that failed.
+fn folder_line<R: Files>(
+    alloc: Global,
+    folders: &[DirFolder<'_, R>],
+) -> Result<Option<String>, Memory> {
+    for folder in folders {
+        if let Some(cause) = folder.cause() {
+            return Ok(Some(cause_line(alloc, cause.path, cause.error)?));
+        }
+    }
+    Ok(None)
+}
+
+/// That of a socket that could not be bound.
+fn socket_line(alloc: Global, unbound: Option<&Unbound>) -> Result<Option<String>, Memory> {
+    match unbound {
+        Some(unbound) => Ok(Some(cause_line(
+            alloc,
+            unbound.address.as_str(),
+            unbound.error,
+        )?)),
+        None => Ok(None),
+    }
+}
+
+/// How a command ended.
+#[derive(Clone, Copy)]
+pub(crate) struct End<'a> {
+    pub(crate) status: u8,
+    /// What is told of words that are no command.
+    pub(crate) wrong: Option<&'a [u8]>,
+    /// Why no socket could be bound.
+    pub(crate) unbound: Option<&'a Unbound>,
+    /// Whether the end is told too.
+    pub(crate) is_told: bool,
+}
+
+impl<'a> End<'a> {
+    // The line that tells why, where that is known.
+    fn line<R: Files>(
+        &self,
+        alloc: Global,
+        folders: &[DirFolder<'_, R>],
+    ) -> Result<Option<String>, Memory> {
+        match self.status {
+            5 => folder_line(alloc, folders),
+            10 => socket_line(alloc, self.unbound),
+            _ => Ok(None),
+        }
+    }
+
+    /// Tells behind the line of the command's fault why it came. Where memory is wanting for that, it isn't told.
+    pub(crate) fn tell<K: Sink, R: Files>(
+        &self,
+        alloc: Global,
+        notes: &mut K,
+        folders: &[DirFolder<'_, R>],
+    ) {
+        if let (2, Some(wrong)) = (self.status, self.wrong) {
+            note(notes, wrong);
+        }
+        if let Ok(Some(line)) = self.line(alloc, folders) {
+            note(notes, line.as_bytes());
+        }
+        if self.is_told {
+            note(notes, b"ended\n");
+        }
+    }
+}

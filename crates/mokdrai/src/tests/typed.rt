@@ -1,0 +1,131 @@
+//! What is made of words as people write them.
+use crate::after::End;
+use crate::around::Around;
+use crate::making::{Unbound, listen};
+use crate::reading::understand;
+use adapters::DirFolder;
+use outside::{Folder, MemSink};
+use std::alloc::Global;
+use std::fs;
+use std::io::{self, ErrorKind};
+use std::os::unix::fs::PermissionsExt;
+use std::test::Fail;
+use wopi_program::ServeAsk;
+use wopi_text::Memory;
+
+fn words(alloc: Global, line: &str) -> Result<Vec<String>, Memory> {
+    let mut words = Vec::new(alloc);
+    for word in line.split(' ') {
+        words.push(String::from_str(alloc, word)?)?;
+    }
+    Ok(words)
+}
+
+// The key that is run with, and the line that is told.
+fn key_and_line(rt: &HostRuntime, line: &str) -> Result<(String, Vec<u8>), Fail> {
+    let alloc = rt.alloc();
+    let asking = understand(alloc, rt, &words(alloc, line)?)?;
+    let key = match asking.given.words.get(1) {
+        Some(key) => key.clone()?,
+        None => String::new(alloc),
+    };
+    let line = match asking.line {
+        Some(line) => line,
+        None => Vec::new(alloc),
+    };
+    Ok((key, line))
+}
+
+#[test]
+fn a_secret_comes_from_a_file_that_its_owner_alone_may_read(rt: HostRuntime) -> Result<(), Fail> {
+    const PATH: &str = "mokdrai_test_key";
+    const LINE: &str = "token @mokdrai_test_key --file a.csv --user ann --write --for 10h";
+    fs::write(&rt, PATH, b"4a656665\n".as_slice())?;
+    fs::set_permissions(&rt, PATH, fs::Permissions::from_mode(0o600))?;
+    let (key, line) = key_and_line(&rt, LINE)?;
+    assert!(rt; key.as_str() == "4a656665" && line.is_empty());
+    fs::set_permissions(&rt, PATH, fs::Permissions::from_mode(0o644))?;
+    let (key, line) = key_and_line(&rt, LINE)?;
+    assert!(rt; key.is_empty());
+    assert!(rt; line.as_slice() == b"@PATH: a file that only its owner may read: chmod 600\n".as_slice());
+    fs::remove_file(&rt, PATH)?;
+    let (key, line) = key_and_line(&rt, LINE)?;
+    assert!(rt; key.is_empty());
+    assert!(rt; line.starts_with(b"@PATH: a file that can be read"));
+    Ok(())
+}
+
+#[test]
+fn a_wrong_word_is_told_with_its_rule(rt: HostRuntime) -> Result<(), Fail> {
+    let (folder, line) = key_and_line(&rt, "serve . 99999 4a http://localhost 2")?;
+    assert!(rt; folder.as_str() == ".");
+    assert!(rt; line.starts_with(b"PORT 99999: a number from 1 to 65535"));
+    let (folder, line) = key_and_line(&rt, "serve . 8880 4a http://localhost 2 --grace x")?;
+    assert!(rt; folder.is_empty());
+    assert!(rt; line.starts_with(b"--grace S: a number of seconds"));
+    Ok(())
+}
+
+#[test]
+fn the_address_of_the_words_is_listened_at(rt: HostRuntime) -> Result<(), Fail> {
+    let alloc = rt.alloc();
+    let line = "serve . 8880 4a http://localhost 2 --listen 127.0.0.300 --idle 7 --grace=0";
+    let asking = understand(alloc, &rt, &words(alloc, line)?)?;
+    let around = Around::of(&asking.given.around);
+    assert!(rt; around.idle == 7 && around.patience == 120 && around.grace == 0);
+    let ask = ServeAsk {
+        port: 8880,
+        workers: 1,
+        capacity: 1,
+        each: 1,
+        first: 1,
+    };
+    let mut unbound = None;
+    let listeners = listen(alloc, &rt, around, ask, None, None, None, &mut unbound)?;
+    assert!(rt; listeners.len() == 1);
+    assert!(rt; unbound.is_some_and(|unbound| unbound.address.as_str() == "127.0.0.300:8880"));
+    Ok(())
+}
+
+// What is told behind the line of a command with this status.
+fn told(
+    rt: &HostRuntime,
+    status: u8,
+    folders: &[DirFolder<'_, HostRuntime>],
+    unbound: &Unbound,
+) -> Result<Vec<u8>, Fail> {
+    let alloc = rt.alloc();
+    let mut notes = MemSink::new(alloc, 100, Vec::new(alloc))?;
+    let end = End {
+        status,
+        wrong: Some(b"a rule\n"),
+        unbound: Some(unbound),
+        is_told: status == 0,
+    };
+    end.tell(alloc, &mut notes, folders);
+    Ok(notes.as_slice().to_vec(alloc)?)
+}
+
+#[test]
+fn what_failed_is_told_behind_its_fault(rt: HostRuntime) -> Result<(), Fail> {
+    let alloc = rt.alloc();
+    let mut folders = Vec::new(alloc);
+    folders.push(DirFolder::new(alloc, &rt, "/")?)?;
+    folders.push(DirFolder::new(alloc, &rt, "mokdrai_test_nowhere")?)?;
+    assert!(rt; folders[1].list().is_err());
+    let unbound = Unbound {
+        address: String::from_str(alloc, "127.0.0.1:1")?,
+        error: io::Error::from(ErrorKind::AddrInUse),
+    };
+    for (status, line) in [
+        (0, "ended\n"),
+        (2, "a rule\n"),
+        (5, "mokdrai_test_nowhere: No such file or directory (os error 2)\n"),
+        (10, "127.0.0.1:1: address in use\n"),
+        (12, ""),
+    ] {
+        let told = told(&rt, status, &folders, &unbound)?;
+        assert!(rt; told.as_slice() == line.as_bytes(), "{status}");
+    }
+    Ok(())
+}
