@@ -1,6 +1,6 @@
 //! What is made of words as people write them.
 use crate::after::End;
-use crate::around::Around;
+use crate::around::{Around, USUAL};
 use crate::making::{Unbound, listen};
 use crate::reading::understand;
 use adapters::DirFolder;
@@ -69,10 +69,12 @@ fn a_wrong_word_is_told_with_its_rule(rt: HostRuntime) -> Result<(), Fail> {
 #[test]
 fn the_address_of_the_words_is_listened_at(rt: HostRuntime) -> Result<(), Fail> {
     let alloc = rt.alloc();
-    let line = "serve . 8880 4a http://localhost 2 --listen 127.0.0.300 --idle 7 --grace=0";
+    let line = "serve . 8880 4a http://localhost 2 --listen 192.0.2.1 --idle 7 --grace=0";
     let asking = understand(alloc, &rt, &words(alloc, line)?)?;
     let around = Around::of(&asking.given.around);
     assert!(rt; around.idle == 7 && around.patience == 120 && around.grace == 0);
+    let usual = command_words::Around::new(alloc)?;
+    assert!(rt; Around::of(&usual) == USUAL);
     let ask = ServeAsk {
         port: 8880,
         workers: 1,
@@ -83,7 +85,10 @@ fn the_address_of_the_words_is_listened_at(rt: HostRuntime) -> Result<(), Fail> 
     let mut unbound = None;
     let listeners = listen(alloc, &rt, around, ask, None, None, None, &mut unbound)?;
     assert!(rt; listeners.len() == 1);
-    assert!(rt; unbound.is_some_and(|unbound| unbound.address.as_str() == "127.0.0.300:8880"));
+    let Some(unbound) = unbound else {
+        return Err(Fail::new("an address of nobody was bound"));
+    };
+    assert!(rt; unbound.address.as_str() == "192.0.2.1:8880");
     Ok(())
 }
 
@@ -111,8 +116,9 @@ fn what_failed_is_told_behind_its_fault(rt: HostRuntime) -> Result<(), Fail> {
     let alloc = rt.alloc();
     let mut folders = Vec::new(alloc);
     folders.push(DirFolder::new(alloc, &rt, "/")?)?;
-    folders.push(DirFolder::new(alloc, &rt, "mokdrai_test_nowhere")?)?;
-    assert!(rt; folders[1].list().is_err());
+    let mut lost = DirFolder::new(alloc, &rt, "mokdrai_test_nowhere")?;
+    assert!(rt; lost.list().is_err());
+    folders.push(lost)?;
     let unbound = Unbound {
         address: String::from_str(alloc, "127.0.0.1:1")?,
         error: io::Error::from(ErrorKind::AddrInUse),
