@@ -30,11 +30,7 @@ fn folder_line<R: Files>(
 /// That of a socket that could not be bound.
 fn socket_line(alloc: Global, unbound: Option<&Unbound>) -> Result<Option<String>, Memory> {
     match unbound {
-        Some(unbound) => Ok(Some(cause_line(
-            alloc,
-            unbound.address.as_str(),
-            unbound.error,
-        )?)),
+        Some(unbound) => Ok(Some(cause_line(alloc, unbound.address.as_str(), unbound.error)?)),
         None => Ok(None),
     }
 }

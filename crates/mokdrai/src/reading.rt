@@ -46,7 +46,11 @@ fn text_of<F: Read + OpenFile + Drop>(alloc: Global, file: F) -> Result<String, 
 }
 
 /// The secret of the file at a path: its text without the line feed at its end.
-pub(crate) fn secret_at<R: Files>(alloc: Global, rt: &R, path: &str) -> Result<String, SecretFault> {
+pub(crate) fn secret_at<R: Files>(
+    alloc: Global,
+    rt: &R,
+    path: &str,
+) -> Result<String, SecretFault> {
     let Ok(file) = File::open(rt, path) else {
         return Err(SecretFault::Unread);
     };
@@ -75,7 +79,11 @@ fn refused(fault: SecretFault) -> Refused {
 }
 
 /// The words with the secret of its file in the place of a path.
-pub(crate) fn with_secret<R: Files>(alloc: Global, rt: &R, words: &mut Vec<String>) -> Result<(), Refused> {
+pub(crate) fn with_secret<R: Files>(
+    alloc: Global,
+    rt: &R,
+    words: &mut Vec<String>,
+) -> Result<(), Refused> {
     let Some((place, path)) = secret_place(words) else {
         return Ok(());
     };

@@ -57,10 +57,7 @@ const MEANT: [[&str; 2]; 16] = [
         "edit --nonce=n2 localhost:8880 t --file=a.csv",
         "edit localhost:8880 612e637376 t n2",
     ],
-    [
-        "token 4a ann a.csv w 1 0 9",
-        "token 4a ann a.csv w 1 0 9",
-    ],
+    ["token 4a ann a.csv w 1 0 9", "token 4a ann a.csv w 1 0 9"],
     [
         "token --file a.csv --user ann --write --for 10h 4a",
         "token 4a ann a.csv w 1000 1000 36001000",
@@ -132,23 +129,68 @@ const TOLD: [[&str; 2]; 22] = [
     ["frob", "a command frob: once, serve, edit"],
     ["once", "FOLDER is missing: the path of a folder"],
     ["once . 4a6 http://localhost", "KEY: 1 to 64 bytes in hex"],
-    ["once . 4a http://localhost/", "BASE http://localhost/: 1 to 200 visible"],
-    ["once . 4a http://localhost more", "the word more: no word stands there"],
-    ["serve . 99999 4a http://localhost 2", "PORT 99999: a number from 1 to 65535"],
-    ["serve . 8880 4a http://localhost 17", "WORKERS 17: a number from 1 to 16"],
-    ["serve . 8880 4a http://localhost 2 --links 1025", "--links 1025: a number from 1 to 1024"],
-    ["serve . 8880 4a http://localhost 2 --first 1 --first 1", "an option: each may stand once"],
-    ["serve . 8880 4a http://localhost 2 --frob 1", "an option --frob: --journal"],
-    ["serve . 8880 4a http://localhost 2 --idle x", "--idle S: a number of seconds"],
-    ["serve . 8880 4a http://localhost 2 --each", "the value of the last option is missing"],
-    ["edit localhost 612e637376 t n", "AUTHORITY localhost: the host's name"],
-    ["edit localhost:8880 a.csv t n", "ID a.csv: a file's name in lower-case hex"],
-    ["edit localhost:8880 --file a/b t", "--file NAME: the name of a file"],
+    [
+        "once . 4a http://localhost/",
+        "BASE http://localhost/: 1 to 200 visible",
+    ],
+    [
+        "once . 4a http://localhost more",
+        "the word more: no word stands there",
+    ],
+    [
+        "serve . 99999 4a http://localhost 2",
+        "PORT 99999: a number from 1 to 65535",
+    ],
+    [
+        "serve . 8880 4a http://localhost 17",
+        "WORKERS 17: a number from 1 to 16",
+    ],
+    [
+        "serve . 8880 4a http://localhost 2 --links 1025",
+        "--links 1025: a number from 1 to 1024",
+    ],
+    [
+        "serve . 8880 4a http://localhost 2 --first 1 --first 1",
+        "an option: each may stand once",
+    ],
+    [
+        "serve . 8880 4a http://localhost 2 --frob 1",
+        "an option --frob: --journal",
+    ],
+    [
+        "serve . 8880 4a http://localhost 2 --idle x",
+        "--idle S: a number of seconds",
+    ],
+    [
+        "serve . 8880 4a http://localhost 2 --each",
+        "the value of the last option is missing",
+    ],
+    [
+        "edit localhost 612e637376 t n",
+        "AUTHORITY localhost: the host's name",
+    ],
+    [
+        "edit localhost:8880 a.csv t n",
+        "ID a.csv: a file's name in lower-case hex",
+    ],
+    [
+        "edit localhost:8880 --file a/b t",
+        "--file NAME: the name of a file",
+    ],
     ["replay 7 10001", "COUNT 10001: a number from 0 to 10000"],
     ["token 4a ann a.csv rw 1 0 1", "RIGHTS rw: r or w"],
-    ["token 4a --user ann --file a.csv --for 10", "--for TIME: it stands once"],
-    ["token 4a --user a.b --file a.csv --for 10h", "USER a.b: 1 to 64 ASCII"],
-    ["ctoken 4a --user ann --for 1h --read --write", "--read, --write: one of them"],
+    [
+        "token 4a --user ann --file a.csv --for 10",
+        "--for TIME: it stands once",
+    ],
+    [
+        "token 4a --user a.b --file a.csv --for 10h",
+        "USER a.b: 1 to 64 ASCII",
+    ],
+    [
+        "ctoken 4a --user ann --for 1h --read --write",
+        "--read, --write: one of them",
+    ],
     ["upgrade more", "the word more: no word stands there"],
     ["contents 612e637376 v1", "VERSION v1: a number below 2^64"],
 ];
@@ -191,7 +233,17 @@ fn a_time_has_a_unit(rt: HostRuntime) -> Result<(), Fail> {
     assert!(rt; span_of("2m") == Some(120_000));
     assert!(rt; span_of("10h") == Some(36_000_000));
     assert!(rt; span_of("7d") == Some(604_800_000));
-    for word in ["", "h", "10", "0h", "01h", "1w", "-1h", "1 h", "99999999999999999d"] {
+    for word in [
+        "",
+        "h",
+        "10",
+        "0h",
+        "01h",
+        "1w",
+        "-1h",
+        "1 h",
+        "99999999999999999d",
+    ] {
         assert!(rt; span_of(word).is_none(), "{word}");
     }
     Ok(())

@@ -223,7 +223,11 @@ fn asked_of(port: &str, workers: &str, rest: &[String]) -> Option<ServeAsk>
     ensures capacity { IfSome result (λ ask. (1 ≤ ask.capacity) × (ask.capacity ≤ 32768)) }
     ensures first { IfSome result (λ ask. (1 ≤ ask.first) × (ask.first ≤ most_first)) }
 {
-    asked(small_in(port, 65535), small_in(workers, WORKERS), options(rest))
+    asked(
+        small_in(port, 65535),
+        small_in(workers, WORKERS),
+        options(rest),
+    )
 }
 
 /// The keys, the base and the numbers in the words of `serve`, if the words are that command's.

@@ -47,7 +47,9 @@ fn a_secret_comes_from_a_file_that_its_owner_alone_may_read(rt: HostRuntime) -> 
     fs::set_permissions(&rt, PATH, fs::Permissions::from_mode(0o644))?;
     let (key, line) = key_and_line(&rt, LINE)?;
     assert!(rt; key.is_empty());
-    assert!(rt; line.as_slice() == b"@PATH: a file that only its owner may read: chmod 600\n".as_slice());
+    assert!(rt;
+        line.as_slice() == b"@PATH: a file that only its owner may read: chmod 600\n".as_slice()
+    );
     fs::remove_file(&rt, PATH)?;
     let (key, line) = key_and_line(&rt, LINE)?;
     assert!(rt; key.is_empty());
@@ -126,7 +128,10 @@ fn what_failed_is_told_behind_its_fault(rt: HostRuntime) -> Result<(), Fail> {
     for (status, line) in [
         (0, "ended\n"),
         (2, "a rule\n"),
-        (5, "mokdrai_test_nowhere: No such file or directory (os error 2)\n"),
+        (
+            5,
+            "mokdrai_test_nowhere: No such file or directory (os error 2)\n",
+        ),
         (10, "127.0.0.1:1: address in use\n"),
         (12, ""),
     ] {
