@@ -48,31 +48,30 @@ pub(crate) struct End<'a> {
 }
 
 impl<'a> End<'a> {
-    // The line that tells why, where that is known.
-    fn line<R: Files>(
+    /// The line that tells why a folder failed or a socket couldn't be bound. Where memory is wanting for it, there is none.
+    pub(crate) fn cause<R: Files>(
         &self,
         alloc: Global,
         folders: &[DirFolder<'_, R>],
-    ) -> Result<Option<String>, Memory> {
-        match self.status {
+    ) -> Option<String> {
+        let line = match self.status {
             5 => folder_line(alloc, folders),
             10 => socket_line(alloc, self.unbound),
             _ => Ok(None),
+        };
+        match line {
+            Ok(line) => line,
+            Err(Memory) => None,
         }
     }
 
-    /// Tells behind the line of the command's fault why it came. Where memory is wanting for that, it isn't told.
-    pub(crate) fn tell<K: Sink, R: Files>(
-        &self,
-        alloc: Global,
-        notes: &mut K,
-        folders: &[DirFolder<'_, R>],
-    ) {
+    /// Tells behind the line of the command's fault why it came.
+    pub(crate) fn tell<K: Sink>(&self, notes: &mut K, cause: Option<&str>) {
         if let (2, Some(wrong)) = (self.status, self.wrong) {
             note(notes, wrong);
         }
-        if let Ok(Some(line)) = self.line(alloc, folders) {
-            note(notes, line.as_bytes());
+        if let Some(cause) = cause {
+            note(notes, cause.as_bytes());
         }
         if self.is_told {
             note(notes, b"ended\n");

@@ -131,7 +131,8 @@ fn main(rt: HostRuntime) -> ExitCode {
         unbound: unbound.as_ref(),
         is_told: ready.is_some(),
     };
-    end.tell(alloc, &mut outside.notes, &outside.folders);
+    let cause = end.cause(alloc, &outside.folders);
+    end.tell(&mut outside.notes, cause.as_deref());
     exit_code(status)
 }
 

@@ -109,7 +109,8 @@ fn told(
         unbound: Some(unbound),
         is_told: status == 0,
     };
-    end.tell(alloc, &mut notes, folders);
+    let cause = end.cause(alloc, folders);
+    end.tell(&mut notes, cause.as_deref());
     Ok(notes.as_slice().to_vec(alloc)?)
 }
 
