@@ -1,11 +1,11 @@
 use Rattle.mokdrai.proofs.main.Goals as goal
 
-pub run-requires-clause-once : goal.run-requires-clause-once
-run-requires-clause-once g c κs = λ found.
+pub run-status-requires-clause-once : goal.run-status-requires-clause-once
+run-status-requires-clause-once g c κs = λ found.
     c.in-Ok-world.ensures.once found.2.folder (c.asked_by-asked.ensures.once found.0 found.1 found.2)
 
-pub run-requires-clause-serve : goal.run-requires-clause-serve
-run-requires-clause-serve g c κs = λ keys base ask row. c.in-Ok-world.ensures.serve row.folder ask (c.asked_by-asked.ensures.serve keys base ask row)
+pub run-status-requires-clause-serve : goal.run-status-requires-clause-serve
+run-status-requires-clause-serve g c κs = λ keys base ask row. c.in-Ok-world.ensures.serve row.folder ask (c.asked_by-asked.ensures.serve keys base ask row)
 
-pub run-requires-clause-has_all_back : goal.run-requires-clause-has_all_back
-run-requires-clause-has_all_back g c κs = λ row. c.in-Ok-world.ensures.has_all_back
+pub run-status-requires-clause-has_all_back : goal.run-status-requires-clause-has_all_back
+run-status-requires-clause-has_all_back g c κs = λ row. c.in-Ok-world.ensures.has_all_back
