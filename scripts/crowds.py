@@ -4,9 +4,9 @@
 Starts PROGRAM (./mokdrai where it is left out) as a `serve` of 16 workers over a folder of its own. CLIENTS (500) come at
 once: directly, through nginx (two processes that each keep eight connections to the host), and through Apache as it
 comes. One in ten connects and says nothing. Each other client asks for a file five times over one connection that it
-keeps, with a pause before each request. Then the same with `--links 64`. Every request of every client that speaks has
-to be answered 200 within 30 seconds. The host is ended by SIGTERM while kept connections are still open, and has to
-end in order with an entry for each request. It is no part of the gate.
+keeps, with a pause before each request. Then the same with `--links 64`, and with as many as all clients need. Every
+request of every client that speaks has to be answered 200 within 30 seconds. The host is ended by SIGTERM while kept
+connections are still open, and has to end in order with an entry for each request. It is no part of the gate.
 """
 import hashlib
 import hmac
@@ -208,7 +208,7 @@ def main():
     program = os.path.abspath(sys.argv[1] if len(sys.argv) > 1 else "./mokdrai")
     clients = int(sys.argv[2]) if len(sys.argv) > 2 else 500
     fine = True
-    for options in ([], ["--links", "64"]):
+    for options in ([], ["--links", "64"], ["--links", "600"]):
         for through in ("directly", "nginx", "Apache"):
             if through == "nginx" and not shutil.which("nginx") or through == "Apache" and not os.path.isdir(MODULES):
                 print(f"through {through}: not tried, it isn't there")
