@@ -1,13 +1,9 @@
 //! What is made of words as people write them.
-use crate::after::End;
 use crate::around::{Around, USUAL};
-use crate::making::{Unbound, listen};
+use crate::making::listen;
 use crate::reading::understand;
-use adapters::DirFolder;
-use outside::{Folder, MemSink};
 use std::alloc::Global;
 use std::fs;
-use std::io::{self, ErrorKind};
 use std::os::unix::fs::PermissionsExt;
 use std::test::Fail;
 use wopi_program::ServeAsk;
@@ -29,8 +25,8 @@ fn key_and_line(rt: &HostRuntime, line: &str) -> Result<(String, Vec<u8>), Fail>
         Some(key) => key.clone()?,
         None => String::new(alloc),
     };
-    let line = match asking.line {
-        Some(line) => line,
+    let line = match asking.line.as_deref() {
+        Some(line) => line.to_vec(alloc)?,
         None => Vec::new(alloc),
     };
     Ok((key, line))
@@ -91,53 +87,5 @@ fn the_address_of_the_words_is_listened_at(rt: HostRuntime) -> Result<(), Fail> 
         return Err(Fail::new("an address of nobody was bound"));
     };
     assert!(rt; unbound.address.as_str() == "192.0.2.1:8880");
-    Ok(())
-}
-
-// What is told behind the line of a command with this status.
-fn told(
-    rt: &HostRuntime,
-    status: u8,
-    folders: &[DirFolder<'_, HostRuntime>],
-    unbound: &Unbound,
-) -> Result<Vec<u8>, Fail> {
-    let alloc = rt.alloc();
-    let mut notes = MemSink::new(alloc, 100, Vec::new(alloc))?;
-    let end = End {
-        status,
-        wrong: Some(b"a rule\n"),
-        unbound: Some(unbound),
-        is_told: status == 0,
-    };
-    let cause = end.cause(alloc, folders);
-    end.tell(&mut notes, cause.as_deref());
-    Ok(notes.as_slice().to_vec(alloc)?)
-}
-
-#[test]
-fn what_failed_is_told_behind_its_fault(rt: HostRuntime) -> Result<(), Fail> {
-    let alloc = rt.alloc();
-    let mut folders = Vec::new(alloc);
-    folders.push(DirFolder::new(alloc, &rt, "/")?)?;
-    let mut lost = DirFolder::new(alloc, &rt, "mokdrai_test_nowhere")?;
-    assert!(rt; lost.list().is_err());
-    folders.push(lost)?;
-    let unbound = Unbound {
-        address: String::from_str(alloc, "127.0.0.1:1")?,
-        error: io::Error::from(ErrorKind::AddrInUse),
-    };
-    for (status, line) in [
-        (0, "ended\n"),
-        (2, "a rule\n"),
-        (
-            5,
-            "mokdrai_test_nowhere: No such file or directory (os error 2)\n",
-        ),
-        (10, "127.0.0.1:1: address in use\n"),
-        (12, ""),
-    ] {
-        let told = told(&rt, status, &folders, &unbound)?;
-        assert!(rt; told.as_slice() == line.as_bytes(), "{status}");
-    }
     Ok(())
 }

@@ -1,0 +1,13 @@
+//! The tests of the real streams, folder, sockets and clock.
+//!
+//! They stand in a crate of their own over the library, so that it is proved once.
+#![tactic(auto)]
+
+#[cfg(test)]
+mod failing_files;
+#[cfg(test)]
+mod folders;
+#[cfg(test)]
+mod sockets;
+#[cfg(test)]
+mod timing;
