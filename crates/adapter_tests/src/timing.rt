@@ -82,28 +82,6 @@ fn a_client_that_reads_nothing_is_given_up(rt: HostRuntime) -> Result<(), Fail> 
 }
 
 #[test]
-fn an_idle_link_gives_way_to_who_waits(rt: HostRuntime) -> Result<(), Fail> {
-    let (door, port) = open_door(&rt)?;
-    let mut listener = TcpListen::new(rt, Some(door), SHORT, 2);
-    let mut first = connect(&rt, port)?;
-    let mut link = link_of(&mut listener)?;
-    first.write_all(b"ask!".as_slice())?;
-    assert!(rt; answer(&mut link));
-    let mut second = connect(&rt, port)?;
-    second.write_all(b"ask!".as_slice())?;
-    assert!(rt; read_link(&mut link, &mut [0u8; 4]) == Ok(0));
-    listener.finish(link);
-    let mut link = link_of(&mut listener)?;
-    assert!(rt; answer(&mut link));
-    let mut reply = [0u8; 5];
-    second.read_exact(&mut reply)?;
-    assert!(rt; reply == *b"reply");
-    drop(second);
-    listener.finish(link);
-    Ok(())
-}
-
-#[test]
 fn a_reply_arrives_over_bytes_that_nobody_read(rt: HostRuntime) -> Result<(), Fail> {
     let (door, port) = open_door(&rt)?;
     let mut listener = TcpListen::new(rt, Some(door), SHORT, 1);
