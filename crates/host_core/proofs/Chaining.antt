@@ -4,7 +4,6 @@ use Rattle.std.proofs.lemmas.Option.{none-some}
 use Rattle.std.specs.Str.{bytes_eq}
 use Rattle.outside.specs.Folder.{Files}
 use Rattle.file_versions.specs.Places.{first_of}
-use Rattle.file_versions.specs.Versions.{kept_in}
 use Rattle.wopi_model.specs.File.{File, never_met}
 use Rattle.wopi_model.specs.Settle.{standing, expired, is_over, still_spent, with_spent, settled}
 use Rattle.wopi_model.specs.declared.locks.Lock.{Lock}
@@ -16,6 +15,7 @@ use Rattle.host_core.specs.Archive.{place_in}
 use Rattle.host_core.specs.Chains.{KeepsChains, chain_at}
 use Rattle.host_core.specs.Files.{file_of, files_of, is_named}
 use Rattle.host_core.specs.Ledger.{files_in, IsTied}
+use Rattle.host_core.specs.Notes.{Notes}
 use Rattle.host_core.specs.Numbers.{named}
 use Rattle.host_core.specs.Value.{Book, Reflects, Stands}
 use Rattle.host_core.specs.Whole.{whole, standing_at, joined}
@@ -80,23 +80,23 @@ found_at first (k ∷ files) [] name number at =
 found_at first (k ∷ files) (s ∷ ss) name number at = found_one first k s files ss name number (λ m e. found_at first files ss name m e) (bytes_eq k.name name) refl at
 
 -- what is kept has the chains of what has happened
-chains_kept : {F : Type 0} (ledger : Ledger) (book : Book F) → book.time ≡ ledger.time → Reflects book.opening book.opened book.first book.capacity book.made book.time ledger.last (kept_in ledger.versions.list) (files_in ledger) → IsTied ledger
+chains_kept : {F : Type 0} (ledger : Ledger) (notes : Notes) (book : Book F) → book.time ≡ ledger.time → Reflects book.opening book.opened book.first book.capacity book.made book.time ledger.last ledger.bytes (files_in ledger) → IsTied ledger notes
     → KeepsChains ledger book
-chains_kept ledger book time keeps tied = λ name number at.
-    let ss = ledger.locks.files in
+chains_kept ledger notes book time keeps tied = λ name number at.
+    let ss = ledger.rack.locks.files in
     let s = standing_at ss number in
-    let (k, is) = found_at book.first ledger.files.items ss name number at in
-    let shown = shown-file book.opening book.opened book.first book.capacity book.made book.time ledger.last (kept_in ledger.versions.list) (files_in ledger) keeps name in
+    let (k, is) = found_at book.first ledger.rack.files.items ss name number at in
+    let shown = shown-file book.opening book.opened book.first book.capacity book.made book.time ledger.last ledger.bytes (files_in ledger) keeps name in
     let none : expired s.lock ledger.time ≡ None = unexpired s.lock ledger.time (tied.stand number) in
-    ap (still_spent (chain_at ledger.locks.chains number)) time
-    ∙ chain_still ledger.locks.chains ss ledger.time number (tied.locked.as_of.chains ledger.time tied.locked.as_of.stepped)
+    ap (still_spent (chain_at ledger.rack.locks.chains number)) time
+    ∙ chain_still ledger.rack.locks.chains ss ledger.time number (tied.locked.as_of.chains ledger.time tied.locked.as_of.stepped)
     ∙ sym (ap (λ (o : Option Spent). still_spent (with_spent o s.spent) ledger.time) none)
     ∙ sym (ap (λ (n : ℕ). still_spent (with_spent (expired s.lock n) s.spent) n) time)
     ∙ sym (ap (λ (f : File). (settled f book.time).spent) is)
     ∙ ap (λ (f : File). f.spent) shown
 
 -- what holds of a shard's parts, with its chains
-pub with_chains : {F : Type 0} (ledger : Ledger) (book : Book F) (start now : Option Files) (began count : ℕ) → book.time ≡ ledger.time
-    → Stands book ledger.last ledger.first_files (files_in ledger) ledger.versions.list start now began count → IsTied ledger
-    → Stands book ledger.last ledger.first_files (files_in ledger) ledger.versions.list start now began count × IsTied ledger × KeepsChains ledger book
-with_chains ledger book start now began count time stands tied = (stands, tied, chains_kept ledger book time stands.keeps tied)
+pub with_chains : {F : Type 0} (ledger : Ledger) (notes : Notes) (book : Book F) (start now : Option Files) (began count : ℕ) → book.time ≡ ledger.time
+    → Stands book ledger.last (files_in ledger) ledger.bytes start now began count → IsTied ledger notes
+    → Stands book ledger.last (files_in ledger) ledger.bytes start now began count × IsTied ledger notes × KeepsChains ledger book
+with_chains ledger notes book start now began count time stands tied = (stands, tied, chains_kept ledger notes book time stands.keeps tied)

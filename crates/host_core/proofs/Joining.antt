@@ -1,16 +1,13 @@
 -- The files joined with what stands under their numbers.
-use Rattle.std.proofs.Common.{◌≡◌, ◌≢◌, ◌<◌, ◌+◌, ◌-◌, ℕ, zero, suc, Bool, true, false, if◌then◌else◌, List, [], ◌∷◌, ◌++◌, length, set, get_or, Option, None, Some, option_map, unwrap_or, refl, sym, ap, subst, ◌∙◌, arith, slice_get}
+use Rattle.std.proofs.Common.{◌≡◌, ◌≢◌, ◌<◌, ◌-◌, ℕ, zero, suc, Bool, true, false, if◌then◌else◌, List, [], ◌∷◌, ◌++◌, length, set, get_or, Option, None, Some, option_map, unwrap_or, refl, sym, ap, subst, ◌∙◌, arith, slice_get}
 use Rattle.std.specs.Str.{bytes_eq}
 use Rattle.wopi_model.specs.File.{File, never_met}
-use Rattle.wopi_model.specs.Shard.{Opening}
-use Rattle.file_versions.specs.declared.Version.{Version}
 use Rattle.file_versions.specs.Places.{first_of}
 use Rattle.kept_locks.specs.Locks.{Standing, ended_at, all_ended}
 use Rattle.kept_locks.specs.Whole.{ended_file}
 use Rattle.host_core.specs.declared.file.KeptFile.{KeptFile}
-use Rattle.host_core.specs.Archive.{AreHeld, IsStocked, AreOpeningFiles, AreKept, AreWithin, IsArchive, names_of}
-use Rattle.host_core.specs.Entries.{Made}
-use Rattle.host_core.specs.Files.{file_of, is_named, files_of, torn_in, IsKeptUnder}
+use Rattle.host_core.specs.Archive.{AreWithin, names_of}
+use Rattle.host_core.specs.Files.{file_of, is_named, files_of, torn_in}
 use Rattle.host_core.specs.Numbers.{named}
 use Rattle.host_core.specs.Whole.{Whole, whole, standing_at, joined}
 
@@ -143,35 +140,8 @@ contents_any oldest files ss ss' name =
     ∙ read_any (λ (w : Whole). w.contents) None (λ k s s'. refl) files ss ss' name
     ∙ sym (field oldest (λ (f : File). f.contents) (first_of (is_named name) (joined files ss')))
 
-pub held_as : (number : ℕ) (k : KeptFile) (s s' : Standing) (versions : List Version) → IsKeptUnder number (whole k s) versions → IsKeptUnder number (whole k s') versions
-held_as number k s s' versions held = record { current = held.current; later = held.later }
-
-held_any : (number : ℕ) (files : List KeptFile) (ss ss' : List Standing) (versions : List Version) → AreHeld number (joined files ss) versions → AreHeld number (joined files ss') versions
-held_any number [] ss ss' versions held = tt
-held_any number (k ∷ files) ss ss' versions held =
-    let parts = subst (λ (l : List Whole). AreHeld number l versions) (joined_cons k files ss) held in
-    subst (λ (l : List Whole). AreHeld number l versions) (sym (joined_cons k files ss'))
-    (held_as number k (standing_at ss 0) (standing_at ss' 0) versions parts.0, held_any (number + 1) files (later ss) (later ss') versions parts.1)
-
 pub within_any : (most : ℕ) (files : List KeptFile) (ss ss' : List Standing) → AreWithin most (joined files ss) → AreWithin most (joined files ss')
 within_any most [] ss ss' within = tt
 within_any most (k ∷ files) ss ss' within =
     let parts = subst (AreWithin most) (joined_cons k files ss) within in
     subst (AreWithin most) (sym (joined_cons k files ss')) (parts.0, within_any most files (later ss) (later ss') parts.1)
-
-pub stocked_any : (files : List KeptFile) (ss ss' : List Standing) (versions : List Version) → IsStocked (joined files ss) versions → IsStocked (joined files ss') versions
-stocked_any files ss ss' versions stocked = record {
-  held = held_any 0 files ss ss' versions stocked.held;
-  beyond = λ number version le. stocked.beyond number version (let one = long_joined files ss in let two = long_joined files ss' in omega (arith, le, one, two));
-}
-
-pub archive_any : (oldest : ℕ) (opening : Opening) (made : List Made) (files : List KeptFile) (ss ss' : List Standing) (versions : List Version)
-    → IsArchive oldest opening made (joined files ss) versions → IsArchive oldest opening made (joined files ss') versions
-archive_any oldest opening made files ss ss' versions archive =
-    let same : names_of (joined files ss) ≡ names_of (joined files ss') = names_joined files ss ∙ sym (names_joined files ss') in
-    record {
-      stocked = stocked_any files ss ss' versions archive.stocked;
-      opened = subst (λ (n : List (List ℕ)). AreOpeningFiles oldest 0 opening n versions) same archive.opened;
-      kept = subst (λ (n : List (List ℕ)). AreKept made n versions) same archive.kept;
-      within = within_any (oldest + length made) files ss ss' archive.within;
-    }

@@ -6,8 +6,8 @@ use Rattle.std.proofs.lemmas.Slice.Eq.{bytes_eq-Decides}
 use Rattle.std.specs.Str.{bytes_eq}
 use Rattle.wopi_text.proofs.Disjunctions.{or_none}
 use Rattle.host_core.specs.Opening.{MayKeep}
-use Rattle.host_core.specs.Archive.{IsArchive, AreKept, AreWithin, IsKept, StaysKept, names_of}
-use Rattle.wopi_model.specs.Shard.{Opening}
+use Rattle.host_core.specs.Archive.{AreWithin}
+use Rattle.host_core.specs.Notes.{Notes}
 use Rattle.outside.specs.Folder.{Files}
 use Rattle.outside.specs.Folder as folder
 use Rattle.outside.specs.Faults.{Rose, RoseBy}
@@ -30,11 +30,9 @@ use Rattle.host_core.specs.Ledger.{Takes, Stays, made_by, files_in, ended_in}
 use Rattle.kept_locks.specs.Locks.{Standing, all_ended}
 use Rattle.wopi_model.specs.Host.{new_bytes}
 use Rattle.host_core.proofs.History.{keeps-step, keeps-stays, keeps-tick, keeps-ended}
-use Rattle.host_core.proofs.Joining.{contents_any, torn_any, archive_any, long_joined}
+use Rattle.host_core.proofs.Joining.{contents_any, torn_any, within_any, long_joined}
 use Rattle.host_core.specs.Times.{GoesByEntries}
 use Rattle.host_core.proofs.Timing.{goes-push, legal-untimed}
-use Rattle.file_versions.specs.declared.Version.{Version}
-use Rattle.file_versions.specs.Versions.{kept_in}
 use Rattle.host_core.proofs.Decisions.{contents-step}
 
 -- one more store call may have failed
@@ -122,37 +120,6 @@ made_long (first ∷ made) one = let more = made_long made one in omega (arith, 
 below_full : (n m capacity : ℕ) → m ≡ n + 1 → n ≤ capacity → n ≢ capacity → m ≤ capacity
 below_full n m capacity more le differ = grind (arith, nat_tests)
 
-kept_all : (made : List Made) (names names' : List (List ℕ)) (old new : List Version) → ((call : Call) (ruling : Ruling) → IsKept call ruling names old → IsKept call ruling names' new)
-    → AreKept made names old → AreKept made names' new
-kept_all [] names names' old new more kept = tt
-kept_all (one ∷ made) names names' old new more kept = (more one.step.call one.step.ruling kept.0, kept_all made names names' old new more kept.1)
-
-kept_push : (made : List Made) (one : Made) (names : List (List ℕ)) (versions : List Version) → AreKept made names versions → IsKept one.step.call one.step.ruling names versions → AreKept (made ++ one ∷ []) names versions
-kept_push [] one names versions kept last = (last, tt)
-kept_push (first ∷ made) one names versions kept last = (kept.0, kept_push made one names versions kept.1 last)
-
--- what is kept of the contents, with a step more
-archive-step : (oldest : ℕ) (opening : Opening) (made : List Made) (one : Made) (before after : List Whole) (old new : List Version) → IsArchive oldest opening made before old
-    → StaysKept before after old new → IsKept one.step.call one.step.ruling (names_of after) new → ((most : ℕ) → oldest ≤ most → AreWithin most before → AreWithin (most + 1) after)
-    → IsArchive oldest opening (made ++ one ∷ []) after new
-archive-step oldest opening made one before after old new archive stays kept within =
-    let more : oldest + length made + 1 ≡ oldest + length (made ++ one ∷ []) = let long = made_long made one in omega (arith, long) in
-    record {
-      stocked = stays.stocked;
-      opened = stays.opened oldest opening archive.opened;
-      kept = kept_push made one (names_of after) new (kept_all made (names_of before) (names_of after) old new stays.kept archive.kept) kept;
-      within = subst (λ (n : ℕ). AreWithin n after) more (within (oldest + length made) (omega arith) archive.within);
-    }
-
-archive-stays : (oldest : ℕ) (opening : Opening) (made : List Made) (before after : List Whole) (old new : List Version) → IsArchive oldest opening made before old
-    → StaysKept before after old new → ((most : ℕ) → AreWithin most before → AreWithin most after) → IsArchive oldest opening made after new
-archive-stays oldest opening made before after old new archive stays within = record {
-  stocked = stays.stocked;
-  opened = stays.opened oldest opening archive.opened;
-  kept = kept_all made (names_of before) (names_of after) old new stays.kept archive.kept;
-  within = within (oldest + length made) archive.within;
-}
-
 agrees-state : (only : Option ℕ) (start now : Option Files) (files state : List ℕ → File) (torn torn' : List ℕ → Bool) → ((name : List ℕ) → (state name).contents ≡ (files name).contents) → ((name : List ℕ) → torn name ≡ torn' name)
     → Agrees only start now files torn → Agrees only start now state torn'
 agrees-state only None None files state torn torn' same tears agrees = tt
@@ -161,16 +128,16 @@ agrees-state only (Some start) None files state torn torn' same tears agrees = a
 agrees-state only (Some start) (Some now) files state torn torn' same tears agrees = (λ name named whole. agrees.0 name named (tears name ∙ whole) ∙ sym (same name), agrees.1)
 
 -- the shard after a step
-pub stands-step : {F : Type 0} (book : Book F) (before after : Ledger) (start now now' : Option Files) (began count count' : ℕ) (call : Call) (pass floor moment : ℕ) (ruling : Ruling) (folder' : F)
-    → Stands book before.last before.first_files (files_in before) before.versions.list start now began count
+pub stands-step : {F : Type 0} (book : Book F) (before after : Ledger) (old new : Notes) (start now now' : Option Files) (began count count' : ℕ) (call : Call) (pass floor moment : ℕ) (ruling : Ruling) (folder' : F)
+    → Stands book before.last (files_in before) before.bytes start now began count
     → book.opened ≡ before.opened → book.first ≡ before.first → book.time ≡ before.time → IsMoment moment → MayKeep book.only call.name → length book.made ≢ book.capacity
-    → Takes before after call pass floor moment ruling → StoresAs now now' call ruling → count ≤ count' → (ruling.status ≡ 500 → Rose count count')
+    → Takes before after old new call pass floor moment ruling → StoresAs now now' call ruling → count ≤ count' → (ruling.status ≡ 500 → Rose count count')
     → Stands (record book { made = book.made ++ made_by before call pass floor moment ruling ∷ []; time = max book.time moment; folder = folder' })
-    after.last after.first_files (files_in after) after.versions.list start now' began count'
-stands-step book before after start now now' began count count' call pass floor moment ruling folder' stands opened first time m own room takes stores le fault =
+    after.last (files_in after) after.bytes start now' began count'
+stands-step book before after old new start now now' began count count' call pass floor moment ruling folder' stands opened first time m own room takes stores le fault =
     let later = max book.time moment in
     let same_time : max before.time moment ≡ later = ap (λ (t : ℕ). max t moment) (sym time) in
-    let mid = joined before.files.items (all_ended later before.locks.files) in
+    let mid = joined before.rack.files.items (all_ended later before.rack.locks.files) in
     let mid_is : ended_in before (max before.time moment) ≡ mid = ap (ended_in before) same_time in
     let again : max later moment ≡ later = omega arith in
     let steps : TakesStep book.first mid (files_in after) call book.opened later ruling =
@@ -179,77 +146,76 @@ stands-step book before after start now now' began count count' call pass floor 
     (subst (λ (l : List Whole). TakesStep book.first l (files_in after) call before.opened (max before.time moment) ruling) mid_is
     (subst (λ (n : ℕ). TakesStep n (ended_in before (max before.time moment)) (files_in after) call before.opened (max before.time moment) ruling) (sym first) takes.steps))) in
     let steps' = subst (λ (t : ℕ). TakesStep book.first mid (files_in after) call book.opened t ruling) (sym again) steps in
-    let bytes = kept_in before.versions.list in
+    let bytes = before.bytes in
     let one : Made = record { time = later; step = record { stamp = max before.last floor + 1; pass = pass; moment = moment; call = call; ruling = ruling } } in
     let same : one ≡ made_by before call pass floor moment ruling = ap (λ (t : ℕ). made_at t before.last call pass floor moment ruling) time in
     let made' = book.made ++ made_by before call pass floor moment ruling ∷ [] in
     let mid_keeps : Reflects book.opening book.opened book.first book.capacity book.made later before.last bytes mid =
-    keeps-ended book.opening book.opened book.first book.capacity book.made later before.last bytes before.files.items before.locks.files
+    keeps-ended book.opening book.opened book.first book.capacity book.made later before.last bytes before.rack.files.items before.rack.locks.files
     (keeps-tick book.opening book.opened book.first book.capacity book.made book.time before.last bytes (files_in before) stands.keeps moment m) in
     let mid_agrees : Agrees book.only start now (files_of book.first mid) (torn_in mid) =
     agrees-state book.only start now (files_of book.first (files_in before)) (files_of book.first mid) (torn_in (files_in before)) (torn_in mid)
-    (λ name. contents_any book.first before.files.items (all_ended later before.locks.files) before.locks.files name)
-    (λ name. torn_any before.files.items before.locks.files (all_ended later before.locks.files) name) stands.folder in
-    let mid_archive : IsArchive book.first book.opening book.made mid before.versions.list =
-    archive_any book.first book.opening book.made before.files.items before.locks.files (all_ended later before.locks.files) before.versions.list stands.archive in
+    (λ name. contents_any book.first before.rack.files.items (all_ended later before.rack.locks.files) before.rack.locks.files name)
+    (λ name. torn_any before.rack.files.items before.rack.locks.files (all_ended later before.rack.locks.files) name) stands.folder in
+    let mid_within : AreWithin (book.first + length book.made) mid = within_any (book.first + length book.made) before.rack.files.items before.rack.locks.files (all_ended later before.rack.locks.files) stands.within in
     let stepped : Reflects book.opening book.opened book.first book.capacity (book.made ++ one ∷ []) later (max before.last floor + 1) (bytes + (if ruling.status == 200 then new_bytes call.act else 0)) (files_in after) =
     subst (λ (t : ℕ). Reflects book.opening book.opened book.first book.capacity (book.made ++ record { time = t; step = one.step } ∷ []) t (max before.last floor + 1) (bytes + (if ruling.status == 200 then new_bytes call.act else 0)) (files_in after)) again
     (keeps-step book.opening book.opened book.first book.capacity book.made later before.last bytes mid (files_in after) mid_keeps call pass floor moment ruling m steps') in
     record {
       keeps =
-          subst (λ (x : Made). Reflects book.opening book.opened book.first book.capacity (book.made ++ x ∷ []) later after.last (kept_in after.versions.list) (files_in after)) same
-          (subst (λ (l : ℕ). Reflects book.opening book.opened book.first book.capacity (book.made ++ one ∷ []) later l (kept_in after.versions.list) (files_in after)) (sym takes.last)
+          subst (λ (x : Made). Reflects book.opening book.opened book.first book.capacity (book.made ++ x ∷ []) later after.last after.bytes (files_in after)) same
+          (subst (λ (l : ℕ). Reflects book.opening book.opened book.first book.capacity (book.made ++ one ∷ []) later l after.bytes (files_in after)) (sym takes.last)
           (subst (λ (b : ℕ). Reflects book.opening book.opened book.first book.capacity (book.made ++ one ∷ []) later (max before.last floor + 1) b (files_in after)) (sym takes.kept) stepped));
       folder = agrees-step book.first book.only start now now' mid (files_in after) call book.opened later ruling mid_agrees own steps stores;
       faults = rose-step began count count' book.made (made_by before call pass floor moment ruling) stands.faults le fault;
       timely = λ h.
           subst (λ (x : Made). GoesByEntries book.opened (book.made ++ x ∷ []) (max book.time moment)) same (goes-push book.opened book.made one book.time (stands.timely h) refl);
-      archive = archive-step book.first book.opening book.made (made_by before call pass floor moment ruling) mid (files_in after) before.versions.list after.versions.list mid_archive
-          (subst (λ (l : List Whole). StaysKept l (files_in after) before.versions.list after.versions.list) mid_is takes.stays) takes.archived
-          (λ most above within. takes.within most (subst (λ (n : ℕ). n ≤ most) first above) (subst (AreWithin most) (sym mid_is) within));
-      first_files_are = takes.first_files ∙ stands.first_files_are;
+      within =
+          let more : book.first + length book.made + 1 ≡ book.first + length (book.made ++ made_by before call pass floor moment ruling ∷ []) = let long = made_long book.made (made_by before call pass floor moment ruling) in omega (arith, long) in
+          let above : before.first ≤ book.first + length book.made = omega (arith, first) in
+          subst (λ (n : ℕ). AreWithin n (files_in after)) more
+          (takes.within (book.first + length book.made) above (subst (AreWithin (book.first + length book.made)) (sym mid_is) mid_within));
       number = stands.number;
       few =
           let more = made_long book.made (made_by before call pass floor moment ruling) in
           let old = stands.few in
           let grown = takes.few in
-          let was = long_joined before.files.items before.locks.files in
-          let is = long_joined after.files.items after.locks.files in
+          let was = long_joined before.rack.files.items before.rack.locks.files in
+          let is = long_joined after.rack.files.items after.rack.locks.files in
           omega (arith, more, old, grown, was, is);
       places = let more = made_long book.made (made_by before call pass floor moment ruling) in let old = stands.places in below_full (length book.made) _ book.capacity more old room;
     }
 
 -- and after one that was refused
-pub stands-stays : {F : Type 0} (book : Book F) (before after : Ledger) (start now now' : Option Files) (began count count' : ℕ) (folder' : F)
-    → Stands book before.last before.first_files (files_in before) before.versions.list start now began count
-    → book.first ≡ before.first → Stays before after → folder.Keeps now now' → count ≤ count'
-    → Stands (record book { folder = folder' }) after.last after.first_files (files_in after) after.versions.list start now' began count'
-stands-stays book before after start now now' began count count' folder' stands first stays keeps le =
+pub stands-stays : {F : Type 0} (book : Book F) (before after : Ledger) (old new : Notes) (start now now' : Option Files) (began count count' : ℕ) (folder' : F)
+    → Stands book before.last (files_in before) before.bytes start now began count
+    → book.first ≡ before.first → Stays before after old new → folder.Keeps now now' → count ≤ count'
+    → Stands (record book { folder = folder' }) after.last (files_in after) after.bytes start now' began count'
+stands-stays book before after old new start now now' began count count' folder' stands first stays keeps le =
     let same : ShowsSame book.first (files_in before) (files_in after) = subst (λ (n : ℕ). ShowsSame n (files_in before) (files_in after)) (sym first) stays.files in
     record {
       keeps =
-          subst (λ (l : ℕ). Reflects book.opening book.opened book.first book.capacity book.made book.time l (kept_in after.versions.list) (files_in after)) (sym stays.last)
-          (subst (λ (v : List Version). Reflects book.opening book.opened book.first book.capacity book.made book.time before.last (kept_in v) (files_in after)) (sym stays.versions)
-          (keeps-stays book.opening book.opened book.first book.capacity book.made book.time before.last (kept_in before.versions.list) (files_in before) (files_in after) stands.keeps same));
+          subst (λ (l : ℕ). Reflects book.opening book.opened book.first book.capacity book.made book.time l after.bytes (files_in after)) (sym stays.last)
+          (subst (λ (v : ℕ). Reflects book.opening book.opened book.first book.capacity book.made book.time before.last v (files_in after)) (sym stays.kept)
+          (keeps-stays book.opening book.opened book.first book.capacity book.made book.time before.last before.bytes (files_in before) (files_in after) stands.keeps same));
       folder = agrees-stays book.first book.only start now now' (files_in before) (files_in after) stands.folder same keeps;
       faults = rose-stays began (faults_in book.made) count count' stands.faults le;
       timely = stands.timely;
-      archive = archive-stays book.first book.opening book.made (files_in before) (files_in after) before.versions.list after.versions.list stands.archive stays.stays stays.within;
-      first_files_are = stays.first_files ∙ stands.first_files_are;
+      within = stays.within (book.first + length book.made) stands.within;
       number = stands.number;
       few =
           let old = stands.few in
           let same = stays.few in
-          let was = long_joined before.files.items before.locks.files in
-          let is = long_joined after.files.items after.locks.files in
+          let was = long_joined before.rack.files.items before.rack.locks.files in
+          let is = long_joined after.rack.files.items after.rack.locks.files in
           omega (arith, old, same, was, is);
       places = stands.places;
     }
 
 -- what holds of every shard
-pub lawful : {F : Type 0} (book : Book F) (last first : ℕ) (files : List Whole) (versions : List Version) (start now : Option Files) (began count : ℕ)
-    → Stands book last first files versions start now began count → IsLawful book start now began count
-lawful book last first files versions start now began count stands = record {
+pub lawful : {F : Type 0} (book : Book F) (last : ℕ) (files : List Whole) (bytes : ℕ) (start now : Option Files) (began count : ℕ)
+    → Stands book last files bytes start now began count → IsLawful book start now began count
+lawful book last files bytes start now began count stands = record {
   legal = Legal-tick book.opening book.opened book.first (items_of book.made) book.time stands.keeps.legal;
   folder = agrees-state book.only start now (files_of book.first files) (state_of book.opening book.opened book.first book.made book.time).files (torn_in files) (is_torn book.made)
       (λ name. sym (ap (λ (f : File). f.contents) (stands.keeps.shows name))) stands.keeps.torn stands.folder;
@@ -260,58 +226,59 @@ lawful book last first files versions start now began count stands = record {
 }
 
 -- the book with a step is that of the parts after it
-pub book_step : {F : Type 0} (book : Book F) (before after : Ledger) (call : Call) (pass floor moment : ℕ) (ruling : Ruling) (folder' : F)
-    → book.opened ≡ before.opened → book.first ≡ before.first → book.capacity ≡ before.capacity → book.made ≡ before.entries.items → book.time ≡ before.time
-    → Takes before after call pass floor moment ruling
+pub book_step : {F : Type 0} (book : Book F) (before after : Ledger) (old new : Notes) (call : Call) (pass floor moment : ℕ) (ruling : Ruling) (folder' : F)
+    → book.opening ≡ old.opening → book.opened ≡ before.opened → book.first ≡ before.first → book.capacity ≡ before.capacity → book.made ≡ old.made → book.time ≡ before.time
+    → Takes before after old new call pass floor moment ruling
     → (record book { made = book.made ++ made_by before call pass floor moment ruling ∷ []; time = max book.time moment; folder = folder' })
-    ≡ record { only = book.only; opening = book.opening; opened = after.opened; first = after.first; capacity = after.capacity; made = after.entries.items; time = after.time; ticked = book.ticked; start = book.start; folder = folder' }
-book_step book before after call pass floor moment ruling folder' opened first capacity made time takes =
+    ≡ record { only = book.only; opening = new.opening; opened = after.opened; first = after.first; capacity = after.capacity; made = new.made; time = after.time; ticked = book.ticked; start = book.start; folder = folder' }
+book_step book before after old new call pass floor moment ruling folder' opening opened first capacity made time takes =
+    let opening' = opening ∙ sym takes.keeps.opening in
     let opened' = opened ∙ sym takes.opened in
     let first' = first ∙ sym takes.first in
     let capacity' = capacity ∙ sym takes.capacity in
-    let made' : book.made ++ made_by before call pass floor moment ruling ∷ [] ≡ after.entries.items =
+    let made' : book.made ++ made_by before call pass floor moment ruling ∷ [] ≡ new.made =
     ap (λ (m : List Made). m ++ made_by before call pass floor moment ruling ∷ []) made ∙ sym takes.entries in
     let time' : max book.time moment ≡ after.time = ap (λ (t : ℕ). max t moment) time ∙ sym takes.time in
-    λ i. record { only = book.only; opening = book.opening; opened = opened' i; first = first' i; capacity = capacity' i; made = made' i; time = time' i; ticked = book.ticked; start = book.start; folder = folder' }
+    λ i. record { only = book.only; opening = opening' i; opened = opened' i; first = first' i; capacity = capacity' i; made = made' i; time = time' i; ticked = book.ticked; start = book.start; folder = folder' }
 
-pub book_stays : {F : Type 0} (book : Book F) (before after : Ledger) (folder' : F)
-    → book.opened ≡ before.opened → book.first ≡ before.first → book.capacity ≡ before.capacity → book.made ≡ before.entries.items → book.time ≡ before.time
-    → Stays before after
+pub book_stays : {F : Type 0} (book : Book F) (before after : Ledger) (old new : Notes) (folder' : F)
+    → book.opening ≡ old.opening → book.opened ≡ before.opened → book.first ≡ before.first → book.capacity ≡ before.capacity → book.made ≡ old.made → book.time ≡ before.time
+    → Stays before after old new
     → (record book { folder = folder' })
-    ≡ record { only = book.only; opening = book.opening; opened = after.opened; first = after.first; capacity = after.capacity; made = after.entries.items; time = after.time; ticked = book.ticked; start = book.start; folder = folder' }
-book_stays book before after folder' opened first capacity made time stays =
+    ≡ record { only = book.only; opening = new.opening; opened = after.opened; first = after.first; capacity = after.capacity; made = new.made; time = after.time; ticked = book.ticked; start = book.start; folder = folder' }
+book_stays book before after old new folder' opening opened first capacity made time stays =
+    let opening' = opening ∙ sym stays.noted.opening in
     let opened' = opened ∙ sym stays.opened in
     let first' = first ∙ sym stays.first in
     let capacity' = capacity ∙ sym stays.capacity in
-    let made' = made ∙ sym stays.entries in
+    let made' = made ∙ sym stays.noted.made in
     let time' = time ∙ sym stays.time in
-    λ i. record { only = book.only; opening = book.opening; opened = opened' i; first = first' i; capacity = capacity' i; made = made' i; time = time' i; ticked = book.ticked; start = book.start; folder = folder' }
+    λ i. record { only = book.only; opening = opening' i; opened = opened' i; first = first' i; capacity = capacity' i; made = made' i; time = time' i; ticked = book.ticked; start = book.start; folder = folder' }
 
 pub rose-begin : (began count : ℕ) → began ≤ count → RoseBy began (faults_in []) count
 rose-begin began count le = omega (arith, le)
 
 -- when time goes on, and the locks that are over have ended
 pub stands-tick : {F : Type 0} (book : Book F) (ledger : Ledger) (start now : Option Files) (began count moment time : ℕ) (ss : List Standing) (ticked : Bool) → IsMoment moment
-    → time ≡ max book.time moment → ss ≡ all_ended time ledger.locks.files → ticked ≡ true
-    → Stands book ledger.last ledger.first_files (files_in ledger) ledger.versions.list start now began count
-    → Stands (record book { time = time; ticked = ticked }) ledger.last ledger.first_files (joined ledger.files.items ss) ledger.versions.list start now began count
+    → time ≡ max book.time moment → ss ≡ all_ended time ledger.rack.locks.files → ticked ≡ true
+    → Stands book ledger.last (files_in ledger) ledger.bytes start now began count
+    → Stands (record book { time = time; ticked = ticked }) ledger.last (joined ledger.rack.files.items ss) ledger.bytes start now began count
 stands-tick book ledger start now began count moment time ss ticked m time_is ss_is ticks stands =
-    let files = ledger.files.items in
-    let ended = all_ended time ledger.locks.files in
-    let bytes = kept_in ledger.versions.list in
+    let files = ledger.rack.files.items in
+    let ended = all_ended time ledger.rack.locks.files in
+    let bytes = ledger.bytes in
     let passed : Reflects book.opening book.opened book.first book.capacity book.made time ledger.last bytes (files_in ledger) =
     subst (λ (t : ℕ). Reflects book.opening book.opened book.first book.capacity book.made t ledger.last bytes (files_in ledger)) (sym time_is)
     (keeps-tick book.opening book.opened book.first book.capacity book.made book.time ledger.last bytes (files_in ledger) stands.keeps moment m) in
     record {
       keeps = subst (λ (l : List Standing). Reflects book.opening book.opened book.first book.capacity book.made time ledger.last bytes (joined files l)) (sym ss_is)
-          (keeps-ended book.opening book.opened book.first book.capacity book.made time ledger.last bytes files ledger.locks.files passed);
+          (keeps-ended book.opening book.opened book.first book.capacity book.made time ledger.last bytes files ledger.rack.locks.files passed);
       folder = agrees-state book.only start now (files_of book.first (files_in ledger)) (files_of book.first (joined files ss)) (torn_in (files_in ledger)) (torn_in (joined files ss))
-          (λ name. contents_any book.first files ss ledger.locks.files name) (λ name. torn_any files ledger.locks.files ss name) stands.folder;
+          (λ name. contents_any book.first files ss ledger.rack.locks.files name) (λ name. torn_any files ledger.rack.locks.files ss name) stands.folder;
       faults = stands.faults;
       timely = λ h. absurd (cc (h, ticks));
-      archive = archive_any book.first book.opening book.made files ledger.locks.files ss ledger.versions.list stands.archive;
-      first_files_are = stands.first_files_are;
+      within = within_any (book.first + length book.made) files ledger.rack.locks.files ss stands.within;
       number = stands.number;
-      few = let few = stands.few in let was = long_joined files ledger.locks.files in let is = long_joined files ss in omega (arith, few, was, is);
+      few = let few = stands.few in let was = long_joined files ledger.rack.locks.files in let is = long_joined files ss in omega (arith, few, was, is);
       places = stands.places;
     }

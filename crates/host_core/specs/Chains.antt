@@ -16,5 +16,5 @@ chain_at (chain ∷ chains) (suc number) = chain_at chains number
 -- each file's chain, without the ids that are over at the shard's time, is the file's spent list
 abbrev pub KeepsChains : {F : Type 0} → Ledger → Book F → Type 0
 KeepsChains ledger book =
-    (name : List ℕ) (number : ℕ) → place_in (named ledger.files.items) name ≡ Some number
-    → still_spent (chain_at ledger.locks.chains number) book.time ≡ ((state_of book.opening book.opened book.first book.made book.time).files name).spent
+    (name : List ℕ) (number : ℕ) → place_in (named ledger.rack.files.items) name ≡ Some number
+    → still_spent (chain_at ledger.rack.locks.chains number) book.time ≡ ((state_of book.opening book.opened book.first book.made book.time).files name).spent

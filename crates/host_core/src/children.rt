@@ -100,7 +100,7 @@ fn child_of(file: &KeptFile) -> Option<Child>
         Some(contents) => Some(Child {
             name: file.name.copy(),
             version: file.version,
-            size: contents.len(),
+            size: contents.as_slice().len() as u64,
         }),
     }
 }

@@ -11,13 +11,13 @@ ghost use Rattle.host_core.specs.ByBytes.{has};
 ghost use Rattle.host_core.specs.Stock.{IsStock};
 ghost use Rattle.host_core.specs.Opening.{MayKeep, IsOfShard, IsOpening, Fits, IsTooLarge, IfTooLarge, Gives, PassesAfter, Gathers, is_listed};
 ghost use Rattle.wopi_model.specs.Host.{most_kept};
-ghost use Rattle.host_core.specs.ShardView.{opening_listed};
+ghost use Rattle.host_core.specs.Notes.{opening_listed};
 
-use crate::extent::Extent;
 use crate::file::{KeptFile, unmet};
-use file_versions::{Archive, MOST_KEPT};
+use crate::noting::Store;
+use file_versions::MOST_KEPT;
 use name_index::{ByBytes, NameIndex};
-use outside::{Folder, FolderRead, Names, OutFault};
+use outside::{FolderRead, Names, OutFault};
 use std::alloc::Global;
 use std::collections::BTreeSet;
 use wopi_text::{Bytes, FileName, Memory};
@@ -30,13 +30,6 @@ const MOST_CONTENTS: usize = 16_777_216;
 
 /// The most files, so that each has a number of 32 bits and there are numbers left for new ones.
 const MOST_FILES: usize = 4_000_000_000;
-
-/// A file that stood in the folder when the shard opened.
-#[derive(Drop)]
-pub struct OpeningFile {
-    pub name: FileName,
-    pub contents: Extent,
-}
 
 /// A file that was read.
 #[derive(Drop)]
@@ -56,13 +49,12 @@ pub enum StartFault {
     Memory,
 }
 
-/// The opening, the files, their numbers by name, and the versions of a shard at its start.
+/// The files of a shard at its start, their numbers by name, and how many bytes they have.
 #[derive(Drop)]
 pub struct Stock {
-    pub opening: Vec<OpeningFile>,
     pub files: Vec<KeptFile>,
     pub index: NameIndex,
-    pub versions: Archive,
+    pub bytes: u64,
 }
 
 /// The name belongs to the shard of that number, or to the only shard there is.
@@ -91,7 +83,7 @@ fn take_name(names: &mut BTreeSet<ByBytes>, text: &String, only: Option<u8>) -> 
 }
 
 /// Reads the file of a name, after files of so many bytes.
-fn read_one<F: Folder>(
+fn read_one<F: Store>(
     folder: &mut F,
     name: FileName,
     kept: u64,
@@ -122,39 +114,33 @@ fn read_one<F: Folder>(
 fn stock_one(stock: &mut Stock, file: ReadFile, first: u64) -> Result<(), Memory>
     requires stock { IsStock first stock.old }
     requires first { 1 ≤ first }
-    requires fresh { place_in (map (λ one. one.0) (opening_listed stock.old.opening.items)) file.name ≡ None }
+    requires room { stock.old.bytes + length file.contents ≤ most_kept }
+    requires fresh { place_in (map (λ one. one.0) (opening_listed stock.old.files.items)) file.name ≡ None }
     ensures stock { OnOk result (IsStock first stock.new) }
-    ensures opening { OnOk result (opening_listed stock.new.opening.items ≡ opening_listed stock.old.opening.items ++ (file.name, file.contents) ∷ []) }
+    ensures opening { OnOk result (opening_listed stock.new.files.items ≡ opening_listed stock.old.files.items ++ (file.name, file.contents) ∷ []) }
 {
     let count = stock.files.len();
     if count >= MOST_FILES {
         return Err(Memory);
     }
     let ReadFile { name, contents } = file;
-    let place = stock.versions.len();
-    let kept = opened(&name, &contents, place, first);
-    stock.index.add(name.copy(), count as u32)?;
-    let listed = OpeningFile {
-        name,
-        contents: Extent::of(&contents, place),
-    };
-    stock.opening.push(listed)?;
+    let len = contents.as_slice().len() as u64;
+    let kept = opened(&name, contents, first);
+    stock.index.add(name, count as u32)?;
     stock.files.push(kept)?;
-    match stock.versions.add(count as u32, first, contents, None) {
-        Ok(()) => return Ok(()),
-        Err(_) => return Err(Memory),
-    }
+    stock.bytes += len;
+    Ok(())
 }
 
 /// The file of a name that stood there at the opening, at that version.
-fn opened(name: &FileName, contents: &Bytes, place: usize, first: u64) -> KeptFile
+fn opened(name: &FileName, contents: Bytes, first: u64) -> KeptFile
     requires { 1 ≤ first }
-    ensures file { file_of (whole result unlocked) ≡ opened_with first contents.now }
+    ensures file { file_of (whole result unlocked) ≡ opened_with first contents }
     ensures name { result.name ≡ name.now }
     ensures torn { result.torn ≡ false }
 {
     let mut file = unmet(name, first);
-    file.contents = Some(Extent::of(contents, place));
+    file.contents = Some(contents);
     file.version = first;
     file
 }
@@ -175,7 +161,7 @@ fn taken_names(alloc: Global, listed: &Names, only: Option<u8>) -> Result<BTreeS
 }
 
 /// Reads the files of the names, in the order of their bytes.
-fn read_names<F: Folder>(
+fn read_names<F: Store>(
     folder: &mut F,
     only: Option<u8>,
     names: &mut BTreeSet<ByBytes>,
@@ -184,16 +170,16 @@ fn read_names<F: Folder>(
 ) -> Result<(), StartFault>
     requires stock { IsStock first stock.old }
     requires first { 1 ≤ first }
-    requires gathers { Gathers only (F.files folder.old) (has names.old) (opening_listed stock.old.opening.items) }
+    requires gathers { Gathers only (F.files folder.old) (has names.old) (opening_listed stock.old.files.items) }
     ensures stock { OnOk result (IsStock first stock.new) }
-    ensures gathers { OnOk result (Gathers only (F.files folder.old) (λ name. false) (opening_listed stock.new.opening.items)) }
+    ensures gathers { OnOk result (Gathers only (F.files folder.old) (λ name. false) (opening_listed stock.new.files.items)) }
     ensures too_large { IfErr result (λ fault. IfTooLarge fault (IsTooLarge only (F.files folder.old))) }
     ensures failed { IfErr result (λ fault. fault ≡ StartFault.FolderFault → Rose (F.faults folder.old) (F.faults folder.new)) }
     ensures same { Keeps (F.files folder.old) (F.files folder.new) }
     ensures never_falls { F.faults folder.old ≤ F.faults folder.new }
 {
     'names: while let Some(next) = names.pop_first() {
-        match read_one(folder, next.name, stock.versions.kept()) {
+        match read_one(folder, next.name, stock.bytes) {
             Err(fault) => return Err(fault),
             Ok(None) => {}
             Ok(Some(file)) => match stock_one(stock, file, first) {
@@ -206,15 +192,15 @@ fn read_names<F: Folder>(
 }
 
 /// Reads the files that the shard takes from the folder.
-pub fn gather<F: Folder>(
+pub fn gather<F: Store>(
     alloc: Global,
     folder: &mut F,
     only: Option<u8>,
     first: u64,
 ) -> Result<Stock, StartFault>
     requires { 1 ≤ first }
-    ensures opening { IfOk result (λ stock. IsOpening only (F.files folder.old) (opening_listed stock.opening.items)) }
-    ensures fits { IfOk result (λ stock. Fits (opening_listed stock.opening.items)) }
+    ensures opening { IfOk result (λ stock. IsOpening only (F.files folder.old) (opening_listed stock.files.items)) }
+    ensures fits { IfOk result (λ stock. Fits (opening_listed stock.files.items)) }
     ensures stock { IfOk result (IsStock first) }
     ensures too_large { IfErr result (λ fault. IfTooLarge fault (IsTooLarge only (F.files folder.old))) }
     ensures failed { IfErr result (λ fault. fault ≡ StartFault.FolderFault → Rose (F.faults folder.old) (F.faults folder.new)) }
@@ -231,10 +217,9 @@ pub fn gather<F: Folder>(
         Err(_) => return Err(StartFault::Memory),
     };
     let mut stock = Stock {
-        opening: Vec::new(alloc),
         files: Vec::new(alloc),
         index: NameIndex::new(alloc),
-        versions: Archive::new(alloc),
+        bytes: 0,
     };
     match read_names(folder, only, &mut names, &mut stock, first) {
         Ok(()) => return Ok(stock),

@@ -20,35 +20,32 @@ ghost use Rattle.host_core.specs.Opening.{IsFirstVersion, IsOfShard, IsOpening, 
 
 use crate::accept::{Carried, begin};
 use crate::children::{Children, children_of};
-use crate::entry::Entry;
-use crate::file::KeptFile;
+use crate::files::Rack;
 use crate::ledger::{Ledger, StepFault, take_step};
 use crate::names::{NameList, names_of};
-use crate::opening::{OpeningFile, StartFault, Stock, gather};
-use crate::past::Past;
-use crate::room::{Room, take_room};
+use crate::noting::Store;
+use crate::opening::{StartFault, Stock, gather};
+use crate::room::take_room;
 use crate::store::StoreRefusal;
 use crate::view::{FileView, view_of};
-use file_versions::Archive;
-use outside::Folder;
+use kept_locks::KeptLocks;
 use std::alloc::Global;
 use std::marker::Model;
 use std::snapshot::Snapshot;
 use wopi_model::{Call, Ruling};
 use wopi_text::{Bytes, FileName, Memory};
 
-/// The files of one shard, their history, and the folder that keeps their contents.
-pub struct Shard<F: Folder> {
+/// The files of one shard, and the store that keeps their contents and notes their history.
+pub struct Shard<F: Store> {
     ledger: Ledger,
     folder: F,
     ticked: Snapshot<bool>,
     only: Snapshot<Option<u8>>,
     start: Snapshot<F>,
-    opening: Snapshot<Vec<OpeningFile>>,
 }
 
 // Written, since a derived one is spelled out, and proved, wherever a shard goes.
-impl<F: Folder> Drop for Shard<F> {
+impl<F: Store> Drop for Shard<F> {
     fn drop(self) {
         let Shard {
             ledger: _ledger,
@@ -56,29 +53,28 @@ impl<F: Folder> Drop for Shard<F> {
             ticked: _ticked,
             only: _only,
             start: _start,
-            opening: _opening,
         } = self;
     }
 }
 
-impl<F: Folder> Model for Shard<F> {
+impl<F: Store> Model for Shard<F> {
     ghost use Rattle.host_core.specs.Value.{Book, Stands};
 
     ghost Value = { Book F };
 
-    ghost use Rattle.host_core.specs.ShardView.{book_of, opening_listed};
+    ghost use Rattle.host_core.specs.ShardView.{book_of};
 
-    ghost view = { book_of };
+    ghost view = { λ s. book_of (F.notes s.folder) s };
 
     ghost use Rattle.host_core.specs.Chains.{KeepsChains};
     ghost use Rattle.host_core.specs.Ledger.{files_in, IsTied};
 
-    ghost invariant = { λ s. Stands (book_of s) s.ledger.last s.ledger.first_files (files_in s.ledger) s.ledger.versions.list (F.files s.start.value) (F.files s.folder) (F.faults s.start.value) (F.faults s.folder) × IsTied s.ledger × KeepsChains s.ledger (book_of s) };
+    ghost invariant = { λ s. Stands (book_of (F.notes s.folder) s) s.ledger.last (files_in s.ledger) s.ledger.bytes (F.files s.start.value) (F.files s.folder) (F.faults s.start.value) (F.faults s.folder) × IsTied s.ledger (F.notes s.folder) × KeepsChains s.ledger (book_of (F.notes s.folder) s) };
 }
 
-impl<F: Folder> Shard<F> {
+impl<F: Store> Shard<F> {
     ghost use Rattle.host_core.specs.Value.{IsLawful, Agrees, state_of, is_torn};
-    ghost use Rattle.host_core.specs.ShardView.{opening_listed};
+    ghost use Rattle.host_core.specs.Notes.{opening_listed};
     ghost use Rattle.host_core.specs.View.{IsViewOf};
 
     /// Opens a shard over a folder: its files whose names are file names, of shard `only` where a number is
@@ -119,22 +115,22 @@ impl<F: Folder> Shard<F> {
     {
         let mut folder = folder;
         let start = Snapshot::of(&folder);
-        match gather(alloc, &mut folder, only, first) {
-            Ok(mut stock) => match take_room(
-                alloc,
-                &mut stock.versions,
-                stock.files.len(),
-                capacity,
-            ) {
-                Ok(room) => {
-                    let shard = Shard::assemble(
-                        alloc, folder, only, start, stock, room, capacity, opened, first,
-                    );
-                    return Ok(shard);
-                }
-                Err(_) => return Err((folder, StartFault::Memory)),
-            },
+        let stock = match gather(alloc, &mut folder, only, first) {
+            Ok(stock) => stock,
             Err(fault) => return Err((folder, fault)),
+        };
+        match folder.open(alloc, &stock.files, capacity) {
+            Ok(()) => {}
+            Err(_) => return Err((folder, StartFault::Memory)),
+        }
+        match take_room(alloc, stock.files.len(), capacity) {
+            Ok(locks) => {
+                let shard = Shard::assemble(
+                    alloc, folder, only, start, stock, locks, capacity, opened, first,
+                );
+                return Ok(shard);
+            }
+            Err(_) => return Err((folder, StartFault::Memory)),
         }
     }
 
@@ -245,16 +241,16 @@ impl<F: Folder> Shard<F> {
         ensures lawful { IsLawful self.new (F.files self.new.start) (F.files self.new.folder) (F.faults self.new.start) (F.faults self.new.folder) }
     {
         self.ledger.time = self.ledger.time.max(moment);
-        self.ledger.locks.settle(self.ledger.time);
+        self.ledger.rack.locks.settle(self.ledger.time);
         self.ticked = Snapshot::of(&true);
         self.ledger.time
     }
 
-    /// The entry at a place, counted from 0.
-    pub fn entry(&self, place: u64) -> Option<&Entry>
-        ensures { option_map (λ entry. entry.now) result ≡ slice_get self.now.made place }
+    /// The store.
+    pub fn store(&self) -> &F
+        ensures { result.now ≡ self.now.folder }
     {
-        self.ledger.entries.get(place as usize)
+        &self.folder
     }
 
     /// How many entries there are.
@@ -262,7 +258,7 @@ impl<F: Folder> Shard<F> {
         ensures count { result ≡ length self.now.made }
         ensures lawful { IsLawful self.now (F.files self.now.start) (F.files self.now.folder) (F.faults self.now.start) (F.faults self.now.folder) }
     {
-        self.ledger.entries.len() as u64
+        self.folder.count()
     }
 
     /// A file as it stands, where its name was met: where it has a version from `first` on.
@@ -270,19 +266,13 @@ impl<F: Folder> Shard<F> {
         ensures met { IsSome result ↔ (self.now.first ≤ ((state_of self.now.opening self.now.opened self.now.first self.now.made self.now.time).files name.now).version) }
         ensures view { IfSome result (λ view. IsViewOf view ((state_of self.now.opening self.now.opened self.now.first self.now.made self.now.time).files name.now) (is_torn self.now.made name.now)) }
     {
-        match self.ledger.index.find(name) {
+        match self.ledger.rack.index.find(name) {
             None => None,
             Some(number) => {
-                let file = &self.ledger.files[number as usize];
+                let file = &self.ledger.rack.files[number as usize];
                 let is_met = file.version >= self.ledger.first;
                 if is_met {
-                    Some(view_of(
-                        &self.ledger.versions,
-                        &self.ledger.locks,
-                        number,
-                        file,
-                        self.ledger.time,
-                    ))
+                    Some(view_of(&self.ledger.rack.locks, number, file, self.ledger.time))
                 } else {
                     None
                 }
@@ -294,7 +284,11 @@ impl<F: Folder> Shard<F> {
     pub fn names(&self) -> Result<NameList, Memory>
         ensures { IfOk result (AreNames (state_of self.now.opening self.now.opened self.now.first self.now.made self.now.time)) }
     {
-        match names_of(self.ledger.alloc, &self.ledger.files, self.ledger.first) {
+        match names_of(
+            self.ledger.alloc,
+            &self.ledger.rack.files,
+            self.ledger.first,
+        ) {
             Ok(names) => return Ok(names),
             Err(memory) => return Err(memory),
         }
@@ -305,20 +299,24 @@ impl<F: Folder> Shard<F> {
     pub fn children(&self) -> Result<Children, Memory>
         ensures { IfOk result (AreChildren (state_of self.now.opening self.now.opened self.now.first self.now.made self.now.time).files) }
     {
-        match children_of(self.ledger.alloc, &self.ledger.index, &self.ledger.files) {
+        match children_of(
+            self.ledger.alloc,
+            &self.ledger.rack.index,
+            &self.ledger.rack.files,
+        ) {
             Ok(children) => return Ok(children),
             Err(memory) => return Err(memory),
         }
     }
 
-    /// The shard over a folder and what was read from it.
+    /// The shard over a store and what was read from it.
     fn assemble(
         alloc: Global,
         folder: F,
         only: Option<u8>,
         start: Snapshot<F>,
         stock: Stock,
-        room: Room,
+        locks: KeptLocks,
         capacity: u32,
         opened: u64,
         first: u64,
@@ -327,19 +325,20 @@ impl<F: Folder> Shard<F> {
         requires first { IsFirstVersion first }
         requires capacity { capacity ≤ 32768 }
         requires stock { IsStock first stock }
-        requires none { (number : ℕ) → standing_at room.locks.files number ≡ unlocked }
-        requires as_of { AreAsOf 0 room.locks }
-        requires long { length stock.files.items ≤ length room.locks.files }
-        requires spare { capacity ≤ room.locks.spare }
-        requires shelf { capacity ≤ stock.versions.spare }
-        requires slots { capacity ≤ vec_capacity room.entries }
-        requires entries { room.entries.items ≡ [] }
-        requires opening { IsOpening only (F.files start.value) (opening_listed stock.opening.items) }
+        requires none { (number : ℕ) → standing_at locks.files number ≡ unlocked }
+        requires as_of { AreAsOf 0 locks }
+        requires long { length stock.files.items ≤ length locks.files }
+        requires spare { capacity ≤ locks.spare }
+        requires slots { capacity ≤ (F.notes folder).most }
+        requires made { (F.notes folder).made ≡ [] }
+        requires ended { (F.notes folder).begun ≡ false }
+        requires listed { (F.notes folder).opening ≡ opening_listed stock.files.items }
+        requires opening { IsOpening only (F.files start.value) (opening_listed stock.files.items) }
         requires same { Keeps (F.files start.value) (F.files folder) }
         requires faults { F.faults start.value ≤ F.faults folder }
         ensures value { result ≡ record {
           only = only;
-          opening = opening_listed stock.opening.items;
+          opening = opening_listed stock.files.items;
           opened = opened;
           first = first;
           capacity = capacity;
@@ -351,7 +350,6 @@ impl<F: Folder> Shard<F> {
         } }
         ensures lawful { IsLawful result (F.files result.start) (F.files result.folder) (F.faults result.start) (F.faults result.folder) }
     {
-        let opening = Snapshot::of(&stock.opening);
         let ticked = Snapshot::of(&false);
         Shard {
             ledger: Ledger {
@@ -361,49 +359,42 @@ impl<F: Folder> Shard<F> {
                 capacity,
                 time: opened,
                 last: 0,
-                first_files: stock.files.len(),
-                files: stock.files,
-                index: stock.index,
-                locks: room.locks,
-                versions: stock.versions,
-                entries: room.entries,
+                bytes: stock.bytes,
+                rack: Rack {
+                    files: stock.files,
+                    index: stock.index,
+                    locks,
+                },
             },
             folder,
             ticked,
             only: Snapshot::of(&only),
             start,
-            opening,
         }
     }
 
-    /// Gives the folder as the last step left it, and what the shard leaves. It needs no memory. Room that nothing
-    /// took is given up, and where the allocator refuses a smaller piece it stays with what is left.
-    pub fn end(self) -> (F, Past<F>)
+    /// The last stamp, or 0.
+    pub fn last(&self) -> u64
+        ensures { result ≡ last_from 0 (stamps (entries (history_of self.now.made self.now.time))) }
+    {
+        self.ledger.last
+    }
+
+    /// Gives the store, in which the history is noted. Contracts also see it as it was handed in. It needs no memory.
+    pub fn end(self) -> (F, Snapshot<F>)
         ensures folder { result.0 ≡ self.folder }
-        ensures past { result.1 ≡ record { opening = self.opening; made = self.made; start = self.start } }
+        ensures start { result.1.value ≡ self.start }
+        ensures opening { (F.notes result.0).opening ≡ self.opening }
+        ensures made { (F.notes result.0).made ≡ self.made }
         ensures lawful { IsLawful self (F.files self.start) (F.files self.folder) (F.faults self.start) (F.faults self.folder) }
     {
         let Shard {
-            mut ledger,
+            ledger: _ledger,
             folder,
             ticked: _ticked,
             only: _only,
             start,
-            opening,
         } = self;
-        ledger.files.shrink_to_fit();
-        ledger.versions.shrink_to_fit();
-        ledger.entries.shrink_to_fit();
-        let past = Past {
-            first: ledger.first,
-            first_files: ledger.first_files,
-            files: ledger.files,
-            index: ledger.index,
-            versions: ledger.versions,
-            entries: ledger.entries,
-            opening,
-            start,
-        };
-        (folder, past)
+        (folder, start)
     }
 }

@@ -1,14 +1,12 @@
 //! A file as a caller sees it.
 ghost use Rattle.std.specs.Prelude.{◌≡◌, ◌<◌, [], length, unwrap_or};
 ghost use Rattle.wopi_model.specs.Settle.{settled};
-ghost use Rattle.host_core.specs.Files.{file_of, BeganAtMoment, HasContents};
+ghost use Rattle.host_core.specs.Files.{file_of, BeganAtMoment};
 ghost use Rattle.host_core.specs.View.{IsViewOf};
 ghost use Rattle.host_core.specs.Whole.{seen, standing_at};
 
-use crate::carry::contents_of;
 use crate::file::KeptFile;
 use crate::held::standing_lock;
-use file_versions::Archive;
 use kept_locks::KeptLocks;
 use wopi_model::Lock;
 
@@ -24,34 +22,26 @@ pub struct FileView<'a> {
 }
 
 /// The bytes of a file, none where it doesn't exist.
-fn bytes_of<'a>(versions: &'a Archive, number: u32, file: &KeptFile) -> &'a [u8]
-    requires { HasContents number file.now.contents file.now.version versions.now.list }
+fn bytes_of(file: &KeptFile) -> &[u8]
     ensures { result.now ≡ unwrap_or file.now.contents [] }
 {
-    match contents_of(versions, number, file) {
+    match &file.contents {
         None => &[],
         Some(contents) => contents.as_slice(),
     }
 }
 
 /// The kept file, as it is once it is settled.
-pub fn view_of<'a>(
-    versions: &'a Archive,
-    locks: &'a KeptLocks,
-    number: u32,
-    file: &'a KeptFile,
-    now: u64,
-) -> FileView<'a>
+pub fn view_of<'a>(locks: &'a KeptLocks, number: u32, file: &'a KeptFile, now: u64) -> FileView<'a>
     requires here { number < length locks.now.files }
     requires moment { BeganAtMoment (standing_at locks.now.files number).lock }
-    requires held { HasContents number file.now.contents file.now.version versions.now.list }
     ensures { IsViewOf result (settled (file_of (seen file.now locks.now number)) now) file.now.torn }
 {
     FileView {
         exists: file.contents.is_some(),
         version: file.version,
         lock: standing_lock(locks, number, now),
-        contents: bytes_of(versions, number, file),
+        contents: bytes_of(file),
         torn: file.torn,
     }
 }

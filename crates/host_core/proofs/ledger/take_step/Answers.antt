@@ -1,13 +1,15 @@
-use Rattle.std.proofs.Common.{◌≡◌, ◌+◌, ℕ, List, length, max, ◌∷◌, ◌++◌, [], refl, sym, ap, subst, ◌∙◌, arith}
-use Rattle.host_core.specs.Archive.{AreWithin, StaysKept}
+use Rattle.std.proofs.Common.{inl, inr, ◌≡◌, ◌+◌, ◌<◌, ◌^◌, ◌==◌, ℕ, List, length, max, ◌∷◌, ◌++◌, [], if◌then◌else◌, refl, sym, ap, subst, ◌∙◌, arith}
+use Rattle.host_core.specs.Archive.{AreWithin}
 use Rattle.wopi_model.specs.Settle.{settled}
 use Rattle.host_core.specs.Entries.{Made, begun_as, ended_as}
 use Rattle.host_core.specs.Files.{files_of}
-use Rattle.host_core.specs.Ledger.{ended_in, made_by}
-use Rattle.host_core.specs.Steps.{TakesStep}
+use Rattle.host_core.specs.Ledger.{files_in, ended_in, made_by}
+use Rattle.host_core.specs.Steps.{TakesStep, IsNoRoomFor}
 use Rattle.host_core.specs.Whole.{joined}
+use Rattle.host_core.proofs.Counting.{counted_fits}
 use Rattle.host_core.proofs.Decisions.{ruled_status}
-use Rattle.host_core.proofs.Ending.{taken_back}
+use Rattle.host_core.proofs.Ending.{made_saved}
+use Rattle.host_core.specs.declared.accept.Carried.{Carried}
 use Rattle.host_core.proofs.Turning.{stand_same}
 use Rattle.host_core.proofs.ledger.take_step.Goals as goal
 
@@ -15,55 +17,87 @@ pub returns-in-Err-clause-tied : goal.returns-in-Err-clause-tied
 returns-in-Err-clause-tied g c =
     let spare = c.requires.tied.spare in
     let more = c.in-Err.ensures.err.spare in
-    let shelf = c.requires.tied.shelf in
-    let unused = c.in-Err.ensures.err.shelf in
-    let before = c.args.ledger.now.entries in
-    let at : c.len-at.result ≡ length before.items = omega (arith, c.len-at.ensures, before.ok.0) in
-    let same : c.truncate.new.self.items ≡ before.items = c.truncate.ensures.items
-    ∙ taken_back c.put.new.entries.items before.items (begun_as c.args.pass c.args.moment c.max-now.result c.args.call.now c.args.carried.now.ruling) c.len-at.result c.put.ensures.items at in
-    let long : length c.truncate.new.self.items ≡ length before.items = ap (λ (l : List Made). length l) same in
+    let old = g.F.Store.notes c.args.folder.now in
+    let begun = begun_as (c.max-stamp.result + 1) c.args.pass c.args.moment c.max-now.result c.args.call.now c.args.carried.now.ruling in
+    let same : (g.F.Store.notes c.give_up.new.self).made ≡ old.made = c.give_up.ensures.made old.made begun (c.step_files.ensures.noted.made ∙ c.begin.ensures.made) in
+    let long : length (g.F.Store.notes c.give_up.new.self).made ≡ length old.made = ap (λ (l : List Made). length l) same in
+    let most : (g.F.Store.notes c.give_up.new.self).most ≡ old.most = c.give_up.ensures.rest.most ∙ c.step_files.ensures.noted.most ∙ c.begin.ensures.rest.most in
     let slots = c.requires.tied.slots in
     record {
       numbered = c.step_files.ensures.numbered;
       locked = c.in-Err.ensures.err.locked c.args.ledger.now.time c.requires.tied.locked;
-      stand = stand_same c.args.ledger.now.locks.files c.step_files.new.locks.files c.args.ledger.now.time c.in-Err.ensures.err.stand c.requires.tied.stand;
+      stand = stand_same c.args.ledger.now.rack.locks.files c.step_files.new.self.locks.files c.args.ledger.now.time c.in-Err.ensures.err.stand c.requires.tied.stand;
       spare = omega (arith, spare, more, long);
-      shelf = omega (arith, shelf, unused, long);
-      slots = omega (arith, slots, c.put.ensures.slots, c.truncate.ensures.capacity);
-    }
-
-pub returns-in-Ok-clause-takes : goal.returns-in-Ok-clause-takes
-returns-in-Ok-clause-takes g c =
-    let before = c.args.ledger.now in
-    let after = joined c.step_files.new.files.items c.step_files.new.locks.files in
-    let ruling = c.step_files.new.carried.ruling in
-    let ok = c.in-Ok.ensures.ok.steps in
-    let stamp : c.max-stamp.result + 1 ≡ max before.last c.args.floor + 1 = omega (arith, c.max-stamp.ensures) in
-    let now : c.max-now.result ≡ max before.time c.args.moment = c.max-now.ensures in
-    let begun = begun_as c.args.pass c.args.moment c.max-now.result c.args.call.now c.args.carried.now.ruling in
-    let entry : ended_as (c.max-stamp.result + 1) ruling begun ≡ made_by before c.args.call.now c.args.pass c.args.floor c.args.moment ruling =
-    λ i. record { time = now i; step = record { stamp = stamp i; pass = c.args.pass; moment = c.args.moment; call = c.args.call.now; ruling = ruling } } in
-    record {
-      steps = subst (λ (t : ℕ). TakesStep before.first (ended_in before t) after c.args.call.now before.opened t ruling) now ok.steps;
-      entries = c.end_last.ensures.items before.entries.items begun c.put.ensures.items ∙ ap (λ (m : Made). before.entries.items ++ m ∷ []) entry;
-      last = stamp;
-      time = now;
-      opened = refl;
-      capacity = refl;
-      first = refl;
-      first_files = refl;
-      few = c.in-Ok.ensures.few;
-      within = λ most above h. ok.within most above (subst (λ (t : ℕ). AreWithin most (ended_in before t)) (sym now) h);
-      stays = subst (λ (t : ℕ). StaysKept (ended_in before t) after before.versions.list c.step_files.new.versions.list) now ok.stays;
-      archived = ok.kept;
-      kept = ok.bytes;
+      slots = omega (arith, slots, most);
+      ended = c.give_up.ensures.ended;
     }
 
 pub returns-in-Err-clause-light : goal.returns-in-Err-clause-light
 returns-in-Err-clause-light g c = λ takes. absurd (cc (takes, c.in-Err.ensures.err.light))
 
-pub end_last-requires-clause-status : goal.end_last-requires-clause-status
-end_last-requires-clause-status g c =
+pub end-requires-clause-status : goal.end-requires-clause-status
+end-requires-clause-status g c =
     let before = c.args.ledger.now in
     ruled_status (settled (files_of before.first (ended_in before c.max-now.result) c.args.call.now.name) c.max-now.result) c.args.call.now before.opened c.max-now.result
     c.step_files.new.carried.ruling c.in-Ok.ensures.ok.steps.steps.outcome
+
+pub counted-ledger-requires : goal.counted-ledger-requires
+counted-ledger-requires g c =
+    let before = c.args.ledger.now in
+    let ruling = c.step_files.new.carried.ruling in
+    let below : before.bytes < 2 ^ 64 = search in
+    let fits = counted_fits before.bytes (files_of before.first (ended_in before c.max-now.result) c.args.call.now.name) c.args.call.now before.opened c.max-now.result ruling below c.in-Ok.ensures.ok.steps.steps.outcome c.in-Ok.ensures.ok.steps.room in
+    subst (λ (n : ℕ). before.bytes + (if ruling.status == 200 then n else 0) < 2 ^ 64) (sym c.size_of-size.ensures) fits
+
+pub returns-in-Ok-clause-takes : goal.returns-in-Ok-clause-takes
+returns-in-Ok-clause-takes g c =
+    let before = c.args.ledger.now in
+    let old = g.F.Store.notes c.args.folder.now in
+    let after = joined c.step_files.new.self.files.items c.step_files.new.self.locks.files in
+    let ruling = c.step_files.new.carried.ruling in
+    let ok = c.in-Ok.ensures.ok.steps in
+    let stamp : c.max-stamp.result + 1 ≡ max before.last c.args.floor + 1 = omega (arith, c.max-stamp.ensures) in
+    let now : c.max-now.result ≡ max before.time c.args.moment = c.max-now.ensures in
+    let begun = begun_as (c.max-stamp.result + 1) c.args.pass c.args.moment c.max-now.result c.args.call.now c.args.carried.now.ruling in
+    let entry : ended_as ruling begun ≡ made_by before c.args.call.now c.args.pass c.args.floor c.args.moment ruling =
+    λ i. record { time = now i; step = record { stamp = stamp i; pass = c.args.pass; moment = c.args.moment; call = c.args.call.now; ruling = ruling } } in
+    record {
+      steps = subst (λ (t : ℕ). TakesStep before.first (ended_in before t) after c.args.call.now before.opened t ruling) now ok.steps;
+      entries = c.end.ensures.made old.made begun (c.step_files.ensures.noted.made ∙ c.begin.ensures.made) ∙ ap (λ (m : Made). old.made ++ m ∷ []) entry;
+      keeps = record {
+        opening = c.end.ensures.rest.opening ∙ c.step_files.ensures.noted.opening ∙ c.begin.ensures.rest.opening;
+        most = c.end.ensures.rest.most ∙ c.step_files.ensures.noted.most ∙ c.begin.ensures.rest.most;
+      };
+      last = stamp;
+      time = now;
+      opened = refl;
+      capacity = refl;
+      first = refl;
+      few = c.in-Ok.ensures.few;
+      within = λ most above h. ok.within most above (subst (λ (t : ℕ). AreWithin most (ended_in before t)) (sym now) h);
+      kept = c.counted-ledger.ensures ∙ ap (λ (n : ℕ). before.bytes + (if ruling.status == 200 then n else 0)) c.size_of-size.ensures;
+    }
+
+pub returns-in-Ok-clause-room : goal.returns-in-Ok-clause-room
+returns-in-Ok-clause-room g c = λ full.
+    let before = c.args.ledger.now in
+    let file = files_of before.first (files_in before) c.args.call.now.name in
+    elim full [
+      | inl e ↦ omega (arith, e, c.count.ensures, c.if-count-ledger.false)
+      | inr (inl e) ↦ omega (arith, e, c.max-stamp.ensures, c.if-stamp.false)
+      | inr (inr none) ↦
+          let (accepted, brings, over) = subst (λ (t : ℕ). IsNoRoomFor file before.bytes c.args.call.now before.opened t) (sym c.max-now.ensures) none in
+          let fits = c.in-Ok.ensures.room accepted brings in
+          omega (arith, over, fits)
+    ]
+
+pub end-requires-clause-last : goal.end-requires-clause-last
+end-requires-clause-last g c =
+    let old = g.F.Store.notes c.args.folder.now in
+    let ruling = c.step_files.new.carried.ruling in (
+      old.made,
+      begun_as (c.max-stamp.result + 1) c.args.pass c.args.moment c.max-now.result c.args.call.now c.args.carried.now.ruling,
+      c.step_files.ensures.noted.made ∙ c.begin.ensures.made,
+      ap (λ (x : Carried). x.ruling) c.requires.begun,
+      made_saved c.args.call.now.act ruling _ _ c.begin.ensures.saved c.in-Ok.ensures.ok.steps.kept,
+    )

@@ -2,7 +2,6 @@ use Rattle.std.proofs.Common.{◌≡◌, ◌<◌, ◌≤◌, ◌-◌, ℕ, Bool,
 use Rattle.file_versions.specs.Places.{IsFirst}
 use Rattle.wopi_model.specs.File.{File, never_met}
 use Rattle.wopi_model.specs.Settle.{settled}
-use Rattle.file_versions.specs.Versions.{kept_in}
 use Rattle.host_core.specs.Whole.{Whole, seen}
 use Rattle.host_core.specs.Files.{file_of, files_of, torn_in, is_named, BeganAtMoment}
 use Rattle.host_core.specs.Ledger.{files_in}
@@ -13,7 +12,6 @@ use Rattle.host_core.proofs.FileLists.{file_at}
 use Rattle.host_core.proofs.History.{shown-file}
 use Rattle.host_core.proofs.Joining.{get_joined}
 use Rattle.host_core.proofs.Meeting.{found_first, found_none, place_below}
-use Rattle.host_core.proofs.Stocks.{held_at}
 use Rattle.host_core.proofs.shard.Shard.file.Goals as goal
 
 pub index-file-requires : goal.index-file-requires
@@ -23,9 +21,9 @@ index-file-requires g c =
     let name = c.args.name.now in
     let number = c.in-Some.number in
     let kept = files_in ledger in
-    let first : IsFirst (is_named name) kept number = found_first ledger.files.items ledger.locks.files ledger.index name number c.self.invariant.1.numbered c.in-Some.ensures in
-    let lt = place_below ledger.files.items ledger.locks.files name number first in
-    let long = ledger.files.ok.0 in
+    let first : IsFirst (is_named name) kept number = found_first ledger.rack.files.items ledger.rack.locks.files ledger.rack.index name number c.self.invariant.1.numbered c.in-Some.ensures in
+    let lt = place_below ledger.rack.files.items ledger.rack.locks.files name number first in
+    let long = ledger.rack.files.ok.0 in
     omega (arith, lt, long)
 
 pub view_of-requires-clause-here : goal.view_of-requires-clause-here
@@ -35,8 +33,8 @@ view_of-requires-clause-here g c =
     let name = c.args.name.now in
     let number = c.in-Some.number in
     let kept = files_in ledger in
-    let first : IsFirst (is_named name) kept number = found_first ledger.files.items ledger.locks.files ledger.index name number c.self.invariant.1.numbered c.in-Some.ensures in
-    let lt = place_below ledger.files.items ledger.locks.files name number first in
+    let first : IsFirst (is_named name) kept number = found_first ledger.rack.files.items ledger.rack.locks.files ledger.rack.index name number c.self.invariant.1.numbered c.in-Some.ensures in
+    let lt = place_below ledger.rack.files.items ledger.rack.locks.files name number first in
     let long = c.self.invariant.1.locked.long in
     omega (arith, lt, long)
 
@@ -47,22 +45,10 @@ view_of-requires-clause-moment g c =
     let name = c.args.name.now in
     let number = c.in-Some.number in
     let kept = files_in ledger in
-    let first : IsFirst (is_named name) kept number = found_first ledger.files.items ledger.locks.files ledger.index name number c.self.invariant.1.numbered c.in-Some.ensures in
-    let k = seen c.index-file.result.now ledger.locks number in
-    let at : k ≡ get_or kept number k = get_joined ledger.files.items number c.index-file.result.now ledger.locks.files c.index-file.ensures in
+    let first : IsFirst (is_named name) kept number = found_first ledger.rack.files.items ledger.rack.locks.files ledger.rack.index name number c.self.invariant.1.numbered c.in-Some.ensures in
+    let k = seen c.index-file.result.now ledger.rack.locks number in
+    let at : k ≡ get_or kept number k = get_joined ledger.rack.files.items number c.index-file.result.now ledger.rack.locks.files c.index-file.ensures in
     subst (λ (f : File). BeganAtMoment f.lock) (file_at file_of (never_met ledger.first) kept name number k first at) (c.self.invariant.0.keeps.moments name)
-
-pub view_of-requires-clause-held : goal.view_of-requires-clause-held
-view_of-requires-clause-held g c =
-    let inside = c.self.inside in
-    let ledger = inside.ledger in
-    let name = c.args.name.now in
-    let number = c.in-Some.number in
-    let kept = files_in ledger in
-    let first : IsFirst (is_named name) kept number = found_first ledger.files.items ledger.locks.files ledger.index name number c.self.invariant.1.numbered c.in-Some.ensures in
-    let k = seen c.index-file.result.now ledger.locks number in
-    let at : k ≡ get_or kept number k = get_joined ledger.files.items number c.index-file.result.now ledger.locks.files c.index-file.ensures in
-    (held_at kept ledger.versions.list name number k c.self.invariant.0.archive.stocked first at).current
 
 pub returns-in-None-clause-met : goal.returns-in-None-clause-met
 returns-in-None-clause-met g c =
@@ -70,10 +56,10 @@ returns-in-None-clause-met g c =
     let ledger = inside.ledger in
     let name = c.args.name.now in
     let kept = files_in ledger in
-    let book = book_of inside in
-    let none = found_none ledger.files.items ledger.locks.files ledger.index name c.self.invariant.1.numbered c.in-None.ensures in
+    let book = book_of (g.F.Store.notes inside.folder) inside in
+    let none = found_none ledger.rack.files.items ledger.rack.locks.files ledger.rack.index name c.self.invariant.1.numbered c.in-None.ensures in
     let here : files_of book.first kept name ≡ never_met ledger.first = ap (λ (o : Option Whole). unwrap_or (option_map file_of o) (never_met ledger.first)) none in
-    let shown = shown-file book.opening book.opened book.first book.capacity book.made book.time ledger.last (kept_in ledger.versions.list) kept c.self.invariant.0.keeps name in
+    let shown = shown-file book.opening book.opened book.first book.capacity book.made book.time ledger.last ledger.bytes kept c.self.invariant.0.keeps name in
     let unmet : ((state_of c.args.self.now.opening c.args.self.now.opened c.args.self.now.first c.args.self.now.made c.args.self.now.time).files name).version ≡ c.args.self.now.first - 1 =
     subst (λ (b : Book _). ((state_of b.opening b.opened b.first b.made b.time).files name).version ≡ b.first - 1) c.self.view_is
     (sym (ap (λ (f : File). f.version) shown) ∙ ap (λ (f : File). f.version) here) in
@@ -87,12 +73,12 @@ returns-else-is_met-clause-met g c =
     let name = c.args.name.now in
     let number = c.in-Some.number in
     let kept = files_in ledger in
-    let first : IsFirst (is_named name) kept number = found_first ledger.files.items ledger.locks.files ledger.index name number c.self.invariant.1.numbered c.in-Some.ensures in
-    let k = seen c.index-file.result.now ledger.locks number in
-    let at : k ≡ get_or kept number k = get_joined ledger.files.items number c.index-file.result.now ledger.locks.files c.index-file.ensures in
-    let book = book_of inside in
+    let first : IsFirst (is_named name) kept number = found_first ledger.rack.files.items ledger.rack.locks.files ledger.rack.index name number c.self.invariant.1.numbered c.in-Some.ensures in
+    let k = seen c.index-file.result.now ledger.rack.locks number in
+    let at : k ≡ get_or kept number k = get_joined ledger.rack.files.items number c.index-file.result.now ledger.rack.locks.files c.index-file.ensures in
+    let book = book_of (g.F.Store.notes inside.folder) inside in
     let here : files_of book.first kept name ≡ file_of k = file_at file_of (never_met ledger.first) kept name number k first at in
-    let shown = shown-file book.opening book.opened book.first book.capacity book.made book.time ledger.last (kept_in ledger.versions.list) kept c.self.invariant.0.keeps name in
+    let shown = shown-file book.opening book.opened book.first book.capacity book.made book.time ledger.last ledger.bytes kept c.self.invariant.0.keeps name in
     let below : c.index-file.result.now.version < book.first = let is_met = c.if-is_met.false in omega (arith, is_met) in
     let unmet : ((state_of c.args.self.now.opening c.args.self.now.opened c.args.self.now.first c.args.self.now.made c.args.self.now.time).files name).version < c.args.self.now.first =
     subst (λ (b : Book _). ((state_of b.opening b.opened b.first b.made b.time).files name).version < b.first) c.self.view_is
@@ -106,12 +92,12 @@ returns-then-is_met-clause-met g c =
     let name = c.args.name.now in
     let number = c.in-Some.number in
     let kept = files_in ledger in
-    let first : IsFirst (is_named name) kept number = found_first ledger.files.items ledger.locks.files ledger.index name number c.self.invariant.1.numbered c.in-Some.ensures in
-    let k = seen c.index-file.result.now ledger.locks number in
-    let at : k ≡ get_or kept number k = get_joined ledger.files.items number c.index-file.result.now ledger.locks.files c.index-file.ensures in
-    let book = book_of inside in
+    let first : IsFirst (is_named name) kept number = found_first ledger.rack.files.items ledger.rack.locks.files ledger.rack.index name number c.self.invariant.1.numbered c.in-Some.ensures in
+    let k = seen c.index-file.result.now ledger.rack.locks number in
+    let at : k ≡ get_or kept number k = get_joined ledger.rack.files.items number c.index-file.result.now ledger.rack.locks.files c.index-file.ensures in
+    let book = book_of (g.F.Store.notes inside.folder) inside in
     let here : files_of book.first kept name ≡ file_of k = file_at file_of (never_met ledger.first) kept name number k first at in
-    let shown = shown-file book.opening book.opened book.first book.capacity book.made book.time ledger.last (kept_in ledger.versions.list) kept c.self.invariant.0.keeps name in
+    let shown = shown-file book.opening book.opened book.first book.capacity book.made book.time ledger.last ledger.bytes kept c.self.invariant.0.keeps name in
     let same : ((state_of c.args.self.now.opening c.args.self.now.opened c.args.self.now.first c.args.self.now.made c.args.self.now.time).files name).version ≡ c.index-file.result.now.version =
     subst (λ (b : Book _). ((state_of b.opening b.opened b.first b.made b.time).files name).version ≡ c.index-file.result.now.version) c.self.view_is
     (sym (ap (λ (f : File). f.version) shown) ∙ ap (λ (f : File). f.version) here) in
@@ -126,12 +112,12 @@ returns-then-is_met-clause-view g c =
     let name = c.args.name.now in
     let number = c.in-Some.number in
     let kept = files_in ledger in
-    let first : IsFirst (is_named name) kept number = found_first ledger.files.items ledger.locks.files ledger.index name number c.self.invariant.1.numbered c.in-Some.ensures in
-    let k = seen c.index-file.result.now ledger.locks number in
-    let at : k ≡ get_or kept number k = get_joined ledger.files.items number c.index-file.result.now ledger.locks.files c.index-file.ensures in
-    let book = book_of inside in
+    let first : IsFirst (is_named name) kept number = found_first ledger.rack.files.items ledger.rack.locks.files ledger.rack.index name number c.self.invariant.1.numbered c.in-Some.ensures in
+    let k = seen c.index-file.result.now ledger.rack.locks number in
+    let at : k ≡ get_or kept number k = get_joined ledger.rack.files.items number c.index-file.result.now ledger.rack.locks.files c.index-file.ensures in
+    let book = book_of (g.F.Store.notes inside.folder) inside in
     let here : files_of book.first kept name ≡ file_of k = file_at file_of (never_met ledger.first) kept name number k first at in
-    let shown = shown-file book.opening book.opened book.first book.capacity book.made book.time ledger.last (kept_in ledger.versions.list) kept c.self.invariant.0.keeps name in
+    let shown = shown-file book.opening book.opened book.first book.capacity book.made book.time ledger.last ledger.bytes kept c.self.invariant.0.keeps name in
     let torn : torn_in kept name ≡ c.index-file.result.now.torn = file_at (λ (f : Whole). f.torn) false kept name number k first at in
     subst (λ (b : Book _). IsViewOf c.view_of.result ((state_of b.opening b.opened b.first b.made b.time).files name) (is_torn b.made name)) c.self.view_is
     (subst (λ (t : Bool). IsViewOf c.view_of.result ((state_of book.opening book.opened book.first book.made book.time).files name) t) (sym torn ∙ c.self.invariant.0.keeps.torn name)

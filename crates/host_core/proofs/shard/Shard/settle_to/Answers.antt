@@ -17,18 +17,17 @@ invariant_of-self g c =
     let tied = c.self.invariant.1 in
     let more = c.settle.ensures.spare in
     let spare = tied.spare in
-    let shelf = tied.shelf in
-    let after : Ledger = record ledger { time = c.max-self-inside.result; locks = c.settle.new.self } in
-    with_chains after (record (book_of inside) { time = c.max-self-inside.result; ticked = c.of.result.value }) (files inside.start.value) (files inside.folder) (faults inside.start.value) (faults inside.folder) refl (
-    stands-tick (book_of inside) ledger (files inside.start.value) (files inside.folder) (faults inside.start.value) (faults inside.folder) c.args.moment
+    let after : Ledger = record ledger { time = c.max-self-inside.result; rack = record ledger.rack { locks = c.settle.new.self } } in
+    with_chains after (g.F.Store.notes inside.folder) (record (book_of (g.F.Store.notes inside.folder) inside) { time = c.max-self-inside.result; ticked = c.of.result.value }) (files inside.start.value) (files inside.folder) (faults inside.start.value) (faults inside.folder) refl (
+    stands-tick (book_of (g.F.Store.notes inside.folder) inside) ledger (files inside.start.value) (files inside.folder) (faults inside.start.value) (faults inside.folder) c.args.moment
     _ _ _ c.requires c.max-self-inside.ensures c.settle.ensures.files c.of.ensures c.self.invariant.0
     ) (record {
       numbered = tied.numbered;
-      locked = locked_ended ledger.files.items ledger.locks _ ledger.time _ tied.locked (let is = c.max-self-inside.ensures in omega (arith, is)) c.settle.ensures.files c.settle.ensures.latest c.settle.ensures.chains;
-      stand = subst (AllStand c.max-self-inside.result) (sym c.settle.ensures.files) (stand_ended ledger.locks.files c.max-self-inside.result);
+      locked = locked_ended ledger.rack.files.items ledger.rack.locks _ ledger.time _ tied.locked (let is = c.max-self-inside.ensures in omega (arith, is)) c.settle.ensures.files c.settle.ensures.latest c.settle.ensures.chains;
+      stand = subst (AllStand c.max-self-inside.result) (sym c.settle.ensures.files) (stand_ended ledger.rack.locks.files c.max-self-inside.result);
       spare = omega (arith, more, spare);
-      shelf = shelf;
       slots = tied.slots;
+      ended = tied.ended;
     })
 
 pub returns-clause-lawful : goal.returns-clause-lawful
@@ -36,5 +35,5 @@ returns-clause-lawful g c =
     let files = g.F.Folder.files in
     let faults = g.F.Folder.faults in
     let inside = c.self.inside in
-    lawful _ inside.ledger.last inside.ledger.first_files _ inside.ledger.versions.list
+    lawful _ inside.ledger.last _ inside.ledger.bytes
     (files inside.start.value) (files inside.folder) (faults inside.start.value) (faults inside.folder) (invariant_of-self g c).0

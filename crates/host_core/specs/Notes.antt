@@ -1,0 +1,38 @@
+-- What a store has noted.
+use Rattle.std.specs.Prelude.{◌≡◌, ◌==◌, ℕ, Bool, List, map, unwrap_or, [], Option, None, option_map, if◌then◌else◌}
+use Rattle.wopi_model.specs.Shard.{Opening}
+use Rattle.host_core.specs.declared.file.KeptFile.{KeptFile}
+use Rattle.host_core.specs.Entries.{Made, brought_by}
+
+-- the version that is told of contents, and these
+abbrev pub Brought : Type 0
+Brought = Option ℕ × List ℕ
+
+-- what an accepted call saves
+abbrev pub saved_in : Made → Option Brought
+saved_in one = if one.step.ruling.status == 200 then option_map (λ contents. (one.step.ruling.version, contents)) (brought_by one.step.call.act) else None
+
+-- The files of the opening, and the entries, the last of which is not ended yet where one was `begun`. `saved` are the contents that the
+-- folder took since the last one was begun, and `most` is how many entries there may be.
+pub record Notes : Type 0 where
+  pub opening : Opening
+  pub made : List Made
+  pub begun : Bool
+  pub saved : Option Brought
+  pub most : ℕ
+
+-- the files of an opening
+abbrev pub opening_listed : List KeptFile → Opening
+opening_listed files = map (λ file. (file.name, unwrap_or file.contents [])) files
+
+-- nothing was noted meanwhile
+pub record StaysNoted (old new : Notes) : Type 0 where
+  pub opening : new.opening ≡ old.opening
+  pub made : new.made ≡ old.made
+  pub begun : new.begun ≡ old.begun
+  pub most : new.most ≡ old.most
+
+-- nor was the rest changed when an entry was noted
+pub record KeepsOpen (old new : Notes) : Type 0 where
+  pub opening : new.opening ≡ old.opening
+  pub most : new.most ≡ old.most

@@ -1,0 +1,240 @@
+//! A store that keeps all entries in memory, with the contents that were accepted.
+ghost use Rattle.std.specs.Prelude.{◌≡◌, ◌≤◌, ◌++◌, ◌∷◌, [], length, option_map, slice_get, vec_capacity, IfOk, OnOk, OnErr};
+ghost use Rattle.host_core.specs.Notes.{opening_listed};
+ghost use Rattle.host_core.specs.ShardView.{files_listed};
+ghost use Rattle.host_core.specs.Value.{IsLawful};
+
+use crate::entry::{Beginning, Entry, end_last};
+use crate::file::KeptFile;
+use crate::noting::Store;
+use crate::past::Past;
+use crate::shard::Shard;
+use outside::{Failed, Folder, FolderRead, Names, OutFault};
+use std::alloc::Global;
+use std::marker::Model;
+use std::mem;
+use std::snapshot::Snapshot;
+use wopi_model::Ruling;
+use wopi_text::{Bytes, FileName, Memory};
+
+/// A file that stood in the folder when the shard opened.
+#[derive(Drop)]
+pub struct OpeningFile {
+    pub name: FileName,
+    pub contents: Bytes,
+}
+
+/// Contents that the folder took, and the version that is told of them.
+#[derive(Drop)]
+pub struct Saved {
+    pub version: u64,
+    pub contents: Bytes,
+}
+
+/// A folder, and the opening files, the entries and the accepted contents of a shard over it.
+#[derive(Drop)]
+pub struct Kept<F: Folder> {
+    folder: F,
+    opening: Vec<OpeningFile>,
+    entries: Vec<Entry>,
+    begun: bool,
+    saved: Option<Saved>,
+}
+
+impl<F: Folder> Model for Kept<F> {
+    ghost use Rattle.host_core.specs.Value.{InMemory};
+
+    ghost Value = { InMemory F };
+
+    ghost use Rattle.host_core.specs.ShardView.{kept_of};
+
+    ghost view = { kept_of };
+}
+
+impl<F: Folder> Kept<F> {
+    /// Over a folder, with nothing noted. It takes no memory.
+    pub fn new(alloc: Global, folder: F) -> Kept<F>
+        ensures folder { result.folder ≡ folder }
+    {
+        Kept {
+            folder,
+            opening: Vec::new(alloc),
+            entries: Vec::new(alloc),
+            begun: false,
+            saved: None,
+        }
+    }
+
+    /// The entry at a place, counted from 0.
+    pub fn entry(&self, place: u64) -> Option<&Entry>
+        ensures { option_map (λ entry. entry.now) result ≡ slice_get self.now.notes.made place }
+    {
+        self.entries.get(place as usize)
+    }
+
+    /// Gives the folder, and what was noted by a shard that began with that store. It needs no memory. Room that
+    /// nothing took is given up, and where the allocator refuses a smaller piece it stays with what is left.
+    pub fn end(self, start: Snapshot<Kept<F>>) -> (F, Past<F>)
+        ensures folder { result.0 ≡ self.folder }
+        ensures past { result.1 ≡ record { opening = self.notes.opening; made = self.notes.made; start = start.value.folder } }
+    {
+        let Kept {
+            folder,
+            mut opening,
+            mut entries,
+            begun: _begun,
+            saved: _saved,
+        } = self;
+        opening.shrink_to_fit();
+        entries.shrink_to_fit();
+        let past = Past {
+            opening,
+            entries,
+            start,
+        };
+        (folder, past)
+    }
+}
+
+/// Gives the folder as the last step of a shard left it, and what the shard leaves. It needs no memory.
+pub fn leave<F: Folder>(shard: Shard<Kept<F>>) -> (F, Past<F>)
+    ensures folder { result.0 ≡ shard.folder.folder }
+    ensures past { result.1 ≡ record { opening = shard.opening; made = shard.made; start = shard.start.folder } }
+    ensures lawful { IsLawful shard (F.files shard.start.folder) (F.files shard.folder.folder) (F.faults shard.start.folder) (F.faults shard.folder.folder) }
+{
+    let (store, start) = shard.end();
+    store.end(start)
+}
+
+/// The contents alone.
+fn contents_of(saved: Option<Saved>) -> Option<Bytes>
+    ensures { result ≡ option_map (λ one. one.contents) saved }
+{
+    match saved {
+        None => None,
+        Some(Saved { contents, .. }) => Some(contents),
+    }
+}
+
+/// A copy of a file, as it stands at the opening.
+fn copy_file(alloc: Global, file: &KeptFile) -> Result<OpeningFile, Memory>
+    ensures { IfOk result (λ copy. files_listed (copy ∷ []) ≡ opening_listed (file.now ∷ [])) }
+{
+    let contents = match &file.contents {
+        None => Bytes::from_vec(Vec::new(alloc)),
+        Some(contents) => contents.try_copy(alloc)?,
+    };
+    Ok(OpeningFile {
+        name: file.name.copy(),
+        contents,
+    })
+}
+
+/// Copies of the files, as they stand at the opening.
+fn copy_files(alloc: Global, files: &[KeptFile]) -> Result<Vec<OpeningFile>, Memory>
+    ensures { IfOk result (λ copies. files_listed copies.items ≡ opening_listed files.now) }
+{
+    let mut copies = Vec::with_capacity(alloc, files.len())?;
+    let mut place = 0;
+    'copies: while place < files.len() {
+        let copy = copy_file(alloc, &files[place])?;
+        copies.push(copy)?;
+        place += 1;
+    }
+    Ok(copies)
+}
+
+impl<F: Folder> Folder for Kept<F> {
+    ghost files = { λ kept. F.files kept.folder };
+
+    ghost faults = { λ kept. F.faults kept.folder };
+
+    fn list(&mut self) -> Result<Names, OutFault> {
+        self.folder.list()
+    }
+
+    fn read(&mut self, name: &str, most: usize) -> Result<FolderRead, OutFault> {
+        self.folder.read(name, most)
+    }
+
+    fn replace(&mut self, name: &str, contents: &[u8]) -> Result<(), OutFault> {
+        self.folder.replace(name, contents)
+    }
+
+    fn remove(&mut self, name: &str) -> Result<(), Failed> {
+        self.folder.remove(name)
+    }
+}
+
+impl<F: Folder> Store for Kept<F> {
+    ghost notes = { λ kept. kept.notes };
+
+    fn open(
+        &mut self,
+        alloc: Global,
+        opening: &Vec<KeptFile>,
+        capacity: u32,
+    ) -> Result<(), Memory> {
+        let copies = match copy_files(alloc, opening) {
+            Ok(copies) => copies,
+            Err(memory) => return Err(memory),
+        };
+        let entries = match Vec::with_capacity(alloc, capacity as usize) {
+            Ok(entries) => entries,
+            Err(_) => return Err(Memory),
+        };
+        self.opening = copies;
+        self.entries = entries;
+        self.begun = false;
+        Ok(())
+    }
+
+    fn begin(&mut self, beginning: &Beginning<'_>) {
+        beginning.put(&mut self.entries);
+        self.saved = None;
+        self.begun = true;
+    }
+
+    fn save(
+        &mut self,
+        alloc: Global,
+        version: u64,
+        name: &str,
+        contents: &[u8],
+    ) -> Result<(), OutFault> {
+        let copy = match Bytes::from_slice(alloc, contents) {
+            Ok(copy) => copy,
+            Err(_) => return Err(OutFault::Memory),
+        };
+        match self.folder.replace(name, contents) {
+            Ok(()) => {
+                self.saved = Some(Saved {
+                    version,
+                    contents: copy,
+                });
+                return Ok(());
+            }
+            Err(fault) => return Err(fault),
+        }
+    }
+
+    fn clear(&mut self, name: &str) -> Result<(), Failed> {
+        self.folder.remove(name)
+    }
+
+    fn end(&mut self, ruling: &Ruling) {
+        let contents = contents_of(mem::replace(&mut self.saved, None));
+        end_last(&mut self.entries, ruling, contents);
+        self.begun = false;
+    }
+
+    fn give_up(&mut self) {
+        let last = self.entries.len() - 1;
+        self.entries.truncate(last);
+        self.begun = false;
+    }
+
+    fn count(&self) -> u64 {
+        self.entries.len() as u64
+    }
+}

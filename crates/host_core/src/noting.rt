@@ -1,0 +1,95 @@
+//! A folder in which a shard's entries are noted.
+ghost use Rattle.std.specs.Prelude.{◌≡◌, ◌≤◌, ◌<◌, ◌++◌, ◌∷◌, [], List, length, true, false, None, Some, Err, OnOk, OnErr, IsErrOf};
+ghost use Rattle.outside.specs.Faults.{Rose};
+ghost use Rattle.outside.specs.Folder.{Keeps, Replaces, OpensOnly, Removes};
+ghost use Rattle.wopi_model.specs.Step.{bare};
+ghost use Rattle.host_core.specs.Entries.{Made, begun_as, ended_as};
+ghost use Rattle.host_core.specs.Entry.{is_status};
+ghost use Rattle.host_core.specs.Notes.{Notes, opening_listed, saved_in, StaysNoted, KeepsOpen};
+
+use crate::entry::Beginning;
+use crate::file::KeptFile;
+use outside::{Failed, Folder, OutFault};
+use std::alloc::Global;
+use wopi_model::Ruling;
+use wopi_text::Memory;
+
+/// A folder, and whatever a shard's entries are noted in, one after another. An entry is begun before its call is
+/// carried out, and then ended or given up.
+pub trait Store: Folder {
+    ghost use Rattle.host_core.specs.Notes.{Notes};
+
+    /// What was noted.
+    ghost notes: { Self → Notes };
+
+    /// Begins anew with the files of an opening, and takes the room for so many entries.
+    fn open(&mut self, alloc: Global, opening: &Vec<KeptFile>, capacity: u32) -> Result<(), Memory>
+        ensures opening { OnOk result ((notes self.new).opening ≡ opening_listed opening.now.items) }
+        ensures made { OnOk result ((notes self.new).made ≡ []) }
+        ensures begun { OnOk result ((notes self.new).begun ≡ false) }
+        ensures most { OnOk result (capacity ≤ (notes self.new).most) }
+        ensures files { Keeps (Self.files self.old) (Self.files self.new) }
+        ensures never_falls { Self.faults self.old ≤ Self.faults self.new };
+
+    /// Begins an entry, for which there is room. It takes no memory.
+    fn begin(&mut self, beginning: &Beginning<'_>)
+        requires begun { (notes self.old).begun ≡ false }
+        requires room { length (notes self.old).made < (notes self.old).most }
+        ensures made { (notes self.new).made ≡ (notes self.old).made ++ begun_as beginning.now.stamp beginning.now.pass beginning.now.moment beginning.now.time beginning.now.call.now beginning.now.ruling.now ∷ [] }
+        ensures begun { (notes self.new).begun ≡ true }
+        ensures saved { (notes self.new).saved ≡ None }
+        ensures rest { KeepsOpen (notes self.old) (notes self.new) }
+        ensures files { Keeps (Self.files self.old) (Self.files self.new) }
+        ensures never_falls { Self.faults self.old ≤ Self.faults self.new };
+
+    /// The name then holds the contents, and the call that was begun is to be told that version. After a fault only this
+    /// name is open.
+    fn save(
+        &mut self,
+        alloc: Global,
+        version: u64,
+        name: &str,
+        contents: &[u8],
+    ) -> Result<(), OutFault>
+        ensures replaced { OnOk result (Replaces (Self.files self.old) (Self.files self.new) name.now contents.now) }
+        ensures torn { OpensOnly (Self.files self.old) (Self.files self.new) name.now }
+        ensures memory { result ≡ Err OutFault.Memory → Keeps (Self.files self.old) (Self.files self.new) }
+        ensures never_falls { Self.faults self.old ≤ Self.faults self.new }
+        ensures failed { IsErrOf result OutFault.Failed → Rose (Self.faults self.old) (Self.faults self.new) }
+        ensures saved { OnOk result ((notes self.new).saved ≡ Some (Some version, contents.now)) }
+        ensures unsaved { OnErr result ((notes self.new).saved ≡ (notes self.old).saved) }
+        ensures noted { StaysNoted (notes self.old) (notes self.new) };
+
+    /// The name is gone. After a fault only this name is open.
+    fn clear(&mut self, name: &str) -> Result<(), Failed>
+        ensures removed { OnOk result (Removes (Self.files self.old) (Self.files self.new) name.now) }
+        ensures torn { OpensOnly (Self.files self.old) (Self.files self.new) name.now }
+        ensures never_falls { Self.faults self.old ≤ Self.faults self.new }
+        ensures failed { OnErr result (Rose (Self.faults self.old) (Self.faults self.new)) }
+        ensures notes { notes self.new ≡ notes self.old };
+
+    /// Gives the entry that was begun its ruling. It takes no memory.
+    fn end(&mut self, ruling: &Ruling)
+        requires begun { (notes self.old).begun ≡ true }
+        requires last { (before : List Made) × (one : Made) × ((notes self.old).made ≡ before ++ one ∷ []) × (one.step.ruling ≡ bare 401) × ((notes self.old).saved ≡ saved_in (ended_as ruling.now one)) }
+        requires status { is_status ruling.now.status ≡ true }
+        ensures made { (before : List Made) (one : Made) → (notes self.old).made ≡ before ++ one ∷ [] → (notes self.new).made ≡ before ++ ended_as ruling.now one ∷ [] }
+        ensures ended { (notes self.new).begun ≡ false }
+        ensures rest { KeepsOpen (notes self.old) (notes self.new) }
+        ensures files { Keeps (Self.files self.old) (Self.files self.new) }
+        ensures never_falls { Self.faults self.old ≤ Self.faults self.new };
+
+    /// The entry that was begun is none.
+    fn give_up(&mut self)
+        requires begun { (notes self.old).begun ≡ true }
+        requires last { (before : List Made) × (one : Made) × ((notes self.old).made ≡ before ++ one ∷ []) }
+        ensures made { (before : List Made) (one : Made) → (notes self.old).made ≡ before ++ one ∷ [] → (notes self.new).made ≡ before }
+        ensures ended { (notes self.new).begun ≡ false }
+        ensures rest { KeepsOpen (notes self.old) (notes self.new) }
+        ensures files { Keeps (Self.files self.old) (Self.files self.new) }
+        ensures never_falls { Self.faults self.old ≤ Self.faults self.new };
+
+    /// How many entries there are.
+    fn count(&self) -> u64
+        ensures { result ≡ length (notes self.now).made };
+}
