@@ -1,5 +1,4 @@
 use Rattle.std.proofs.Common.{List, subst}
-use Rattle.file_versions.specs.Versions.{kept_in}
 use Rattle.host_core.specs.Children.{AreChildren}
 use Rattle.host_core.specs.declared.file.KeptFile.{KeptFile}
 use Rattle.host_core.specs.Files.{files_of}
@@ -13,9 +12,9 @@ use Rattle.host_core.proofs.shard.Shard.children.Goals as goal
 pub returns-in-Ok : goal.returns-in-Ok
 returns-in-Ok g c =
     let inside = c.self.inside in
-    let book = book_of inside in
+    let book = book_of (g.F.Store.notes inside.folder) inside in
     let ledger = inside.ledger in
     subst (λ (b : Book _). AreChildren (state_of b.opening b.opened b.first b.made b.time).files c.in-Ok.children) c.self.view_is
-    (children_shown book.opening book.opened book.first book.capacity book.made book.time ledger.last (kept_in ledger.versions.list) (files_in ledger) c.in-Ok.children
+    (children_shown book.opening book.opened book.first book.capacity book.made book.time ledger.last ledger.bytes (files_in ledger) c.in-Ok.children
     c.self.invariant.0.keeps
-    (subst (λ (files : List KeptFile). AreChildren (files_of book.first (joined files ledger.locks.files)) c.in-Ok.children) c.deref.ensures.value (c.in-Ok.ensures book.first ledger.locks.files)))
+    (subst (λ (files : List KeptFile). AreChildren (files_of book.first (joined files ledger.rack.locks.files)) c.in-Ok.children) c.deref.ensures.value (c.in-Ok.ensures book.first ledger.rack.locks.files)))
