@@ -4,11 +4,13 @@ ghost use Rattle.host_core.specs.Notes.{opening_listed};
 ghost use Rattle.host_core.specs.ShardView.{files_listed};
 ghost use Rattle.host_core.specs.Value.{IsLawful};
 
+use crate::contents::{Contents, share_between, widen};
 use crate::entry::{Beginning, Entry, end_last};
 use crate::file::KeptFile;
 use crate::noting::Store;
 use crate::past::Past;
 use crate::shard::Shard;
+use crate::store::take;
 use outside::{Failed, Folder, FolderRead, Names, OutFault};
 use std::alloc::Global;
 use std::marker::Model;
@@ -21,17 +23,19 @@ use wopi_text::{Bytes, FileName, Memory};
 #[derive(Drop)]
 pub struct OpeningFile {
     pub name: FileName,
-    pub contents: Bytes,
+    pub contents: Contents,
 }
 
 /// Contents that the folder took, and the version that is told of them.
 #[derive(Drop)]
 pub struct Saved {
     pub version: u64,
-    pub contents: Bytes,
+    pub contents: Contents,
 }
 
-/// A folder, and the opening files, the entries and the accepted contents of a shard over it.
+/// A folder, and the opening files, the entries and the accepted contents of a shard over it. What stands with a file lies
+/// once, for it and for the entry that brought it; so do contents that were saved again. `room` is taken before a save, and
+/// written to only where there is no memory to count owners.
 #[derive(Drop)]
 pub struct Kept<F: Folder> {
     folder: F,
@@ -39,6 +43,7 @@ pub struct Kept<F: Folder> {
     entries: Vec<Entry>,
     begun: bool,
     saved: Option<Saved>,
+    room: Vec<u8>,
 }
 
 impl<F: Folder> Model for Kept<F> {
@@ -62,6 +67,7 @@ impl<F: Folder> Kept<F> {
             entries: Vec::new(alloc),
             begun: false,
             saved: None,
+            room: Vec::new(alloc),
         }
     }
 
@@ -84,6 +90,7 @@ impl<F: Folder> Kept<F> {
             mut entries,
             begun: _begun,
             saved: _saved,
+            room: _room,
         } = self;
         opening.shrink_to_fit();
         entries.shrink_to_fit();
@@ -107,7 +114,7 @@ pub fn leave<F: Folder>(shard: Shard<Kept<F>>) -> (F, Past<F>)
 }
 
 /// The contents alone.
-fn contents_of(saved: Option<Saved>) -> Option<Bytes>
+fn contents_of(saved: Option<Saved>) -> Option<Contents>
     ensures { result ≡ option_map (λ one. one.contents) saved }
 {
     match saved {
@@ -116,13 +123,13 @@ fn contents_of(saved: Option<Saved>) -> Option<Bytes>
     }
 }
 
-/// A copy of a file, as it stands at the opening.
+/// The file as it stands at the opening, whose contents it shares.
 fn copy_file(alloc: Global, file: &KeptFile) -> Result<OpeningFile, Memory>
     ensures { IfOk result (λ copy. files_listed (copy ∷ []) ≡ opening_listed (file.now ∷ [])) }
 {
     let contents = match &file.contents {
-        None => Bytes::from_vec(Vec::new(alloc)),
-        Some(contents) => contents.try_copy(alloc)?,
+        None => Contents::own(Bytes::from_vec(Vec::new(alloc))),
+        Some(contents) => contents.share_or_copy(alloc)?,
     };
     Ok(OpeningFile {
         name: file.name.copy(),
@@ -130,7 +137,7 @@ fn copy_file(alloc: Global, file: &KeptFile) -> Result<OpeningFile, Memory>
     })
 }
 
-/// Copies of the files, as they stand at the opening.
+/// The files as they stand at the opening, whose contents they share.
 fn copy_files(alloc: Global, files: &[KeptFile]) -> Result<Vec<OpeningFile>, Memory>
     ensures { IfOk result (λ copies. files_listed copies.items ≡ opening_listed files.now) }
 {
@@ -200,19 +207,22 @@ impl<F: Folder> Store for Kept<F> {
         alloc: Global,
         version: u64,
         name: &str,
-        contents: &[u8],
-    ) -> Result<(), OutFault> {
-        let copy = match Bytes::from_slice(alloc, contents) {
-            Ok(copy) => copy,
+        contents: &mut Bytes,
+        former: Option<&Contents>,
+    ) -> Result<Contents, OutFault> {
+        match widen(alloc, &mut self.room, contents.as_slice().len()) {
+            Ok(()) => {}
             Err(_) => return Err(OutFault::Memory),
-        };
-        match self.folder.replace(name, contents) {
+        }
+        match self.folder.replace(name, contents.as_slice()) {
             Ok(()) => {
+                let bytes = take(alloc, contents);
+                let (live, noted) = share_between(alloc, former, bytes, &mut self.room);
                 self.saved = Some(Saved {
                     version,
-                    contents: copy,
+                    contents: noted,
                 });
-                return Ok(());
+                return Ok(live);
             }
             Err(fault) => return Err(fault),
         }

@@ -1,5 +1,5 @@
 //! A folder in which a shard's entries are noted.
-ghost use Rattle.std.specs.Prelude.{◌≡◌, ◌≤◌, ◌<◌, ◌++◌, ◌∷◌, [], List, length, true, false, None, Some, Err, OnOk, OnErr, IsErrOf};
+ghost use Rattle.std.specs.Prelude.{◌≡◌, ◌≤◌, ◌<◌, ◌++◌, ◌∷◌, [], List, length, true, false, None, Some, Err, IfOk, OnOk, OnErr, IsErrOf};
 ghost use Rattle.outside.specs.Faults.{Rose};
 ghost use Rattle.outside.specs.Folder.{Keeps, Replaces, OpensOnly, Removes};
 ghost use Rattle.wopi_model.specs.Step.{bare};
@@ -7,12 +7,13 @@ ghost use Rattle.host_core.specs.Entries.{Made, begun_as, ended_as};
 ghost use Rattle.host_core.specs.Entry.{is_status};
 ghost use Rattle.host_core.specs.Notes.{Notes, opening_listed, saved_in, StaysNoted, KeepsOpen};
 
+use crate::contents::Contents;
 use crate::entry::Beginning;
 use crate::file::KeptFile;
 use outside::{Failed, Folder, OutFault};
 use std::alloc::Global;
 use wopi_model::Ruling;
-use wopi_text::Memory;
+use wopi_text::{Bytes, Memory};
 
 /// A folder, and whatever a shard's entries are noted in, one after another. An entry is begun before its call is
 /// carried out, and then ended or given up.
@@ -42,21 +43,25 @@ pub trait Store: Folder {
         ensures files { Keeps (Self.files self.old) (Self.files self.new) }
         ensures never_falls { Self.faults self.old ≤ Self.faults self.new };
 
-    /// The name then holds the contents, and the call that was begun is to be told that version. After a fault only this
-    /// name is open.
+    /// The name then holds the contents, and the call that was begun is to be told that version. The contents are taken, and given
+    /// as they are to stand with their file; `former` stood there before. After a fault only this name is open, and
+    /// the contents stay.
     fn save(
         &mut self,
         alloc: Global,
         version: u64,
         name: &str,
-        contents: &[u8],
-    ) -> Result<(), OutFault>
-        ensures replaced { OnOk result (Replaces (Self.files self.old) (Self.files self.new) name.now contents.now) }
+        contents: &mut Bytes,
+        former: Option<&Contents>,
+    ) -> Result<Contents, OutFault>
+        ensures live { IfOk result (λ live. live ≡ contents.old) }
+        ensures back { OnErr result (contents.new ≡ contents.old) }
+        ensures replaced { OnOk result (Replaces (Self.files self.old) (Self.files self.new) name.now contents.old) }
         ensures torn { OpensOnly (Self.files self.old) (Self.files self.new) name.now }
         ensures memory { result ≡ Err OutFault.Memory → Keeps (Self.files self.old) (Self.files self.new) }
         ensures never_falls { Self.faults self.old ≤ Self.faults self.new }
         ensures failed { IsErrOf result OutFault.Failed → Rose (Self.faults self.old) (Self.faults self.new) }
-        ensures saved { OnOk result ((notes self.new).saved ≡ Some (Some version, contents.now)) }
+        ensures saved { OnOk result ((notes self.new).saved ≡ Some (Some version, contents.old)) }
         ensures unsaved { OnErr result ((notes self.new).saved ≡ (notes self.old).saved) }
         ensures noted { StaysNoted (notes self.old) (notes self.new) };
 

@@ -13,6 +13,7 @@ ghost use Rattle.host_core.specs.Opening.{MayKeep, IsOfShard, IsOpening, Fits, I
 ghost use Rattle.wopi_model.specs.Host.{most_kept};
 ghost use Rattle.host_core.specs.Notes.{opening_listed};
 
+use crate::contents::Contents;
 use crate::file::{KeptFile, unmet};
 use crate::noting::Store;
 use file_versions::MOST_KEPT;
@@ -111,7 +112,12 @@ fn read_one<F: Store>(
 }
 
 /// Adds a file that was read, at that version and unlocked.
-fn stock_one(stock: &mut Stock, file: ReadFile, first: u64) -> Result<(), Memory>
+fn stock_one(
+    alloc: Global,
+    stock: &mut Stock,
+    file: ReadFile,
+    first: u64,
+) -> Result<(), Memory>
     requires stock { IsStock first stock.old }
     requires first { 1 ≤ first }
     requires room { stock.old.bytes + length file.contents ≤ most_kept }
@@ -125,7 +131,7 @@ fn stock_one(stock: &mut Stock, file: ReadFile, first: u64) -> Result<(), Memory
     }
     let ReadFile { name, contents } = file;
     let len = contents.as_slice().len() as u64;
-    let kept = opened(&name, contents, first);
+    let kept = opened(alloc, &name, contents, first);
     stock.index.add(name, count as u32)?;
     stock.files.push(kept)?;
     stock.bytes += len;
@@ -133,14 +139,14 @@ fn stock_one(stock: &mut Stock, file: ReadFile, first: u64) -> Result<(), Memory
 }
 
 /// The file of a name that stood there at the opening, at that version.
-fn opened(name: &FileName, contents: Bytes, first: u64) -> KeptFile
+fn opened(alloc: Global, name: &FileName, contents: Bytes, first: u64) -> KeptFile
     requires { 1 ≤ first }
     ensures file { file_of (whole result unlocked) ≡ opened_with first contents }
     ensures name { result.name ≡ name.now }
     ensures torn { result.torn ≡ false }
 {
     let mut file = unmet(name, first);
-    file.contents = Some(contents);
+    file.contents = Some(Contents::shareable(alloc, contents));
     file.version = first;
     file
 }
@@ -162,6 +168,7 @@ fn taken_names(alloc: Global, listed: &Names, only: Option<u8>) -> Result<BTreeS
 
 /// Reads the files of the names, in the order of their bytes.
 fn read_names<F: Store>(
+    alloc: Global,
     folder: &mut F,
     only: Option<u8>,
     names: &mut BTreeSet<ByBytes>,
@@ -182,7 +189,7 @@ fn read_names<F: Store>(
         match read_one(folder, next.name, stock.bytes) {
             Err(fault) => return Err(fault),
             Ok(None) => {}
-            Ok(Some(file)) => match stock_one(stock, file, first) {
+            Ok(Some(file)) => match stock_one(alloc, stock, file, first) {
                 Ok(()) => {}
                 Err(_) => return Err(StartFault::Memory),
             },
@@ -221,7 +228,7 @@ pub fn gather<F: Store>(
         index: NameIndex::new(alloc),
         bytes: 0,
     };
-    match read_names(folder, only, &mut names, &mut stock, first) {
+    match read_names(alloc, folder, only, &mut names, &mut stock, first) {
         Ok(()) => return Ok(stock),
         Err(fault) => return Err(fault),
     }

@@ -6,6 +6,7 @@ ghost use Rattle.wopi_model.specs.Host.{most_kept};
 ghost use Rattle.host_core.specs.Notes.{StaysNoted};
 ghost use Rattle.host_core.specs.Store.{Holds, MatchStored};
 
+use crate::contents::Contents;
 use crate::noting::Store;
 use file_versions::MOST_KEPT;
 use outside::OutFault;
@@ -13,10 +14,10 @@ use std::alloc::Global;
 use std::mem;
 use wopi_text::{Bytes, FileName};
 
-/// How a store call ended.
-#[derive(Clone, Copy, Debug, PartialEq, Eq)]
+/// How a store call ended: with the contents as they stand with their file, or in a fault.
+#[derive(Drop)]
 pub enum Stored {
-    Done,
+    Done(Contents),
     Torn,
 }
 
@@ -43,31 +44,33 @@ fn has_room(kept: u64, contents: &Bytes) -> bool
     kept.saturating_add(len) <= MOST_KEPT
 }
 
-/// Writes contents to the store. Where it fails they are kept, and an `Err` leaves the folder.
+/// Writes contents to the store, which takes them. Where it fails they stay, and an `Err` leaves the folder.
 pub fn put_away<F: Store>(
     alloc: Global,
     folder: &mut F,
     kept: u64,
     version: u64,
     name: &FileName,
-    contents: &Bytes,
+    contents: &mut Bytes,
+    former: Option<&Contents>,
 ) -> Result<Stored, StoreRefusal>
     ensures stored { IfOk result (λ stored. MatchStored stored
-        (Holds (F.files folder.new) name.now (Some contents.now) × ((F.notes folder.new).saved ≡ Some (Some version, contents.now)))
-        (((F.notes folder.new).saved ≡ (F.notes folder.old).saved) × Rose (F.faults folder.old) (F.faults folder.new))) }
-    ensures room { OnOk result (kept + length contents.now ≤ most_kept) }
+        (λ live. (live ≡ contents.old) × (Holds (F.files folder.new) name.now (Some contents.old) × ((F.notes folder.new).saved ≡ Some (Some version, contents.old))))
+        ((contents.new ≡ contents.old) × (((F.notes folder.new).saved ≡ (F.notes folder.old).saved) × Rose (F.faults folder.old) (F.faults folder.new)))) }
+    ensures room { OnOk result (kept + length contents.old ≤ most_kept) }
+    ensures back { OnErr result (contents.new ≡ contents.old) }
     ensures others { OpensOnly (F.files folder.old) (F.files folder.new) name.now }
     ensures keeps { OnErr result (Keeps (F.files folder.old) (F.files folder.new)) }
     ensures unsaved { OnErr result ((F.notes folder.new).saved ≡ (F.notes folder.old).saved) }
-    ensures full { IfErr result (λ why. why ≡ StoreRefusal.Full → most_kept < kept + length contents.now) }
+    ensures full { IfErr result (λ why. why ≡ StoreRefusal.Full → most_kept < kept + length contents.old) }
     ensures noted { StaysNoted (F.notes folder.old) (F.notes folder.new) }
     ensures never_falls { F.faults folder.old ≤ F.faults folder.new }
 {
     if !has_room(kept, contents) {
         return Err(StoreRefusal::Full);
     }
-    match folder.save(alloc, version, name.as_str(), contents.as_slice()) {
-        Ok(()) => return Ok(Stored::Done),
+    match folder.save(alloc, version, name.as_str(), contents, former) {
+        Ok(live) => return Ok(Stored::Done(live)),
         Err(OutFault::Failed) => return Ok(Stored::Torn),
         Err(OutFault::Memory) => return Err(StoreRefusal::Memory),
     }
