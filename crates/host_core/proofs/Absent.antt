@@ -7,7 +7,7 @@ use Rattle.wopi_model.specs.Act.{is_create}
 use Rattle.wopi_model.specs.File.{never_met}
 use Rattle.wopi_model.specs.Settle.{settled}
 use Rattle.wopi_model.specs.Step.{Decision, Refuse, Accept, decision, ruling_of, is_unauthorized, is_missing}
-use Rattle.file_versions.specs.Places.{first_of}
+use Rattle.host_core.specs.Places.{first_of}
 use Rattle.host_core.specs.Notes.{Brought}
 use Rattle.host_core.specs.declared.accept.Carried.{Carried}
 use Rattle.host_core.specs.Entries.{brought_by}

@@ -3,7 +3,7 @@ use Rattle.std.proofs.Common.{◌≡◌, ℕ, zero, suc, Bool, true, false, if�
 use Rattle.std.proofs.lemmas.Option.{none-some}
 use Rattle.std.specs.Str.{bytes_eq}
 use Rattle.outside.specs.Folder.{Files}
-use Rattle.file_versions.specs.Places.{first_of}
+use Rattle.host_core.specs.Places.{first_of}
 use Rattle.wopi_model.specs.File.{File, never_met}
 use Rattle.wopi_model.specs.Settle.{standing, expired, is_over, still_spent, with_spent, settled}
 use Rattle.wopi_model.specs.declared.locks.Lock.{Lock}
@@ -11,7 +11,7 @@ use Rattle.wopi_model.specs.declared.locks.Spent.{Spent}
 use Rattle.kept_locks.specs.Locks.{Standing, unlocked}
 use Rattle.host_core.specs.declared.file.KeptFile.{KeptFile}
 use Rattle.host_core.specs.declared.ledger.Ledger.{Ledger}
-use Rattle.host_core.specs.Archive.{place_in}
+use Rattle.host_core.specs.Names.{place_in}
 use Rattle.host_core.specs.Chains.{KeepsChains, chain_at}
 use Rattle.host_core.specs.Files.{file_of, files_of, is_named}
 use Rattle.host_core.specs.Ledger.{files_in, IsTied}

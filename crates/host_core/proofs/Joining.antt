@@ -2,11 +2,11 @@
 use Rattle.std.proofs.Common.{◌≡◌, ◌≢◌, ◌<◌, ◌-◌, ℕ, zero, suc, Bool, true, false, if◌then◌else◌, List, [], ◌∷◌, ◌++◌, length, set, get_or, Option, None, Some, option_map, unwrap_or, refl, sym, ap, subst, ◌∙◌, arith, slice_get}
 use Rattle.std.specs.Str.{bytes_eq}
 use Rattle.wopi_model.specs.File.{File, never_met}
-use Rattle.file_versions.specs.Places.{first_of}
+use Rattle.host_core.specs.Places.{first_of}
 use Rattle.kept_locks.specs.Locks.{Standing, ended_at, all_ended}
 use Rattle.kept_locks.specs.Whole.{ended_file}
 use Rattle.host_core.specs.declared.file.KeptFile.{KeptFile}
-use Rattle.host_core.specs.Archive.{AreWithin, names_of}
+use Rattle.host_core.specs.Names.{AreWithin, names_of}
 use Rattle.host_core.specs.Files.{file_of, is_named, files_of, torn_in}
 use Rattle.host_core.specs.Numbers.{named}
 use Rattle.host_core.specs.Whole.{Whole, whole, standing_at, joined}

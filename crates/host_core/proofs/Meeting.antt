@@ -10,14 +10,14 @@ use Rattle.wopi_model.specs.Step.{IsOutcome, after_step, decision, Accept}
 use Rattle.wopi_model.specs.Host.{new_bytes, brings_contents, most_kept}
 use Rattle.kept_locks.proofs.Ending.{ended_shows}
 use Rattle.wopi_text.proofs.Disjunctions.{or_none}
-use Rattle.file_versions.specs.Places.{IsFirst, first_of}
+use Rattle.host_core.specs.Places.{IsFirst, first_of}
 use Rattle.kept_locks.specs.Locks.{Standing, Locks, AreChained, unlocked, ended_at, all_ended}
 use Rattle.kept_locks.specs.Ties.{BeganBy}
 use Rattle.host_core.specs.Notes.{Brought}
 use Rattle.host_core.specs.declared.accept.Carried.{Carried}
 use Rattle.host_core.specs.declared.store.StoreRefusal.{StoreRefusal}
 use Rattle.host_core.specs.declared.file.KeptFile.{KeptFile}
-use Rattle.host_core.specs.Archive.{AreWithin, place_in}
+use Rattle.host_core.specs.Names.{AreWithin, place_in}
 use Rattle.host_core.specs.declared.store.StoreRefusal.TheVariants as refusal
 use Rattle.host_core.proofs.Decisions.{keeps_self}
 use Rattle.host_core.specs.Files.{file_of, files_of, torn_in, is_named}

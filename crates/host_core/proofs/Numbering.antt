@@ -4,10 +4,10 @@ use Rattle.std.proofs.lemmas.List.{map-append}
 use Rattle.std.proofs.lemmas.Slice.Eq.{bytes_eq-Decides}
 use Rattle.std.specs.Str.{bytes_eq}
 use Rattle.std.specs.List.{list_any}
-use Rattle.file_versions.specs.Places.{IsFirst}
+use Rattle.host_core.specs.Places.{IsFirst}
 use Rattle.name_index.specs.Index.{number_of}
 use Rattle.host_core.specs.declared.file.KeptFile.{KeptFile}
-use Rattle.host_core.specs.Archive.{names_of, place_in}
+use Rattle.host_core.specs.Names.{names_of, place_in}
 use Rattle.host_core.specs.Files.{is_named}
 use Rattle.host_core.specs.Numbers.{named, IsNumbered}
 use Rattle.host_core.specs.Whole.{Whole}

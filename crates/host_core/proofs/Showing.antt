@@ -10,12 +10,12 @@ use Rattle.std.specs.Ordering.{nat_cmp}
 use Rattle.std.specs.declared.cmp.Ordering.TheVariants.{Less}
 use Rattle.std.specs.Cmp.Lexicographic.{slice_cmp}
 use Rattle.wopi_model.specs.File.{File, never_met}
-use Rattle.file_versions.specs.Places.{first_of}
+use Rattle.host_core.specs.Places.{first_of}
 use Rattle.kept_locks.specs.Locks.{Standing}
 use Rattle.name_index.specs.Index.{number_of, names_of, IsInOrder}
 use Rattle.host_core.specs.declared.children.Child.{Child}
 use Rattle.host_core.specs.declared.file.KeptFile.{KeptFile}
-use Rattle.host_core.specs.Archive.{place_in}
+use Rattle.host_core.specs.Names.{place_in}
 use Rattle.host_core.specs.Children.{IsChild, AreChildren, child_names, child_in}
 use Rattle.host_core.specs.Files.{file_of, is_named, files_of}
 use Rattle.host_core.specs.Numbers.{named, IsNumbered}

@@ -6,7 +6,7 @@ use Rattle.std.proofs.lemmas.Slice.Eq.{bytes_eq-Decides}
 use Rattle.std.specs.Str.{bytes_eq}
 use Rattle.wopi_text.proofs.Disjunctions.{or_none}
 use Rattle.host_core.specs.Opening.{MayKeep}
-use Rattle.host_core.specs.Archive.{AreWithin}
+use Rattle.host_core.specs.Names.{AreWithin}
 use Rattle.host_core.specs.Notes.{Notes}
 use Rattle.outside.specs.Folder.{Files}
 use Rattle.outside.specs.Folder as folder

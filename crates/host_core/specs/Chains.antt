@@ -3,7 +3,7 @@ use Rattle.std.specs.Prelude.{◌≡◌, ℕ, zero, suc, List, [], ◌∷◌, So
 use Rattle.wopi_model.specs.declared.locks.Spent.{Spent}
 use Rattle.wopi_model.specs.Settle.{still_spent}
 use Rattle.host_core.specs.declared.ledger.Ledger.{Ledger}
-use Rattle.host_core.specs.Archive.{place_in}
+use Rattle.host_core.specs.Names.{place_in}
 use Rattle.host_core.specs.Numbers.{named}
 use Rattle.host_core.specs.Value.{Book, state_of}
 

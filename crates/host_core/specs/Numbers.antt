@@ -3,7 +3,7 @@ use Rattle.std.specs.Prelude.{◌≡◌, ℕ, ◌≤◌, List, length, map}
 use Rattle.kept_locks.specs.Locks.{Locks, unlocked}
 use Rattle.name_index.specs.Index.{number_of}
 use Rattle.host_core.specs.declared.file.KeptFile.{KeptFile}
-use Rattle.host_core.specs.Archive.{place_in}
+use Rattle.host_core.specs.Names.{place_in}
 use Rattle.host_core.specs.Turns.{AreAsOf}
 use Rattle.host_core.specs.Whole.{standing_at}
 

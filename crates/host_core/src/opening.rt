@@ -3,7 +3,7 @@ ghost use Rattle.std.specs.Prelude.{◌≡◌, ◌⊎◌, ◌≤◌, ◌+◌, �
 ghost use Rattle.outside.specs.Faults.{Rose};
 ghost use Rattle.outside.specs.Folder.{Keeps};
 ghost use Rattle.wopi_model.specs.File.{opened_with};
-ghost use Rattle.host_core.specs.Archive.{place_in};
+ghost use Rattle.host_core.specs.Names.{place_in};
 ghost use Rattle.host_core.specs.Files.{file_of};
 ghost use Rattle.host_core.specs.Whole.{whole};
 ghost use Rattle.kept_locks.specs.Locks.{unlocked};
@@ -16,7 +16,7 @@ ghost use Rattle.host_core.specs.Notes.{opening_listed};
 use crate::contents::Contents;
 use crate::file::{KeptFile, unmet};
 use crate::noting::Store;
-use file_versions::MOST_KEPT;
+use crate::store::MOST_KEPT;
 use name_index::{ByBytes, NameIndex};
 use outside::{FolderRead, Names, OutFault};
 use std::alloc::Global;
@@ -112,12 +112,7 @@ fn read_one<F: Store>(
 }
 
 /// Adds a file that was read, at that version and unlocked.
-fn stock_one(
-    alloc: Global,
-    stock: &mut Stock,
-    file: ReadFile,
-    first: u64,
-) -> Result<(), Memory>
+fn stock_one(alloc: Global, stock: &mut Stock, file: ReadFile, first: u64) -> Result<(), Memory>
     requires stock { IsStock first stock.old }
     requires first { 1 ≤ first }
     requires room { stock.old.bytes + length file.contents ≤ most_kept }

@@ -5,7 +5,6 @@ ghost use Rattle.outside.specs.Faults.{Rose};
 ghost use Rattle.wopi_model.specs.Moment.{IsMoment};
 ghost use Rattle.wopi_model.specs.Host.{FullAt};
 ghost use Rattle.wopi_model.specs.Shard.{last_from, stamps, entries, opening_file, AreNames};
-ghost use Rattle.file_versions.specs.Versions.{kept_in};
 ghost use Rattle.host_core.specs.Whole.{standing_at};
 ghost use Rattle.kept_locks.specs.Locks.{unlocked};
 ghost use Rattle.host_core.specs.Stock.{IsStock};

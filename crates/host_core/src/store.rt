@@ -8,11 +8,13 @@ ghost use Rattle.host_core.specs.Store.{Holds, MatchStored};
 
 use crate::contents::Contents;
 use crate::noting::Store;
-use file_versions::MOST_KEPT;
 use outside::OutFault;
 use std::alloc::Global;
 use std::mem;
 use wopi_text::{Bytes, FileName};
+
+/// The most bytes of contents that a shard begins with and takes: 256 MiB.
+pub const MOST_KEPT: u64 = 268_435_456;
 
 /// How a store call ended: with the contents as they stand with their file, or in a fault.
 #[derive(Drop)]

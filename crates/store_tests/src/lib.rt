@@ -1,10 +1,8 @@
-//! The tests of what a host keeps: locks, versions, tokens, a shard and the list of its folder.
+//! The tests of what a host keeps: locks, tokens, a shard and the list of its folder.
 //!
 //! They stand in a crate of their own over the libraries, so that each library is proved once.
 #![tactic(auto)]
 
-#[cfg(test)]
-mod archives;
 #[cfg(test)]
 mod expiries;
 #[cfg(test)]
@@ -19,5 +17,3 @@ mod locks;
 mod shards;
 #[cfg(test)]
 mod tokens;
-#[cfg(test)]
-mod versions;

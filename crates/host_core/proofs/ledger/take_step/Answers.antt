@@ -1,5 +1,5 @@
 use Rattle.std.proofs.Common.{inl, inr, ◌≡◌, ◌+◌, ◌<◌, ◌^◌, ◌==◌, ℕ, List, length, max, ◌∷◌, ◌++◌, [], if◌then◌else◌, refl, sym, ap, subst, ◌∙◌, arith}
-use Rattle.host_core.specs.Archive.{AreWithin}
+use Rattle.host_core.specs.Names.{AreWithin}
 use Rattle.wopi_model.specs.Settle.{settled}
 use Rattle.host_core.specs.Entries.{Made, begun_as, ended_as}
 use Rattle.host_core.specs.Files.{files_of}

@@ -1,6 +1,6 @@
 use Rattle.std.proofs.Common.{ℕ, List, ap, sym, subst, ◌∙◌, arith}
 use Rattle.name_index.specs.Index.{number_of}
-use Rattle.host_core.specs.Archive.{place_in}
+use Rattle.host_core.specs.Names.{place_in}
 use Rattle.kept_locks.specs.Locks.{all_ended}
 use Rattle.host_core.specs.Files.{BeganAtMoment}
 use Rattle.host_core.proofs.Joining.{long_joined}

@@ -1,7 +1,7 @@
 use Rattle.std.proofs.Common.{◌≡◌, ◌+◌, ℕ, List, [], Option, length, refl, sym, ap, subst, ◌∙◌, arith}
 use Rattle.outside.specs.Faults.{RoseBy}
 use Rattle.wopi_model.specs.Shard.{Opening}
-use Rattle.host_core.specs.Archive.{AreWithin}
+use Rattle.host_core.specs.Names.{AreWithin}
 use Rattle.host_core.specs.Entries.{Made}
 use Rattle.host_core.specs.Files.{files_of, torn_in}
 use Rattle.host_core.specs.Notes.{opening_listed}

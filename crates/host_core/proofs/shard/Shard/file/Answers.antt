@@ -1,5 +1,5 @@
 use Rattle.std.proofs.Common.{◌≡◌, ◌<◌, ◌≤◌, ◌-◌, ℕ, Bool, false, get_or, Option, option_map, unwrap_or, refl, sym, ap, subst, ◌∙◌, arith}
-use Rattle.file_versions.specs.Places.{IsFirst}
+use Rattle.host_core.specs.Places.{IsFirst}
 use Rattle.wopi_model.specs.File.{File, never_met}
 use Rattle.wopi_model.specs.Settle.{settled}
 use Rattle.host_core.specs.Whole.{Whole, seen}
