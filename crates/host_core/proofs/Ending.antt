@@ -1,33 +1,80 @@
--- An entry that is ended where it stands, at the end of the list.
-use Rattle.std.proofs.Common.{Some, ◌≡◌, ◌==◌, ℕ, Bool, true, false, option_map, List, [], ◌∷◌, ◌++◌, Option, None, if◌then◌else◌, get_or, length, refl, sym, ap, subst, ◌∙◌}
-use Rattle.std.proofs.Math.Seq.{take-append_seam}
-use Rattle.std.specs.Prelude.{slice_set, take}
+-- An entry that is begun behind the others, and ended where it stands.
+use Rattle.std.proofs.Common.{Some, ◌≡◌, ◌≤◌, ◌<◌, ◌+◌, ◌==◌, ℕ, suc, zero, Bool, true, false, option_map, List, [], ◌∷◌, ◌++◌, Option, None, if◌then◌else◌, get_or, set, length, take, refl, sym, ap, subst, ◌∙◌, arith}
+use Rattle.std.specs.Prelude.{slice_get, unwrap_or}
+use Rattle.std.proofs.lemmas.Option.{slice_get_past}
+use Rattle.std.proofs.lemmas.List.{take_more_set, length-set, length-take-le}
 use Rattle.wopi_model.specs.declared.calls.Ruling.{Ruling}
 use Rattle.wopi_model.specs.declared.calls.Act.{Act}
 use Rattle.wopi_model.specs.declared.calls.Act.TheVariants as act
-use Rattle.host_core.specs.Entries.{Made, ended_as, brought_by, accepted_contents}
+use Rattle.host_core.specs.Entries.{Made, Asked, asked_in, brought_by, accepted_contents}
 use Rattle.host_core.specs.Notes.{Brought, saved_in}
 use Rattle.host_core.specs.declared.kept.Saved.{Saved}
 use Rattle.host_core.specs.Store.{saved_with}
 
-ended_at : (before : List Made) (one was new : Made) (ruling : Ruling) → was ≡ get_or (before ++ one ∷ []) (length before) was → new ≡ ended_as ruling was
-    → slice_set (before ++ one ∷ []) (length before) new ≡ before ++ ended_as ruling one ∷ []
-ended_at [] one was new ruling is becomes = ap (λ (m : Made). m ∷ []) (becomes ∙ ap (λ (m : Made). ended_as ruling m) is)
-ended_at (first ∷ before) one was new ruling is becomes = ap (λ (l : List Made). first ∷ l) (ended_at before one was new ruling is becomes)
+-- the one at that place, without its ruling
+abbrev pub begun_at : List Made → ℕ → Option Asked
+begun_at l n = option_map asked_in (slice_get l n)
 
--- the last entry, found at its place and put back with its stamp and ruling
-pub ended_last : (l before : List Made) (one : Made) (at : ℕ) (was new : Made) (ruling : Ruling) → l ≡ before ++ one ∷ [] → at ≡ length before
-    → was ≡ get_or l at was → new ≡ ended_as ruling was → slice_set l at new ≡ before ++ ended_as ruling one ∷ []
-ended_last l before one at was new ruling is place found becomes =
-    subst (λ (k : List Made). slice_set k at new ≡ before ++ ended_as ruling one ∷ []) (sym is)
-    (subst (λ (n : ℕ). slice_set (before ++ one ∷ []) n new ≡ before ++ ended_as ruling one ∷ []) (sym place)
-    (ended_at before one was new ruling
-    (subst (λ (n : ℕ). was ≡ get_or (before ++ one ∷ []) n was) place (subst (λ (k : List Made). was ≡ get_or k at was) is found)) becomes))
+-- where none was begun, all are ended
+pub all_ended : (l : List Made) (n : ℕ) → n ≤ length l → begun_at l n ≡ None → n ≡ length l
+all_ended [] n le none = omega (arith, le)
+all_ended (x ∷ l) zero le none = absurd (cc none)
+all_ended (x ∷ l) (suc n) le none =
+    let less : n ≤ length l = omega (arith, le) in
+    ap suc (all_ended l n less none)
 
--- a list without the one that came last
-pub taken_back : (l before : List Made) (one : Made) (n : ℕ) → l ≡ before ++ one ∷ [] → n ≡ length before → take n l ≡ before
-taken_back l before one n is long =
-    subst (λ (k : List Made). take n k ≡ before) (sym is) (subst (λ (m : ℕ). take m (before ++ one ∷ []) ≡ before) (sym long) (take-append_seam before (one ∷ [])))
+-- the one that was begun stands in the list
+pub begun_inside : (l : List Made) (n : ℕ) (one : Asked) → begun_at l n ≡ Some one → n < length l
+begun_inside [] n one is = absurd (cc is)
+begun_inside (x ∷ l) zero one is = omega arith
+begun_inside (x ∷ l) (suc n) one is =
+    let more = begun_inside l n one is in
+    omega (arith, more)
+
+pub begun_is : (l : List Made) (n : ℕ) (one : Asked) (d : Made) → begun_at l n ≡ Some one → asked_in (get_or l n d) ≡ one
+begun_is [] n one d is = absurd (cc is)
+begun_is (x ∷ l) zero one d is = ap (λ (o : Option Asked). unwrap_or o one) is
+begun_is (x ∷ l) (suc n) one d is = begun_is l n one d is
+
+put_ends : (l : List Made) (x : Made) → take (length l) (l ++ x ∷ []) ≡ take (length l) l
+put_ends [] x = refl
+put_ends (y ∷ l) x = ap (λ (rest : List Made). y ∷ rest) (put_ends l x)
+
+put_begins : (l : List Made) (x : Made) → slice_get (l ++ x ∷ []) (length l) ≡ Some x
+put_begins [] x = refl
+put_begins (y ∷ l) x = put_begins l x
+
+-- one that is put behind them all is begun
+pub put_behind : (l : List Made) (n : ℕ) (x : Made) → n ≡ length l → (take n (l ++ x ∷ []) ≡ take n l) × (begun_at (l ++ x ∷ []) n ≡ Some (asked_in x))
+put_behind l n x is =
+    subst (λ (k : ℕ). (take k (l ++ x ∷ []) ≡ take k l) × (begun_at (l ++ x ∷ []) k ≡ Some (asked_in x))) (sym is)
+    (put_ends l x, ap (option_map asked_in) (put_begins l x))
+
+-- and once it has its ruling it stands among those that are ended
+pub ended_behind : (l : List Made) (n : ℕ) (x : Made) → n < length l → length l ≤ n + 1 → (take (n + 1) (set l n x) ≡ take n l ++ x ∷ []) × (begun_at (set l n x) (n + 1) ≡ None)
+ended_behind l n x inside one = (
+  take_more_set l n x inside,
+  ap (option_map asked_in) (slice_get_past (set l n x) (n + 1) (subst (λ (k : ℕ). k ≤ n + 1) (sym (length-set l n x)) one)),
+)
+
+-- those that are ended, taken once more
+pub taken_again : (l : List Made) (n : ℕ) → take n (take n l) ≡ take n l
+taken_again l zero = refl
+taken_again [] (suc n) = refl
+taken_again (x ∷ l) (suc n) = ap (λ (rest : List Made). x ∷ rest) (taken_again l n)
+
+-- behind which none was begun
+pub none_behind : (l : List Made) (n : ℕ) → n ≤ length l → begun_at (take n l) n ≡ None
+none_behind l n le = ap (option_map asked_in) (slice_get_past (take n l) n (let long = length-take-le n l le in omega (arith, long)))
+
+-- an entry that is ended stands at its place in the list
+pub got_ended : (l : List Made) (n i : ℕ) → i < n → slice_get (take n l) i ≡ slice_get l i
+got_ended l zero i lt = absurd (omega (arith, lt))
+got_ended [] (suc n) i lt = refl
+got_ended (x ∷ l) (suc n) zero lt = refl
+got_ended (x ∷ l) (suc n) (suc i) lt =
+    let less : i < n = omega (arith, lt) in
+    got_ended l n i less
 
 -- what an accepted call brought was saved
 saved_brought : (asked : Act) (version : Option ℕ) → saved_with None asked version ≡ option_map (λ contents. (version, contents)) (brought_by asked)

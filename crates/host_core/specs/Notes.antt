@@ -1,8 +1,8 @@
 -- What a store has noted.
-use Rattle.std.specs.Prelude.{◌≡◌, ◌==◌, ℕ, Bool, List, map, unwrap_or, [], Option, None, option_map, if◌then◌else◌}
+use Rattle.std.specs.Prelude.{◌≡◌, ◌==◌, ℕ, List, map, unwrap_or, [], Option, None, option_map, if◌then◌else◌}
 use Rattle.wopi_model.specs.Shard.{Opening}
 use Rattle.host_core.specs.declared.file.KeptFile.{KeptFile}
-use Rattle.host_core.specs.Entries.{Made, brought_by}
+use Rattle.host_core.specs.Entries.{Made, Asked, brought_by}
 
 -- the version that is told of contents, and these
 abbrev pub Brought : Type 0
@@ -12,12 +12,12 @@ Brought = Option ℕ × List ℕ
 abbrev pub saved_in : Made → Option Brought
 saved_in one = if one.step.ruling.status == 200 then option_map (λ contents. (one.step.ruling.version, contents)) (brought_by one.step.call.act) else None
 
--- The files of the opening, and the entries, the last of which is not ended yet where one was `begun`. `saved` are the contents that the
--- folder took since the last one was begun, and `most` is how many entries there may be.
+-- The files of the opening, the entries, and the one that was begun and has no ruling yet. `saved` are the contents that the folder took
+-- since the last one was begun, and `most` is how many entries there may be.
 pub record Notes : Type 0 where
   pub opening : Opening
   pub made : List Made
-  pub begun : Bool
+  pub begun : Option Asked
   pub saved : Option Brought
   pub most : ℕ
 

@@ -5,7 +5,6 @@ use Rattle.host_core.specs.declared.shard.Shard.TheInside.{Inside}
 use Rattle.host_core.specs.declared.past.Past.TheInside as past
 use Rattle.host_core.specs.declared.kept.Kept.TheInside as store
 use Rattle.host_core.specs.declared.kept.OpeningFile.{OpeningFile}
-use Rattle.std.specs.Prelude.{vec_capacity}
 use Rattle.host_core.specs.Notes.{Notes}
 use Rattle.host_core.specs.Value.{Book, Left, InMemory}
 
@@ -33,5 +32,5 @@ left_of p = record { opening = files_listed p.opening.items; made = p.entries.it
 abbrev pub kept_of : {F : Type 0} → store.Inside F → InMemory F
 kept_of k = record {
   folder = k.folder;
-  notes = record { opening = files_listed k.opening.items; made = k.entries.items; begun = k.begun; saved = option_map (λ one. (Some one.version, one.contents)) k.saved; most = vec_capacity k.entries };
+  notes = record { opening = files_listed k.opening.items; made = k.entries.made; begun = k.entries.begun; saved = option_map (λ one. (Some one.version, one.contents)) k.saved; most = k.entries.most };
 }

@@ -1,11 +1,12 @@
 //! A store that keeps all entries in memory, with the contents that were accepted.
-ghost use Rattle.std.specs.Prelude.{◌≡◌, ◌≤◌, ◌++◌, ◌∷◌, [], length, option_map, slice_get, vec_capacity, IfOk, OnOk, OnErr};
+ghost use Rattle.std.specs.Prelude.{◌≡◌, ◌≤◌, ◌++◌, ◌∷◌, [], length, option_map, slice_get, IfOk, OnOk, OnErr};
 ghost use Rattle.host_core.specs.Notes.{opening_listed};
 ghost use Rattle.host_core.specs.ShardView.{files_listed};
 ghost use Rattle.host_core.specs.Value.{IsLawful};
 
 use crate::contents::{Contents, share_between, widen};
-use crate::entry::{Beginning, Entry, end_last};
+use crate::entries::Entries;
+use crate::entry::{Beginning, Entry};
 use crate::file::KeptFile;
 use crate::noting::Store;
 use crate::past::Past;
@@ -40,8 +41,7 @@ pub struct Saved {
 pub struct Kept<F: Folder> {
     folder: F,
     opening: Vec<OpeningFile>,
-    entries: Vec<Entry>,
-    begun: bool,
+    entries: Entries,
     saved: Option<Saved>,
     room: Vec<u8>,
 }
@@ -64,8 +64,7 @@ impl<F: Folder> Kept<F> {
         Kept {
             folder,
             opening: Vec::new(alloc),
-            entries: Vec::new(alloc),
-            begun: false,
+            entries: Entries::new(alloc),
             saved: None,
             room: Vec::new(alloc),
         }
@@ -75,7 +74,7 @@ impl<F: Folder> Kept<F> {
     pub fn entry(&self, place: u64) -> Option<&Entry>
         ensures { option_map (λ entry. entry.now) result ≡ slice_get self.now.notes.made place }
     {
-        self.entries.get(place as usize)
+        self.entries.get(place)
     }
 
     /// Gives the folder, and what was noted by a shard that began with that store. It needs no memory. Room that
@@ -87,16 +86,14 @@ impl<F: Folder> Kept<F> {
         let Kept {
             folder,
             mut opening,
-            mut entries,
-            begun: _begun,
+            entries,
             saved: _saved,
             room: _room,
         } = self;
         opening.shrink_to_fit();
-        entries.shrink_to_fit();
         let past = Past {
             opening,
-            entries,
+            entries: entries.into_vec(),
             start,
         };
         (folder, past)
@@ -186,20 +183,18 @@ impl<F: Folder> Store for Kept<F> {
             Ok(copies) => copies,
             Err(memory) => return Err(memory),
         };
-        let entries = match Vec::with_capacity(alloc, capacity as usize) {
+        let entries = match Entries::with_capacity(alloc, capacity as usize) {
             Ok(entries) => entries,
-            Err(_) => return Err(Memory),
+            Err(memory) => return Err(memory),
         };
         self.opening = copies;
         self.entries = entries;
-        self.begun = false;
         Ok(())
     }
 
     fn begin(&mut self, beginning: &Beginning<'_>) {
-        beginning.put(&mut self.entries);
+        self.entries.begin(beginning);
         self.saved = None;
-        self.begun = true;
     }
 
     fn save(
@@ -234,17 +229,14 @@ impl<F: Folder> Store for Kept<F> {
 
     fn end(&mut self, ruling: &Ruling) {
         let contents = contents_of(mem::replace(&mut self.saved, None));
-        end_last(&mut self.entries, ruling, contents);
-        self.begun = false;
+        self.entries.end(ruling, contents);
     }
 
     fn give_up(&mut self) {
-        let last = self.entries.len() - 1;
-        self.entries.truncate(last);
-        self.begun = false;
+        self.entries.give_up();
     }
 
     fn count(&self) -> u64 {
-        self.entries.len() as u64
+        self.entries.len()
     }
 }

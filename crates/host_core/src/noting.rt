@@ -1,9 +1,8 @@
 //! A folder in which a shard's entries are noted.
-ghost use Rattle.std.specs.Prelude.{◌≡◌, ◌≤◌, ◌<◌, ◌++◌, ◌∷◌, [], List, length, true, false, None, Some, Err, IfOk, OnOk, OnErr, IsErrOf};
+ghost use Rattle.std.specs.Prelude.{◌≡◌, ◌≤◌, ◌<◌, ◌++◌, ◌∷◌, [], length, true, None, Some, Err, IfOk, OnOk, OnErr, IsErrOf};
 ghost use Rattle.outside.specs.Faults.{Rose};
 ghost use Rattle.outside.specs.Folder.{Keeps, Replaces, OpensOnly, Removes};
-ghost use Rattle.wopi_model.specs.Step.{bare};
-ghost use Rattle.host_core.specs.Entries.{Made, begun_as, ended_as};
+ghost use Rattle.host_core.specs.Entries.{Asked, asked_as, ruled};
 ghost use Rattle.host_core.specs.Entry.{is_status};
 ghost use Rattle.host_core.specs.Notes.{Notes, opening_listed, saved_in, StaysNoted, KeepsOpen};
 
@@ -27,17 +26,17 @@ pub trait Store: Folder {
     fn open(&mut self, alloc: Global, opening: &Vec<KeptFile>, capacity: u32) -> Result<(), Memory>
         ensures opening { OnOk result ((notes self.new).opening ≡ opening_listed opening.now.items) }
         ensures made { OnOk result ((notes self.new).made ≡ []) }
-        ensures begun { OnOk result ((notes self.new).begun ≡ false) }
+        ensures begun { OnOk result ((notes self.new).begun ≡ None) }
         ensures most { OnOk result (capacity ≤ (notes self.new).most) }
         ensures files { Keeps (Self.files self.old) (Self.files self.new) }
         ensures never_falls { Self.faults self.old ≤ Self.faults self.new };
 
     /// Begins an entry, for which there is room. It takes no memory.
     fn begin(&mut self, beginning: &Beginning<'_>)
-        requires begun { (notes self.old).begun ≡ false }
+        requires begun { (notes self.old).begun ≡ None }
         requires room { length (notes self.old).made < (notes self.old).most }
-        ensures made { (notes self.new).made ≡ (notes self.old).made ++ begun_as beginning.now.stamp beginning.now.pass beginning.now.moment beginning.now.time beginning.now.call.now beginning.now.ruling.now ∷ [] }
-        ensures begun { (notes self.new).begun ≡ true }
+        ensures made { (notes self.new).made ≡ (notes self.old).made }
+        ensures begun { (notes self.new).begun ≡ Some (asked_as beginning.now.stamp beginning.now.pass beginning.now.moment beginning.now.time beginning.now.call.now) }
         ensures saved { (notes self.new).saved ≡ None }
         ensures rest { KeepsOpen (notes self.old) (notes self.new) }
         ensures files { Keeps (Self.files self.old) (Self.files self.new) }
@@ -73,23 +72,20 @@ pub trait Store: Folder {
         ensures failed { OnErr result (Rose (Self.faults self.old) (Self.faults self.new)) }
         ensures notes { notes self.new ≡ notes self.old };
 
-    /// Gives the entry that was begun its ruling. It takes no memory.
+    /// Gives the entry that was begun its ruling. What was saved is what an accepted call brought. It takes no memory.
     fn end(&mut self, ruling: &Ruling)
-        requires begun { (notes self.old).begun ≡ true }
-        requires last { (before : List Made) × (one : Made) × ((notes self.old).made ≡ before ++ one ∷ []) × (one.step.ruling ≡ bare 401) × ((notes self.old).saved ≡ saved_in (ended_as ruling.now one)) }
+        requires begun { (one : Asked) × ((notes self.old).begun ≡ Some one) × ((notes self.old).saved ≡ saved_in (ruled ruling.now one)) }
         requires status { is_status ruling.now.status ≡ true }
-        ensures made { (before : List Made) (one : Made) → (notes self.old).made ≡ before ++ one ∷ [] → (notes self.new).made ≡ before ++ ended_as ruling.now one ∷ [] }
-        ensures ended { (notes self.new).begun ≡ false }
+        ensures made { (one : Asked) → (notes self.old).begun ≡ Some one → (notes self.new).made ≡ (notes self.old).made ++ ruled ruling.now one ∷ [] }
+        ensures ended { (notes self.new).begun ≡ None }
         ensures rest { KeepsOpen (notes self.old) (notes self.new) }
         ensures files { Keeps (Self.files self.old) (Self.files self.new) }
         ensures never_falls { Self.faults self.old ≤ Self.faults self.new };
 
-    /// The entry that was begun is none.
+    /// The entry that was begun is none. It takes no memory.
     fn give_up(&mut self)
-        requires begun { (notes self.old).begun ≡ true }
-        requires last { (before : List Made) × (one : Made) × ((notes self.old).made ≡ before ++ one ∷ []) }
-        ensures made { (before : List Made) (one : Made) → (notes self.old).made ≡ before ++ one ∷ [] → (notes self.new).made ≡ before }
-        ensures ended { (notes self.new).begun ≡ false }
+        ensures made { (notes self.new).made ≡ (notes self.old).made }
+        ensures ended { (notes self.new).begun ≡ None }
         ensures rest { KeepsOpen (notes self.old) (notes self.new) }
         ensures files { Keeps (Self.files self.old) (Self.files self.new) }
         ensures never_falls { Self.faults self.old ≤ Self.faults self.new };

@@ -330,7 +330,7 @@ impl<F: Store> Shard<F> {
         requires spare { capacity ≤ locks.spare }
         requires slots { capacity ≤ (F.notes folder).most }
         requires made { (F.notes folder).made ≡ [] }
-        requires ended { (F.notes folder).begun ≡ false }
+        requires ended { (F.notes folder).begun ≡ None }
         requires listed { (F.notes folder).opening ≡ opening_listed stock.files.items }
         requires opening { IsOpening only (F.files start.value) (opening_listed stock.files.items) }
         requires same { Keeps (F.files start.value) (F.files folder) }

@@ -16,4 +16,6 @@ mod locks;
 #[cfg(test)]
 mod shards;
 #[cfg(test)]
+mod stores;
+#[cfg(test)]
 mod tokens;

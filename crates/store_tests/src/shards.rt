@@ -3,7 +3,7 @@ ghost use Rattle.std.specs.Prelude.{◌≤◌};
 ghost use Rattle.wopi_model.specs.Moment.{IsMoment};
 ghost use Rattle.host_core.specs.Opening.{IsFirstVersion};
 
-use host_core::{CallFault, Caller, Shard, Single, StartFault};
+use host_core::{CallFault, Caller, Kept, Shard, Single, StartFault, leave};
 use outside::{Folder, MemFolder};
 use std::alloc::Global;
 use std::process::Abort;
@@ -107,7 +107,7 @@ fn folder(alloc: Global, failing: &[u64]) -> Result<MemFolder, Fail> {
 }
 
 /// A caller over a shard of that folder, whose store calls begin with the sixth call.
-fn open(alloc: Global, capacity: u32, failing: &[u64]) -> Result<Single<MemFolder>, Fail>
+fn open(alloc: Global, capacity: u32, failing: &[u64]) -> Result<Single<Kept<MemFolder>>, Fail>
     requires { (1 ≤ capacity) × (capacity ≤ 32768) }
 {
     open_from(alloc, capacity, failing, 1)
@@ -119,11 +119,12 @@ fn open_from(
     capacity: u32,
     failing: &[u64],
     first: u64,
-) -> Result<Single<MemFolder>, Fail>
+) -> Result<Single<Kept<MemFolder>>, Fail>
     requires capacity { (1 ≤ capacity) × (capacity ≤ 32768) }
     requires first { IsFirstVersion first }
 {
-    match Shard::start(alloc, folder(alloc, failing)?, None, capacity, 0, first) {
+    let store = Kept::new(alloc, folder(alloc, failing)?);
+    match Shard::start(alloc, store, None, capacity, 0, first) {
         Ok(shard) => Ok(Single::new(shard)),
         Err(_refused) => Err("a shard".into()),
     }
@@ -138,7 +139,7 @@ fn tell(ruling: &Ruling) -> Told {
     }
 }
 
-fn step(rt: &impl Abort, single: &mut Single<MemFolder>, call: Call, moment: u64) -> Told
+fn step(rt: &impl Abort, single: &mut Single<Kept<MemFolder>>, call: Call, moment: u64) -> Told
     requires { IsMoment moment }
 {
     match single.call(call, moment) {
@@ -215,7 +216,7 @@ fn a_shard_leaves_its_opening_its_entries_and_their_contents(rt: HostRuntime) ->
     let mut single = open(alloc, 4096, &[])?;
     let save = put(alloc, None, b"9")?;
     assert!(rt; step(&rt, &mut single, call(&rt, b"e.csv", save), 7) == ok(2));
-    let (_folder, past) = single.end().end();
+    let (_folder, past) = leave(single.end());
     let (first, contents) = past.opening(0).ok_or("a file")?;
     assert!(rt; first.as_str() == "a.csv");
     assert!(rt; contents == b"1,2\n".as_slice());
@@ -254,9 +255,9 @@ fn a_file_of_more_than_sixteen_mebibytes_opens_no_shard(rt: HostRuntime) -> Resu
         .replace("b.csv", contents.as_slice())
         .ok()
         .ok_or("a file")?;
-    match Shard::start(alloc, large, None, 4096, 0, 1) {
+    match Shard::start(alloc, Kept::new(alloc, large), None, 4096, 0, 1) {
         Err(refused) => {
-            let (_folder, fault) = refused;
+            let (_store, fault) = refused;
             match fault {
                 StartFault::TooLarge { name } => assert!(rt; name.as_str() == "b.csv"),
                 StartFault::FolderFault => panic!(&rt; "another fault"),

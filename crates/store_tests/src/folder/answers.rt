@@ -2,7 +2,7 @@ ghost use Rattle.wopi_model.specs.Moment.{IsMoment};
 
 use super::{FILE_TEXT, FORMER_TEXT, TEXT, WORD, ZERO_TEXT, keys};
 use containers::container_answer;
-use host_core::{Call, Caller, Shard, Single};
+use host_core::{Call, Caller, Kept, Shard, Single};
 use outside::{Folder, MemFolder};
 use std::alloc::Global;
 use std::test::Fail;
@@ -15,12 +15,12 @@ const SAVED: &str =
     r#"{"ChildContainers":[],"ChildFiles":[{"Name":"a.csv","Size":4,"Url":"http://h/wopi/files/612e637376?access_token=v2.0.ann.612e637376.w.7.50.9000000.e689d5ef329ed20662ed1969950047907c6ad95a7917bff9401d8b6ddf8e49ec","Version":"v2"}]}"#;
 
 /// A host of one shard over a folder with these files, opened at 0.
-fn open(alloc: Global, names: &[&str]) -> Result<Single<MemFolder>, Fail> {
+fn open(alloc: Global, names: &[&str]) -> Result<Single<Kept<MemFolder>>, Fail> {
     let mut folder = MemFolder::new(alloc, Vec::new(alloc), Vec::new(alloc));
     for name in names {
         folder.replace(name, b"1,2\n").ok().ok_or("a file")?;
     }
-    match Shard::start(alloc, folder, None, 4096, 0, 1) {
+    match Shard::start(alloc, Kept::new(alloc, folder), None, 4096, 0, 1) {
         Ok(shard) => Ok(Single::new(shard)),
         Err(_refused) => Err("a shard".into()),
     }
@@ -34,7 +34,7 @@ fn ask(alloc: Global, text: &str, op: ContainerOp) -> Result<ContainerAsk, Fail>
 /// What is answered at a moment to who shows this text, by a host that was opened then and then.
 fn answer(
     alloc: Global,
-    single: &mut Single<MemFolder>,
+    single: &mut Single<Kept<MemFolder>>,
     text: &str,
     op: ContainerOp,
     opened: u64,
@@ -49,7 +49,7 @@ fn answer(
 }
 
 /// Makes a call on `a.csv`, and tells the status.
-fn call(single: &mut Single<MemFolder>, act: Act) -> Result<u16, Fail> {
+fn call(single: &mut Single<Kept<MemFolder>>, act: Act) -> Result<u16, Fail> {
     let token = Token {
         user: User::read(b"ann").ok_or("a user")?,
         file: FileName::read(b"a.csv")?,

@@ -13,7 +13,7 @@ fn child(listing: &Listing, place: usize) -> Result<(&str, u64, u64), Fail> {
 fn make_file(
     rt: &impl Abort,
     alloc: Global,
-    single: &mut Single<MemFolder>,
+    single: &mut Single<Kept<MemFolder>>,
     file: &[u8],
     text: &[u8],
 ) -> Result<u16, Fail> {

@@ -1,7 +1,8 @@
 use Rattle.std.proofs.Common.{inl, inr, ◌≡◌, ◌+◌, ◌<◌, ◌^◌, ◌==◌, ℕ, List, length, max, ◌∷◌, ◌++◌, [], if◌then◌else◌, refl, sym, ap, subst, ◌∙◌, arith}
+use Rattle.std.proofs.lemmas.List.{length-append}
 use Rattle.host_core.specs.Names.{AreWithin}
 use Rattle.wopi_model.specs.Settle.{settled}
-use Rattle.host_core.specs.Entries.{Made, begun_as, ended_as}
+use Rattle.host_core.specs.Entries.{Made, asked_as, ruled}
 use Rattle.host_core.specs.Files.{files_of}
 use Rattle.host_core.specs.Ledger.{files_in, ended_in, made_by}
 use Rattle.host_core.specs.Steps.{TakesStep, IsNoRoomFor}
@@ -9,7 +10,6 @@ use Rattle.host_core.specs.Whole.{joined}
 use Rattle.host_core.proofs.Counting.{counted_fits}
 use Rattle.host_core.proofs.Decisions.{ruled_status}
 use Rattle.host_core.proofs.Ending.{made_saved}
-use Rattle.host_core.specs.declared.accept.Carried.{Carried}
 use Rattle.host_core.proofs.Turning.{stand_same}
 use Rattle.host_core.proofs.ledger.take_step.Goals as goal
 
@@ -18,8 +18,7 @@ returns-in-Err-clause-tied g c =
     let spare = c.requires.tied.spare in
     let more = c.in-Err.ensures.err.spare in
     let old = g.F.Store.notes c.args.folder.now in
-    let begun = begun_as (c.max-stamp.result + 1) c.args.pass c.args.moment c.max-now.result c.args.call.now c.args.carried.now.ruling in
-    let same : (g.F.Store.notes c.give_up.new.self).made ≡ old.made = c.give_up.ensures.made old.made begun (c.step_files.ensures.noted.made ∙ c.begin.ensures.made) in
+    let same : (g.F.Store.notes c.give_up.new.self).made ≡ old.made = c.give_up.ensures.made ∙ c.step_files.ensures.noted.made ∙ c.begin.ensures.made in
     let long : length (g.F.Store.notes c.give_up.new.self).made ≡ length old.made = ap (λ (l : List Made). length l) same in
     let most : (g.F.Store.notes c.give_up.new.self).most ≡ old.most = c.give_up.ensures.rest.most ∙ c.step_files.ensures.noted.most ∙ c.begin.ensures.rest.most in
     let slots = c.requires.tied.slots in
@@ -58,12 +57,14 @@ returns-in-Ok-clause-takes g c =
     let ok = c.in-Ok.ensures.ok.steps in
     let stamp : c.max-stamp.result + 1 ≡ max before.last c.args.floor + 1 = omega (arith, c.max-stamp.ensures) in
     let now : c.max-now.result ≡ max before.time c.args.moment = c.max-now.ensures in
-    let begun = begun_as (c.max-stamp.result + 1) c.args.pass c.args.moment c.max-now.result c.args.call.now c.args.carried.now.ruling in
-    let entry : ended_as ruling begun ≡ made_by before c.args.call.now c.args.pass c.args.floor c.args.moment ruling =
+    let asked = asked_as (c.max-stamp.result + 1) c.args.pass c.args.moment c.max-now.result c.args.call.now in
+    let entry : ruled ruling asked ≡ made_by before c.args.call.now c.args.pass c.args.floor c.args.moment ruling =
     λ i. record { time = now i; step = record { stamp = stamp i; pass = c.args.pass; moment = c.args.moment; call = c.args.call.now; ruling = ruling } } in
     record {
       steps = subst (λ (t : ℕ). TakesStep before.first (ended_in before t) after c.args.call.now before.opened t ruling) now ok.steps;
-      entries = c.end.ensures.made old.made begun (c.step_files.ensures.noted.made ∙ c.begin.ensures.made) ∙ ap (λ (m : Made). old.made ++ m ∷ []) entry;
+      entries = c.end.ensures.made asked (c.step_files.ensures.noted.begun ∙ c.begin.ensures.begun)
+          ∙ ap (λ (l : List Made). l ++ ruled ruling asked ∷ []) (c.step_files.ensures.noted.made ∙ c.begin.ensures.made)
+          ∙ ap (λ (m : Made). old.made ++ m ∷ []) entry;
       keeps = record {
         opening = c.end.ensures.rest.opening ∙ c.step_files.ensures.noted.opening ∙ c.begin.ensures.rest.opening;
         most = c.end.ensures.rest.most ∙ c.step_files.ensures.noted.most ∙ c.begin.ensures.rest.most;
@@ -76,6 +77,28 @@ returns-in-Ok-clause-takes g c =
       few = c.in-Ok.ensures.few;
       within = λ most above h. ok.within most above (subst (λ (t : ℕ). AreWithin most (ended_in before t)) (sym now) h);
       kept = c.counted-ledger.ensures ∙ ap (λ (n : ℕ). before.bytes + (if ruling.status == 200 then n else 0)) c.size_of-size.ensures;
+    }
+
+pub returns-in-Ok-clause-tied : goal.returns-in-Ok-clause-tied
+returns-in-Ok-clause-tied g c =
+    let old = g.F.Store.notes c.args.folder.now in
+    let new = g.F.Store.notes c.end.new.self in
+    let one = ruled c.step_files.new.carried.ruling (asked_as (c.max-stamp.result + 1) c.args.pass c.args.moment c.max-now.result c.args.call.now) in
+    let ok = c.in-Ok.ensures.ok in
+    let entries : new.made ≡ old.made ++ one ∷ [] =
+    c.end.ensures.made _ (c.step_files.ensures.noted.begun ∙ c.begin.ensures.begun) ∙ ap (λ (l : List Made). l ++ one ∷ []) (c.step_files.ensures.noted.made ∙ c.begin.ensures.made) in
+    let long : length new.made ≡ length old.made + 1 = ap (λ (l : List Made). length l) entries ∙ length-append old.made (one ∷ []) in
+    let most : new.most ≡ old.most = c.end.ensures.rest.most ∙ c.step_files.ensures.noted.most ∙ c.begin.ensures.rest.most in
+    let spare = c.requires.tied.spare in
+    let more = ok.spare in
+    let slots = c.requires.tied.slots in
+    record {
+      numbered = c.step_files.ensures.numbered;
+      locked = ok.locked;
+      stand = ok.stand;
+      spare = omega (arith, spare, more, long);
+      slots = omega (arith, slots, most);
+      ended = c.end.ensures.ended;
     }
 
 pub returns-in-Ok-clause-room : goal.returns-in-Ok-clause-room
@@ -91,13 +114,10 @@ returns-in-Ok-clause-room g c = λ full.
           omega (arith, over, fits)
     ]
 
-pub end-requires-clause-last : goal.end-requires-clause-last
-end-requires-clause-last g c =
-    let old = g.F.Store.notes c.args.folder.now in
+pub end-requires-clause-begun : goal.end-requires-clause-begun
+end-requires-clause-begun g c =
     let ruling = c.step_files.new.carried.ruling in (
-      old.made,
-      begun_as (c.max-stamp.result + 1) c.args.pass c.args.moment c.max-now.result c.args.call.now c.args.carried.now.ruling,
-      c.step_files.ensures.noted.made ∙ c.begin.ensures.made,
-      ap (λ (x : Carried). x.ruling) c.requires.begun,
+      asked_as (c.max-stamp.result + 1) c.args.pass c.args.moment c.max-now.result c.args.call.now,
+      c.step_files.ensures.noted.begun ∙ c.begin.ensures.begun,
       made_saved c.args.call.now.act ruling _ _ c.begin.ensures.saved c.in-Ok.ensures.ok.steps.kept,
     )
