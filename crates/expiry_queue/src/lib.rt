@@ -8,8 +8,8 @@
 //! these calls touches a file and its neighbours alone.
 //!
 //! [`SpentChains`] are lists of spent ids, one for each file that has any, singly linked through one
-//! table. A chain is named by the place of its first id; an `add` or a `purge` gives the chain a new
-//! name, and the other chains stay.
+//! table. A chain is named by the place of its first id; an `add` or a `take` gives the chain a new
+//! name, and the other chains stay. The place of an id that was taken out is free for another one.
 //!
 //! Only the two calls of `reserve` take memory.
 #![tactic(auto)]
@@ -18,6 +18,7 @@ mod cells;
 mod chains;
 mod links;
 mod queue;
+mod story;
 
 pub use chains::SpentChains;
 pub use queue::ExpiryQueue;

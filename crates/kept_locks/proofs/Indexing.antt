@@ -1,5 +1,5 @@
 -- How the index has of each file what its chain has.
-use Rattle.std.proofs.Common.{◌≡◌, ◌≢◌, ◌⊎◌, inl, inr, ◌+◌, ◌≤◌, ℕ, zero, suc, Bool, true, false, List, [], ◌∷◌, ◌++◌, ◌&&◌, ◌||◌, cond, length, Option, None, Some, refl, sym, ap, subst, ◌∙◌, arith, length-append}
+use Rattle.std.proofs.Common.{◌≡◌, ◌≢◌, ◌⊎◌, inl, inr, ◌+◌, ◌^◌, ◌≤◌, ℕ, zero, suc, Bool, true, false, List, [], ◌∷◌, ◌++◌, ◌&&◌, ◌||◌, cond, length, Option, None, Some, refl, sym, ap, subst, ◌∙◌, arith, length-append}
 use Rattle.std.specs.Prelude.{slice_get, nat_lt, max}
 use Rattle.std.proofs.lemmas.Bool.{cases_eq}
 use Rattle.std.proofs.lemmas.Bool.Decides.{nat_tests}
@@ -16,7 +16,8 @@ use Rattle.kept_locks.specs.declared.places.Held.{Held}
 use Rattle.kept_locks.specs.declared.places.Place.{Place}
 use Rattle.kept_locks.specs.Keys.{is_same, same_parts}
 use Rattle.kept_locks.specs.Refusals.{Tells, Notes, OthersStay, refused_by, ends_after, later_of}
-use Rattle.kept_locks.specs.Ties.{Waits, OwnChains, AreTied, Puts, IsIndexed, bare}
+use Rattle.kept_locks.specs.Ties.{Waits, OwnChains, AreTied, Puts, IsIndexed, bare, held_at, ids_at}
+use Rattle.kept_locks.proofs.Counting.{total_added}
 use Rattle.kept_locks.proofs.Tying.{own_other, same_other}
 
 either_end : (until known now : ℕ) → nat_lt now (max until known) ≡ nat_lt now until || nat_lt now known
@@ -109,12 +110,12 @@ module _ {S : Type 0} where
     tells = λ j p found. elim (cases_eq j i) [
       | inl same ↦
           let this : place ≡ p = cc (puts.here, found, same) in
-          λ id now from. ap (λ n. refused_by after n id now) same ∙ subst (λ (q : Place). Tells (refused_by after i) new q.trail) this told id now from
+          λ is id now from. ap (λ n. refused_by after n id now) same ∙ subst (λ (q : Place). Tells (refused_by after i) new q.trail) this told is id now from
       | inr differs ↦
           let stood : slice_get places j ≡ Some p = sym (puts.others j differs) ∙ found in
           let mine = own_other i j p.trail.chain was.trail.chain (λ e. own.apart j i p was stood at e) differs in
           let same = same_other old new was.trail.chain place.trail.chain p.trail.chain spent becomes (own.live j p stood) mine in
-          λ id now from. others j id now differs ∙ indexed.tells j p stood id now from ∙ sym (ap (λ (l : List Spent). is_spent (still_spent l now) id) same)
+          λ is id now from. others j id now differs ∙ indexed.tells j p stood is id now from ∙ sym (ap (λ (l : List Spent). is_spent (still_spent l now) id) same)
     ];
     beyond = λ j far id now.
         let within = slice_get_within places i was at in
@@ -128,7 +129,7 @@ module _ {S : Type 0} where
   indexed_added places chains index indexed = record {
     tells = λ j p found. elim (pushed places bare j p found) [
       | inl here ↦ indexed.tells j p here
-      | inr there ↦ subst (λ (q : Place). Tells (refused_by index j) chains q.trail) there.1 (λ id now from. indexed.beyond j (omega (arith, there.0)) id now)
+      | inr there ↦ subst (λ (q : Place). Tells (refused_by index j) chains q.trail) there.1 (λ is id now from. indexed.beyond j (omega (arith, there.0)) id now)
     ];
     beyond = λ j far id now.
         let longer : length (places ++ bare ∷ []) ≡ length places + 1 = length-append places (bare ∷ []) in
@@ -136,13 +137,16 @@ module _ {S : Type 0} where
         indexed.beyond j off id now;
   }
 
-  pub tied_added : (places places' : List Place) (queue : Queue) (chains : Chains) (index : HashMap SpentOn ℕ S) → places' ≡ places ++ bare ∷ [] → AreTied places queue chains index → AreTied places' queue chains index
-  tied_added places places' queue chains index is tied = subst (λ (l : List Place). AreTied l queue chains index) (sym is) (record {
+  pub tied_added : (places places' : List Place) (queue : Queue) (chains : Chains) (index : HashMap SpentOn ℕ S) → places' ≡ places ++ bare ∷ [] → length places' ≤ 2 ^ 32 → AreTied places queue chains index → AreTied places' queue chains index
+  tied_added places places' queue chains index is few tied = subst (λ (l : List Place). AreTied l queue chains index) (sym is) (record {
     waits = waits_added places queue.waiting tied.waits;
     order = tied.order;
     own = own_added places chains tied.own;
     indexed = indexed_added places chains index tied.indexed;
     room = tied.room;
+    held = total_added held_at places bare refl ∙ tied.held;
+    used = total_added (ids_at chains) places bare refl ∙ tied.used;
+    few = subst (λ (l : List Place). length l ≤ 2 ^ 32) is few;
   })
 
   -- no files, and nothing in the index

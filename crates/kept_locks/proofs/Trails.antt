@@ -1,5 +1,5 @@
 -- What is shown of a chain, and what the index tells of it, as time goes on.
-use Rattle.std.proofs.Common.{◌≡◌, ◌⊎◌, inl, inr, ◌<◌, ◌≤◌, ℕ, Bool, true, false, ◌&&◌, ◌||◌, cond, if◌then◌else◌, List, [], ◌∷◌, Option, refl, sym, ap, ◌∙◌, arith}
+use Rattle.std.proofs.Common.{◌≡◌, ◌⊎◌, inl, inr, ◌+◌, ◌<◌, ◌≤◌, ℕ, suc, length, Bool, true, false, ◌&&◌, ◌||◌, cond, if◌then◌else◌, List, [], ◌∷◌, Option, refl, sym, ap, ◌∙◌, arith}
 use Rattle.std.specs.Prelude.{nat_lt, bytes_eq, max}
 use Rattle.std.proofs.lemmas.Bool.Decides.{nat_tests}
 use Rattle.std.proofs.lemmas.Bool.{lt-ltb, ltb-true, ltb-false, eq-eqb, ne_eqb}
@@ -11,7 +11,7 @@ use Rattle.expiry_queue.specs.Chains.{Chains, Becomes, IsLive, spent_of}
 use Rattle.std.specs.HashMap.{HashMap}
 use Rattle.kept_locks.specs.declared.index.SpentOn.{SpentOn}
 use Rattle.kept_locks.specs.declared.trail.Trail.{Trail}
-use Rattle.kept_locks.specs.Refusals.{Goes, Tells, TellsOn, Notes, OthersStay, refused_by, shown_of}
+use Rattle.kept_locks.specs.Refusals.{Goes, Tells, Counts, Forgets, Notes, OthersStay, refused_by, shown_of}
 use Rattle.kept_locks.proofs.Tying.{becomes_both}
 
 -- the ids that are refused late are refused early
@@ -57,12 +57,6 @@ stays_so chains chain live = record {
 pub renamed : (old new : Chains) (chain result : Option ℕ) (spent : List Spent) → Becomes old.cells new.cells chain result spent → Becomes old.cells new.cells chain result (spent_of new result)
 renamed old new chain result spent b = record { spent_is = refl; live = b.live; stays = b.stays; lives = b.lives; apart = b.apart }
 
--- what is told of a chain is told of it once those that were over earlier have gone
-pub tells_purged : (old new : Chains) (trail : Trail) (result : Option ℕ) (moment : ℕ) (purged : Bool) → moment ≤ trail.as_of → spent_of new result ≡ still_spent (spent_of old trail.chain) moment
-    → TellsOn old new trail (record { chain = result; as_of = trail.as_of; purged = purged })
-tells_purged old new trail result moment purged le is = λ refused tells id now from.
-    tells id now from ∙ sym (ap (λ (l : List Spent). is_spent l id) (ap (λ (l : List Spent). still_spent l now) is ∙ still-still (spent_of old trail.chain) moment now (omega (arith, le, from))))
-
 -- what is shown after a step to a moment that is no earlier, or of a chain that was not purged
 pub shown_step : (chains : Chains) (trail : Trail) (now : ℕ) → (trail.purged ≡ false) ⊎ (trail.as_of ≤ now)
     → still_spent (spent_of chains trail.chain) (max trail.as_of now) ≡ still_spent (shown_of chains trail) now
@@ -84,32 +78,60 @@ shown_front one rest as_of true h = refl
 shown_front one rest as_of false (inl e) = absurd (cc (e))
 shown_front one rest as_of false (inr lt) = ap (λ b. cond b (one ∷ still_spent rest as_of) (still_spent rest as_of)) (lt-ltb as_of one.until lt)
 
+-- nothing was taken
+pub counts_same : (chains : Chains) (chain : Option ℕ) → Counts chains chains chain chain
+counts_same chains chain = record { used = refl; room = refl }
+
+pub counts_both : (first second third : Chains) (chain mid result : Option ℕ) → Counts first second chain mid → Counts second third mid result → Counts first third chain result
+counts_both first second third chain mid result a b =
+    let one = a.used in
+    let two = b.used in
+    let here = a.room in
+    let there = b.room in
+    record { used = omega (arith, one, two); room = omega (arith, here, there) }
+
 -- a purged chain that is purged once more
-pub step_purged : (old new : Chains) (trail : Trail) (result : Option ℕ) (now : ℕ) → trail.purged ≡ true → Becomes old.cells new.cells trail.chain result (still_spent (spent_of old trail.chain) now)
-    → Goes old new trail (record { chain = result; as_of = trail.as_of; purged = true }) (still_spent (shown_of old trail) now)
-step_purged old new trail result now purged b = record {
-  becomes = renamed old new trail.chain result (still_spent (spent_of old trail.chain) now) b;
-  shows = b.spent_is ∙ sym (ap (λ c. still_spent (if c then spent_of old trail.chain else still_spent (spent_of old trail.chain) trail.as_of) now) purged);
+pub step_purged : (old new : Chains) (trail result : Trail) (now : ℕ) → trail.purged ≡ true → result.purged ≡ true → Becomes old.cells new.cells trail.chain result.chain (still_spent (spent_of old trail.chain) now)
+    → Counts old new trail.chain result.chain → Goes old new trail result (still_spent (shown_of old trail) now)
+step_purged old new trail result now purged is b counts = record {
+  becomes = renamed old new trail.chain result.chain (still_spent (spent_of old trail.chain) now) b;
+  shows = ap (λ c. if c then spent_of new result.chain else still_spent (spent_of new result.chain) result.as_of) is
+      ∙ b.spent_is ∙ sym (ap (λ c. still_spent (if c then spent_of old trail.chain else still_spent (spent_of old trail.chain) trail.as_of) now) purged);
+  counts = counts;
 }
 
 -- a chain that stays, of which those that are over are shown no longer
-pub step_lazy : (chains : Chains) (trail : Trail) (now : ℕ) → IsLive chains trail.chain → (trail.purged ≡ false) ⊎ (trail.as_of ≤ now)
-    → Goes chains chains trail (record { chain = trail.chain; as_of = max trail.as_of now; purged = false }) (still_spent (shown_of chains trail) now)
-step_lazy chains trail now live h = record { becomes = stays_so chains trail.chain live; shows = shown_step chains trail now h }
+pub step_lazy : (chains : Chains) (trail : Trail) (now : ℕ) (told : Bool) (count gone : ℕ) → IsLive chains trail.chain → (trail.purged ≡ false) ⊎ (trail.as_of ≤ now)
+    → Goes chains chains trail (record { chain = trail.chain; as_of = max trail.as_of now; purged = false; told = told; count = count; left = gone }) (still_spent (shown_of chains trail) now)
+step_lazy chains trail now told count gone live h =
+    record { becomes = stays_so chains trail.chain live; shows = shown_step chains trail now h; counts = counts_same chains trail.chain }
 
-pub tells_lazy : (chains : Chains) (trail : Trail) (now : ℕ) → TellsOn chains chains trail (record { chain = trail.chain; as_of = max trail.as_of now; purged = false })
-tells_lazy chains trail now = λ refused tells id at from. let later : trail.as_of ≤ at = omega (arith, from) in tells id at later
+pub tells_lazy : (refused : List ℕ → ℕ → Bool) (chains : Chains) (trail result : Trail) → result.told ≡ trail.told → result.chain ≡ trail.chain → trail.as_of ≤ result.as_of → Tells refused chains trail
+    → Tells refused chains result
+tells_lazy refused chains trail result same chain late tells = λ told id at from.
+    let later : trail.as_of ≤ at = omega (arith, from, late) in
+    tells (sym same ∙ told) id at later ∙ ap (λ (c : Option ℕ). is_spent (still_spent (spent_of chains c) at) id) (sym chain)
 
 -- a trail that stays
 pub goes_same : (chains : Chains) (trail : Trail) → IsLive chains trail.chain → Goes chains chains trail trail (shown_of chains trail)
-goes_same chains trail live = record { becomes = stays_so chains trail.chain live; shows = refl }
+goes_same chains trail live = record { becomes = stays_so chains trail.chain live; shows = refl; counts = counts_same chains trail.chain }
 
 -- a chain out of which that was taken which is not shown
-pub purged_shows : (old new : Chains) (trail : Trail) (result : Option ℕ) → trail.purged ≡ false → Becomes old.cells new.cells trail.chain result (still_spent (spent_of old trail.chain) trail.as_of)
-    → Goes old new trail (record { chain = result; as_of = trail.as_of; purged = true }) (shown_of old trail)
-purged_shows old new trail result lazy b = record {
-  becomes = renamed old new trail.chain result (still_spent (spent_of old trail.chain) trail.as_of) b;
-  shows = b.spent_is ∙ sym (ap (λ c. if c then spent_of old trail.chain else still_spent (spent_of old trail.chain) trail.as_of) lazy);
+pub purged_shows : (old new : Chains) (trail result : Trail) → trail.purged ≡ false → result.purged ≡ true
+    → Becomes old.cells new.cells trail.chain result.chain (still_spent (spent_of old trail.chain) trail.as_of) → Counts old new trail.chain result.chain → Goes old new trail result (shown_of old trail)
+purged_shows old new trail result lazy is b counts = record {
+  becomes = renamed old new trail.chain result.chain (still_spent (spent_of old trail.chain) trail.as_of) b;
+  shows = ap (λ c. if c then spent_of new result.chain else still_spent (spent_of new result.chain) result.as_of) is
+      ∙ b.spent_is ∙ sym (ap (λ c. if c then spent_of old trail.chain else still_spent (spent_of old trail.chain) trail.as_of) lazy);
+  counts = counts;
+}
+
+-- two steps in turn, the second of which shows what the first shows
+pub goes_both : (first second third : Chains) (trail mid result : Trail) (shown : List Spent) → Goes first second trail mid shown → Goes second third mid result (shown_of second mid) → Goes first third trail result shown
+goes_both first second third trail mid result shown a b = record {
+  becomes = becomes_both first second third trail.chain mid.chain result.chain (spent_of second mid.chain) (spent_of third result.chain) a.becomes b.becomes;
+  shows = b.shows ∙ a.shows;
+  counts = counts_both first second third trail.chain mid.chain result.chain a.counts b.counts;
 }
 
 -- one trail, another one, and a third with an id at its front
@@ -118,24 +140,49 @@ pub goes_on : (first second third : Chains) (trail mid result : Trail) (shown : 
 goes_on first second third trail mid result shown one a b = record {
   becomes = becomes_both first second third trail.chain mid.chain result.chain (spent_of second mid.chain) (spent_of third result.chain) a.becomes b.becomes;
   shows = b.shows ∙ ap (λ (l : List Spent). one ∷ l) a.shows;
+  counts = counts_both first second third trail.chain mid.chain result.chain a.counts b.counts;
 }
 
 -- an id came to the front of a chain
-pub put_front : (old new : Chains) (ready : Trail) (result : Option ℕ) (one : Spent) → (ready.purged ≡ true) ⊎ (ready.as_of < one.until) → Becomes old.cells new.cells ready.chain result (one ∷ spent_of old ready.chain)
-    → Goes old new ready (record { chain = result; as_of = ready.as_of; purged = ready.purged }) (one ∷ shown_of old ready)
-put_front old new ready result one fits b = record {
-  becomes = renamed old new ready.chain result (one ∷ spent_of old ready.chain) b;
-  shows = ap (λ (l : List Spent). if ready.purged then l else still_spent l ready.as_of) b.spent_is ∙ shown_front one (spent_of old ready.chain) ready.as_of ready.purged fits;
-}
+pub put_front : (old new : Chains) (ready result : Trail) (one : Spent) → (ready.purged ≡ true) ⊎ (ready.as_of < one.until) → result.purged ≡ ready.purged → result.as_of ≡ ready.as_of
+    → Becomes old.cells new.cells ready.chain result.chain (one ∷ spent_of old ready.chain) → new.used ≡ old.used + 1 → new.spare + 1 ≡ old.spare → Goes old new ready result (one ∷ shown_of old ready)
+put_front old new ready result one fits purged as_of b used spare =
+    let longer : length (spent_of new result.chain) ≡ suc (length (spent_of old ready.chain)) = ap length b.spent_is in
+    record {
+      becomes = renamed old new ready.chain result.chain (one ∷ spent_of old ready.chain) b;
+      shows = ap (λ c. if c then spent_of new result.chain else still_spent (spent_of new result.chain) result.as_of) purged
+          ∙ ap (λ n. if ready.purged then spent_of new result.chain else still_spent (spent_of new result.chain) n) as_of
+          ∙ ap (λ (l : List Spent). if ready.purged then l else still_spent l ready.as_of) b.spent_is ∙ shown_front one (spent_of old ready.chain) ready.as_of ready.purged fits;
+      counts = record { used = omega (arith, used, longer); room = omega (arith, used, spare) };
+    }
+
+both_true : (a b : Bool) → a && b ≡ true → (a ≡ true) × (b ≡ true)
+both_true true true e = (refl, refl)
+both_true true false e = absurd (cc (e))
+both_true false b e = absurd (cc (e))
 
 module _ {S : Type 0} (before after : HashMap SpentOn ℕ S) (file : ℕ) where
+  -- what is told of a chain is told of it once those that were over earlier have gone
+  pub tells_purged : (old new : Chains) (trail result : Trail) (moment : ℕ) → moment ≤ trail.as_of → result.told ≡ trail.told → result.as_of ≡ trail.as_of → Forgets before after file moment
+      → spent_of new result.chain ≡ still_spent (spent_of old trail.chain) moment → Tells (refused_by before file) old trail → Tells (refused_by after file) new result
+  tells_purged old new trail result moment le same as_of forgets is tells = λ told id now from.
+      let late : trail.as_of ≤ now = omega (arith, from, as_of) in
+      let by : moment ≤ now = omega (arith, le, late) in
+      forgets file id now (inr by) ∙ tells (sym same ∙ told) id now late
+      ∙ sym (ap (λ (l : List Spent). is_spent l id) (ap (λ (l : List Spent). still_spent l now) is ∙ still-still (spent_of old trail.chain) moment now by))
+
+  pub forgets_others : (moment : ℕ) → Forgets before after file moment → OthersStay before after file
+  forgets_others moment forgets = λ other id now differs. forgets other id now (inl differs)
+
   -- what is told of a chain and its index, once both have one more id
-  pub tells_front : (old new : Chains) (ready : Trail) (result : Option ℕ) (one : Spent) → Tells (refused_by before file) old ready → Notes before after file one.id one.until
-      → spent_of new result ≡ one ∷ spent_of old ready.chain → Tells (refused_by after file) new (record { chain = result; as_of = ready.as_of; purged = ready.purged })
-  tells_front old new ready result one tells notes is = λ id now from.
-      notes file id now
+  pub tells_front : (old new : Chains) (ready result : Trail) (one : Spent) (noted : Bool) → result.told ≡ (ready.told && noted) → result.as_of ≡ ready.as_of → Tells (refused_by before file) old ready
+      → (noted ≡ true → Notes before after file one.id one.until) → spent_of new result.chain ≡ one ∷ spent_of old ready.chain → Tells (refused_by after file) new result
+  tells_front old new ready result one noted is_told as_of tells notes is = λ told id now from.
+      let parts = both_true ready.told noted (sym is_told ∙ told) in
+      let late : ready.as_of ≤ now = omega (arith, from, as_of) in
+      notes parts.1 file id now
       ∙ ap (λ b. ((b && bytes_eq one.id id) && nat_lt now one.until) || refused_by before file id now) (eq-eqb file file refl)
-      ∙ ap (λ b. (bytes_eq one.id id && nat_lt now one.until) || b) (tells id now from)
+      ∙ ap (λ b. (bytes_eq one.id id && nat_lt now one.until) || b) (tells parts.0 id now late)
       ∙ told_of_one one (spent_of old ready.chain) id now
       ∙ sym (ap (λ (l : List Spent). is_spent (still_spent l now) id) is)
 

@@ -1,5 +1,5 @@
 -- What the index of spent ids says, and what is shown of a chain of them.
-use Rattle.std.specs.Prelude.{◌≡◌, ◌≢◌, ℕ, ◌≤◌, Bool, false, ◌&&◌, ◌||◌, List, Option, None, Some, max, nat_lt, nat_eq, bytes_eq, if◌then◌else◌}
+use Rattle.std.specs.Prelude.{◌≡◌, ◌≢◌, ◌⊎◌, ℕ, ◌+◌, ◌≤◌, Bool, true, false, ◌&&◌, ◌||◌, List, [], ◌∷◌, length, Option, None, Some, max, nat_lt, nat_eq, bytes_eq, if◌then◌else◌}
 use Rattle.std.specs.HashMap.{HashMap, get}
 use Rattle.wopi_model.specs.Act.{is_spent}
 use Rattle.wopi_model.specs.Settle.{still_spent}
@@ -28,22 +28,33 @@ abbrev pub Notes : {S : Type 0} → HashMap SpentOn ℕ S → HashMap SpentOn �
 Notes old new file id until = (on : ℕ) (one : List ℕ) (now : ℕ)
     → refused_by new on one now ≡ ((nat_eq file on && bytes_eq id one) && nat_lt now until) || refused_by old on one now
 
+-- the index says the same of each id of another file, and of each id at a moment from that one on
+abbrev pub Forgets : {S : Type 0} → HashMap SpentOn ℕ S → HashMap SpentOn ℕ S → ℕ → ℕ → Type 0
+Forgets old new file moment = (on : ℕ) (one : List ℕ) (now : ℕ) → (on ≢ file) ⊎ (moment ≤ now) → refused_by new on one now ≡ refused_by old on one now
+
+-- the ids of the one list, from the last on, before those of the other
+abbrev pub onto : List Spent → List Spent → List Spent
+onto [] kept = kept
+onto (one ∷ rest) kept = onto rest (one ∷ kept)
+
+-- a chain takes as many places as it has ids, and no other chain takes more or fewer
+pub record Counts (old new : Chains) (chain result : Option ℕ) : Type 0 where
+  pub used : new.used + length (spent_of old chain) ≡ old.used + length (spent_of new result)
+  pub room : new.used + new.spare ≡ old.used + old.spare
+
 -- the ids of a trail: those of its chain, without the ones that were over when the file was stepped
 abbrev pub shown_of : Chains → Trail → List Spent
 shown_of chains trail = if trail.purged then spent_of chains trail.chain else still_spent (spent_of chains trail.chain) trail.as_of
 
--- at each moment from the last step on, that tells of each id whether the chain refuses it
+-- where the trail is told: at each moment from the last step on, that tells of each id whether the chain refuses it
 abbrev pub Tells : (List ℕ → ℕ → Bool) → Chains → Trail → Type 0
-Tells refused chains trail = (id : List ℕ) (now : ℕ) → trail.as_of ≤ now → refused id now ≡ is_spent (still_spent (spent_of chains trail.chain) now) id
+Tells refused chains trail = trail.told ≡ true → (id : List ℕ) (now : ℕ) → trail.as_of ≤ now → refused id now ≡ is_spent (still_spent (spent_of chains trail.chain) now) id
 
 -- the same trail, or another one, after a step
 pub record Goes (old new : Chains) (trail result : Trail) (shown : List Spent) : Type 0 where
   pub becomes : Becomes old.cells new.cells trail.chain result.chain (spent_of new result.chain)
   pub shows : shown_of new result ≡ shown
-
--- what told of the one trail tells of the other
-abbrev pub TellsOn : Chains → Chains → Trail → Trail → Type 0
-TellsOn old new trail result = (refused : List ℕ → ℕ → Bool) → Tells refused old trail → Tells refused new result
+  pub counts : Counts old new trail.chain result.chain
 
 -- the index says the same of all other files
 abbrev pub OthersStay : {S : Type 0} → HashMap SpentOn ℕ S → HashMap SpentOn ℕ S → ℕ → Type 0

@@ -1,7 +1,6 @@
 //! Until when an id is refused on a file.
-ghost use Rattle.std.specs.Prelude.{◌≡◌, ◌+◌, ◌≤◌, option_copied};
-ghost use Rattle.std.specs.HashMap.{spare};
-ghost use Rattle.kept_locks.specs.Refusals.{Notes, ends_after, later_of, refused_by};
+ghost use Rattle.std.specs.Prelude.{◌≡◌, true, option_copied};
+ghost use Rattle.kept_locks.specs.Refusals.{Notes, Forgets, OthersStay, ends_after, later_of, refused_by};
 
 use std::collections::HashMap;
 use std::hash::{Hash, Hasher};
@@ -68,15 +67,29 @@ fn is_before(now: u64, until: Option<&u64>) -> bool
     }
 }
 
-/// The id is refused on the file until then at least.
-pub fn note(index: &mut HashMap<SpentOn, u64>, file: u32, id: LockId, until: u64)
-    requires spare { 1 ≤ spare index.old }
-    ensures notes { Notes index.old index.new file id until }
-    ensures spare { spare index.old ≤ spare index.new + 1 }
+/// The id is refused on the file until then at least, and the index tells of it. Where the index would want memory and
+/// there is none it stays, and that is said. An index at most half of whose places are taken wants none.
+pub fn note(index: &mut HashMap<SpentOn, u64>, file: u32, id: LockId, until: u64) -> bool
+    ensures notes { result ≡ true → Notes index.old index.new file id until }
+    ensures others { OthersStay index.old index.new file }
 {
     let key = SpentOn { file, id };
     let latest = later(until, index.get(&key));
-    let _fits = index.insert(key, latest);
+    match index.insert(key, latest) {
+        Ok(_) => return true,
+        Err(_) => return false,
+    }
+}
+
+/// The index tells of the id no longer, where its end is over at that moment.
+pub fn forget(index: &mut HashMap<SpentOn, u64>, file: u32, id: LockId, now: u64)
+    ensures { Forgets index.old index.new file now }
+{
+    let key = SpentOn { file, id };
+    if is_before(now, index.get(&key)) {
+        return;
+    }
+    let _end = index.remove(&key);
 }
 
 /// Whether the id is refused on the file at that moment.

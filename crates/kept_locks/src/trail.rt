@@ -1,68 +1,154 @@
 //! The ids that were spent on one file.
-ghost use Rattle.std.specs.Prelude.{◌≡◌, ◌⊎◌, ◌+◌, ◌≤◌, ◌<◌, ◌∷◌, max, None, true};
-ghost use Rattle.expiry_queue.specs.Chains.{IsLive};
-ghost use Rattle.std.specs.HashMap.{spare};
+ghost use Rattle.std.specs.Prelude.{◌≡◌, ◌⊎◌, ◌+◌, ◌≤◌, ◌<◌, ◌^◌, ◌∷◌, length, max, None, true, false};
+ghost use Rattle.expiry_queue.specs.Chains.{IsLive, spent_of};
 ghost use Rattle.wopi_model.specs.Act.{is_spent};
 ghost use Rattle.wopi_model.specs.Settle.{still_spent, with_spent};
-ghost use Rattle.kept_locks.specs.Refusals.{Goes, Tells, TellsOn, OthersStay, shown_of, refused_by};
+ghost use Rattle.kept_locks.specs.Refusals.{Goes, Tells, OthersStay, shown_of, refused_by};
 
 use crate::index::{SpentOn, is_refused, note};
+use crate::purge::purge;
 use expiry_queue::SpentChains;
 use std::collections::HashMap;
 use wopi_model::Spent;
 use wopi_text::LockId;
 
+/// Once a chain has so many ids it is purged, unless its last purge left more than half of them.
+const MANY: u32 = 8;
+
 /// A file's chain, and the latest moment at which the file was stepped. The ids that were over then
-/// are shown no longer; where the chain is purged, it has none of them.
+/// are shown no longer; where the chain is purged, it has none of them. Where it is told, the index has
+/// all of its ids. It has so many ids, and its last purge left so many.
 #[derive(Clone, Copy, Drop)]
 pub struct Trail {
-    pub chain: Option<u32>,
+    pub chain: Option<usize>,
     pub as_of: u64,
     pub purged: bool,
+    pub told: bool,
+    pub count: u32,
+    pub left: u32,
 }
 
 /// The trail after a step at that moment.
-pub fn step_to(chains: &mut SpentChains, trail: Trail, now: u64) -> Trail
+pub fn step_to(
+    chains: &mut SpentChains,
+    index: &mut HashMap<SpentOn, u64>,
+    file: u32,
+    trail: Trail,
+    now: u64,
+) -> Trail
     requires live { IsLive chains.old trail.chain }
+    requires tells { Tells (refused_by index.old file) chains.old trail }
     ensures goes { Goes chains.old chains.new trail result (still_spent (shown_of chains.old trail) now) }
-    ensures tells { TellsOn chains.old chains.new trail result }
+    ensures tells { Tells (refused_by index.new file) chains.new result }
     ensures as_of { result.as_of ≡ max trail.as_of now }
-    ensures spare { chains.new.spare ≡ chains.old.spare }
+    ensures others { OthersStay index.old index.new file }
+    ensures spare { chains.old.spare ≤ chains.new.spare }
 {
     if trail.purged && now < trail.as_of {
-        let chain = chains.purge(trail.chain, now);
+        let (chain, count) = purge(chains, index, file, trail.chain, now);
         return Trail {
             chain,
             as_of: trail.as_of,
             purged: true,
+            told: trail.told,
+            count,
+            left: count,
         };
     }
     Trail {
         chain: trail.chain,
         as_of: trail.as_of.max(now),
         purged: false,
+        told: trail.told,
+        count: trail.count,
+        left: trail.left,
     }
 }
 
-/// The trail, which an id with that end may follow: one that ended before the last step is shown as
-/// well, so that the chain has to be purged first.
-fn ready_for(chains: &mut SpentChains, trail: Trail, until: u64) -> Trail
+/// The trail without the ids that are not shown.
+fn purge_hidden(
+    chains: &mut SpentChains,
+    index: &mut HashMap<SpentOn, u64>,
+    file: u32,
+    trail: Trail,
+) -> Trail
     requires live { IsLive chains.old trail.chain }
+    requires tells { Tells (refused_by index.old file) chains.old trail }
+    requires hidden { trail.purged ≡ false }
     ensures goes { Goes chains.old chains.new trail result (shown_of chains.old trail) }
-    ensures tells { TellsOn chains.old chains.new trail result }
+    ensures tells { Tells (refused_by index.new file) chains.new result }
     ensures as_of { result.as_of ≡ trail.as_of }
-    ensures fits { (result.purged ≡ true) ⊎ (result.as_of < until) }
-    ensures spare { chains.new.spare ≡ chains.old.spare }
+    ensures purged { result.purged ≡ true }
+    ensures others { OthersStay index.old index.new file }
+    ensures spare { chains.old.spare ≤ chains.new.spare }
 {
-    if trail.purged || trail.as_of < until {
-        return trail;
-    }
-    let chain = chains.purge(trail.chain, trail.as_of);
+    let (chain, count) = purge(chains, index, file, trail.chain, trail.as_of);
     Trail {
         chain,
         as_of: trail.as_of,
         purged: true,
+        told: trail.told,
+        count,
+        left: count,
     }
+}
+
+/// The trail after a step at that moment, without the ids that are not shown.
+pub fn purge_to(
+    chains: &mut SpentChains,
+    index: &mut HashMap<SpentOn, u64>,
+    file: u32,
+    trail: Trail,
+    now: u64,
+) -> Trail
+    requires live { IsLive chains.old trail.chain }
+    requires tells { Tells (refused_by index.old file) chains.old trail }
+    ensures goes { Goes chains.old chains.new trail result (still_spent (shown_of chains.old trail) now) }
+    ensures tells { Tells (refused_by index.new file) chains.new result }
+    ensures as_of { result.as_of ≡ max trail.as_of now }
+    ensures purged { result.purged ≡ true }
+    ensures others { OthersStay index.old index.new file }
+    ensures spare { chains.old.spare ≤ chains.new.spare }
+{
+    let stepped = step_to(chains, index, file, trail, now);
+    if stepped.purged {
+        return stepped;
+    }
+    purge_hidden(chains, index, file, stepped)
+}
+
+/// The chain has become twice what its last purge left.
+fn is_long(trail: &Trail) -> bool {
+    trail.count >= MANY && trail.count / 2 >= trail.left
+}
+
+/// The trail, which an id with that end may follow: one that ended before the last step is shown as
+/// well, so that the chain has to be purged first. It is purged too where it has become long.
+fn ready_for(
+    chains: &mut SpentChains,
+    index: &mut HashMap<SpentOn, u64>,
+    file: u32,
+    trail: Trail,
+    until: u64,
+) -> Trail
+    requires live { IsLive chains.old trail.chain }
+    requires tells { Tells (refused_by index.old file) chains.old trail }
+    ensures goes { Goes chains.old chains.new trail result (shown_of chains.old trail) }
+    ensures tells { Tells (refused_by index.new file) chains.new result }
+    ensures as_of { result.as_of ≡ trail.as_of }
+    ensures fits { (result.purged ≡ true) ⊎ (result.as_of < until) }
+    ensures others { OthersStay index.old index.new file }
+    ensures spare { chains.old.spare ≤ chains.new.spare }
+{
+    if trail.purged {
+        return trail;
+    }
+    if trail.as_of < until {
+        if !is_long(&trail) {
+            return trail;
+        }
+    }
+    purge_hidden(chains, index, file, trail)
 }
 
 /// The trail with an id at its front, which the index has as well.
@@ -75,22 +161,23 @@ pub fn spend_on(
 ) -> Trail
     requires live { IsLive chains.old trail.chain }
     requires spare { 1 ≤ chains.old.spare }
-    requires room { 1 ≤ spare index.old }
     requires tells { Tells (refused_by index.old file) chains.old trail }
     ensures goes { Goes chains.old chains.new trail result (one ∷ shown_of chains.old trail) }
     ensures tells { Tells (refused_by index.new file) chains.new result }
     ensures as_of { result.as_of ≡ trail.as_of }
     ensures others { OthersStay index.old index.new file }
-    ensures spare { chains.new.spare + 1 ≡ chains.old.spare }
-    ensures room { spare index.old ≤ spare index.new + 1 }
+    ensures spare { chains.old.spare ≤ chains.new.spare + 1 }
 {
-    let ready = ready_for(chains, trail, one.until);
-    note(index, file, one.id.copy(), one.until);
+    let ready = ready_for(chains, index, file, trail, one.until);
+    let noted = note(index, file, one.id.copy(), one.until);
     let chain = chains.add(ready.chain, one);
     Trail {
         chain,
         as_of: ready.as_of,
         purged: ready.purged,
+        told: ready.told && noted,
+        count: ready.count.saturating_add(1),
+        left: ready.left,
     }
 }
 
@@ -105,26 +192,45 @@ pub fn spend_now(
 ) -> Trail
     requires live { IsLive chains.old trail.chain }
     requires spare { 1 ≤ chains.old.spare }
-    requires room { 1 ≤ spare index.old }
     requires tells { Tells (refused_by index.old file) chains.old trail }
     ensures goes { Goes chains.old chains.new trail result (with_spent spend (still_spent (shown_of chains.old trail) now)) }
     ensures tells { Tells (refused_by index.new file) chains.new result }
     ensures as_of { result.as_of ≡ max trail.as_of now }
     ensures others { OthersStay index.old index.new file }
     ensures spare { chains.old.spare ≤ chains.new.spare + 1 }
-    ensures room { spare index.old ≤ spare index.new + 1 }
-    ensures kept { spend ≡ None → chains.new.spare ≡ chains.old.spare }
-    ensures same { spend ≡ None → spare index.new ≡ spare index.old }
+    ensures kept { spend ≡ None → chains.old.spare ≤ chains.new.spare }
 {
-    let stepped = step_to(chains, trail, now);
+    let stepped = step_to(chains, index, file, trail, now);
     match spend {
         None => return stepped,
         Some(one) => return spend_on(chains, index, file, stepped, one),
     }
 }
 
-/// Whether an id of a chain is still refused at that moment. The chain itself is looked at only where the moment is
-/// before the last step and the chain is purged.
+/// Whether an id of a chain is still refused at that moment, by the chain alone.
+fn refuses_walked(chains: &SpentChains, trail: Trail, id: &LockId, now: u64) -> bool
+    requires live { IsLive chains.now trail.chain }
+    ensures { result ≡ is_spent (still_spent (shown_of chains.now trail) now) id.now }
+{
+    if trail.purged {
+        return chains.refuses(trail.chain, id, now);
+    }
+    chains.refuses(trail.chain, id, trail.as_of.max(now))
+}
+
+/// How many of the shown ids are still refused at that moment.
+pub fn count_shown(chains: &SpentChains, trail: Trail, now: u64) -> usize
+    requires few { length (spent_of chains.now trail.chain) < 2 ^ 64 }
+    ensures { result ≡ length (still_spent (shown_of chains.now trail) now) }
+{
+    if trail.purged {
+        return chains.count_refused(trail.chain, now);
+    }
+    chains.count_refused(trail.chain, trail.as_of.max(now))
+}
+
+/// Whether an id of a chain is still refused at that moment. The chain itself is looked at only where the index doesn't
+/// tell of it, or the moment is before the last step and the chain is purged.
 fn refuses_chained(
     chains: &SpentChains,
     index: &HashMap<SpentOn, u64>,
@@ -137,6 +243,9 @@ fn refuses_chained(
     requires tells { Tells (refused_by index.now file) chains.now trail }
     ensures { result ≡ is_spent (still_spent (shown_of chains.now trail) now) id.now }
 {
+    if !trail.told {
+        return refuses_walked(chains, trail, id, now);
+    }
     if trail.as_of <= now {
         return is_refused(index, file, id, now);
     }

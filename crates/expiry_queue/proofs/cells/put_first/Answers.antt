@@ -1,20 +1,16 @@
-use Rattle.std.proofs.Common.{◌≡◌, ◌∷◌, Some, List, length, sym, subst, refl, arith}
+use Rattle.std.proofs.Common.{refl}
 use Rattle.expiry_queue.specs.declared.cells.Cell.{Cell}
-use Rattle.expiry_queue.specs.Chains.{Becomes, AreApart, spent_in}
-use Rattle.expiry_queue.proofs.Chaining.{becomes_longer}
+use Rattle.expiry_queue.proofs.Chaining.{becomes_longer, longer_linked}
 use Rattle.expiry_queue.proofs.cells.put_first.Goals as goal
 
 pub returns-clause-chain : goal.returns-clause-chain
 returns-clause-chain c =
-    let cell : Cell = record { spent = c.args.spent; next = c.args.chain; begins = c.of-begins.result } in
-    let place : length c.end_chain.new.cells.items ≡ c.len-place.result = omega (arith, c.len-place.ensures, c.end_chain.new.cells.ok.0) in
-    let longer = becomes_longer c.args.cells.now.items c.end_chain.new.cells.items cell c.args.chain c.requires.apart c.requires.live c.end_chain.ensures.ends refl c.of-begins.ensures in
-    subst (λ n. Becomes c.args.cells.now.items c.append.new.cells.items c.args.chain (Some n) (c.args.spent ∷ spent_in c.args.cells.now.items c.args.chain)) place
-    (subst (λ (all : List Cell). Becomes c.args.cells.now.items all c.args.chain (Some (length c.end_chain.new.cells.items)) (c.args.spent ∷ spent_in c.args.cells.now.items c.args.chain))
-    (sym c.append.ensures.items) longer.0)
+    let cell : Cell = record { spent = c.args.spent; next = c.args.chain; rest = c.rest_of-rest.result } in
+    becomes_longer c.args.cells.now.slots c.insert_reserved.new.self.slots c.insert_reserved.result cell c.args.chain c.requires.linked c.requires.live c.insert_reserved.ensures.was_vacant
+    c.insert_reserved.ensures.updates.changed c.insert_reserved.ensures.updates.others refl c.rest_of-rest.ensures
 
-pub returns-clause-apart : goal.returns-clause-apart
-returns-clause-apart c =
-    let cell : Cell = record { spent = c.args.spent; next = c.args.chain; begins = c.of-begins.result } in
-    subst AreApart (sym c.append.ensures.items)
-    (becomes_longer c.args.cells.now.items c.end_chain.new.cells.items cell c.args.chain c.requires.apart c.requires.live c.end_chain.ensures.ends refl c.of-begins.ensures).1
+pub returns-clause-linked : goal.returns-clause-linked
+returns-clause-linked c =
+    let cell : Cell = record { spent = c.args.spent; next = c.args.chain; rest = c.rest_of-rest.result } in
+    longer_linked c.args.cells.now.slots c.insert_reserved.new.self.slots c.insert_reserved.result cell c.args.chain c.requires.linked c.requires.live c.insert_reserved.ensures.was_vacant
+    c.insert_reserved.ensures.updates.changed c.insert_reserved.ensures.updates.others refl c.rest_of-rest.ensures

@@ -1,7 +1,7 @@
 use Rattle.std.proofs.Common.{None, max, refl, sym, subst, ◌∙◌, arith}
 use Rattle.std.specs.Prelude.{option_map}
 use Rattle.kept_locks.specs.Ties.{GoesOn, latest_of, lock_of, renewed, standings}
-use Rattle.kept_locks.specs.Refusals.{refused_by}
+use Rattle.kept_locks.proofs.Counting.{held_put, used_put}
 use Rattle.kept_locks.proofs.Tying.{own_put}
 use Rattle.kept_locks.proofs.Indexing.{indexed_put}
 use Rattle.kept_locks.proofs.Latest.{as_late, latest_put}
@@ -34,9 +34,12 @@ returns-clause-tied c =
       waits = c.renew_in.ensures.queue.waits places _ was now c.requires.tied.waits at refl refl puts;
       order = c.renew_in.ensures.queue.order;
       own = own_put places _ c.args.chains.now c.renew_in.new.chains c.args.number was now _ c.requires.tied.own at c.renew_in.ensures.goes.becomes puts;
-      indexed = indexed_put places _ c.args.chains.now c.renew_in.new.chains c.args.index.now c.args.index.now c.args.number was now _ c.requires.tied.own c.requires.tied.indexed
-          at c.renew_in.ensures.goes.becomes puts (c.renew_in.ensures.tells (refused_by c.args.index.now c.args.number) (c.requires.tied.indexed.tells c.args.number was at)) (λ other id moment differs. refl);
+      indexed = indexed_put places _ c.args.chains.now c.renew_in.new.chains c.args.index.now c.renew_in.new.index c.args.number was now _ c.requires.tied.own c.requires.tied.indexed
+          at c.renew_in.ensures.goes.becomes puts c.renew_in.ensures.tells c.renew_in.ensures.others;
       room = omega (arith, c.requires.tied.room, c.renew_in.ensures.long, c.renew_in.ensures.chains);
+      held = omega (arith, held_put places _ c.args.number was now at puts, c.renew_in.ensures.queue.count, c.requires.tied.held);
+      used = used_put places _ c.args.chains.now c.renew_in.new.chains c.args.number was now _ c.requires.tied.own at c.renew_in.ensures.goes.becomes puts c.renew_in.ensures.goes.counts c.requires.tied.used;
+      few = omega (arith, puts.long, c.requires.tied.few);
     }
 
 pub returns-clause-files : goal.returns-clause-files
@@ -59,3 +62,9 @@ returns-clause-latest c =
 
 pub returns-clause-spare : goal.returns-clause-spare
 returns-clause-spare c = omega (arith, c.renew_in.ensures.long, c.renew_in.ensures.chains, c.renew_in.ensures.spare)
+
+pub returns-clause-room : goal.returns-clause-room
+returns-clause-room c =
+    let here = c.renew_in.ensures.room in
+    let there = c.renew_in.ensures.goes.counts.room in
+    omega (arith, here, there)

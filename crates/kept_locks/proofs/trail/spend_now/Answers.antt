@@ -1,8 +1,13 @@
-use Rattle.kept_locks.specs.Refusals.{refused_by}
+use Rattle.std.proofs.Common.{Option, sym, subst}
+use Rattle.wopi_model.specs.Settle.{still_spent, with_spent}
+use Rattle.wopi_model.specs.declared.locks.Spent.{Spent}
+use Rattle.kept_locks.specs.Refusals.{Goes, shown_of}
+use Rattle.kept_locks.proofs.Trails.{goes_on}
 use Rattle.kept_locks.proofs.trail.spend_now.Goals as goal
 
-pub returns-in-None-clause-tells : goal.returns-in-None-clause-tells
-returns-in-None-clause-tells c = c.step_to-stepped.ensures.tells (refused_by c.args.index.now c.args.file) c.requires.tells
-
-pub spend_on-requires-clause-tells : goal.spend_on-requires-clause-tells
-spend_on-requires-clause-tells c = c.step_to-stepped.ensures.tells (refused_by c.args.index.now c.args.file) c.requires.tells
+pub returns-in-Some-clause-goes : goal.returns-in-Some-clause-goes
+returns-in-Some-clause-goes c =
+    let chains = c.args.chains.now in
+    let shown = still_spent (shown_of chains c.args.trail) c.args.now in
+    subst (λ (spend : Option Spent). Goes chains c.spend_on.new.chains c.args.trail c.spend_on.result (with_spent spend shown)) (sym c.in-Some.is)
+    (goes_on chains c.step_to-stepped.new.chains c.spend_on.new.chains c.args.trail c.step_to-stepped.result c.spend_on.result shown c.in-Some.one c.step_to-stepped.ensures.goes c.spend_on.ensures.goes)

@@ -1,7 +1,8 @@
-use Rattle.std.proofs.Common.{◌<◌, ◌≤◌, ℕ, inl, inr, true, false, sym, subst, arith}
+use Rattle.std.proofs.Common.{◌<◌, ◌≤◌, ℕ, inl, inr, true, false, sym, subst, refl, arith}
 use Rattle.wopi_model.specs.Settle.{still_spent}
-use Rattle.kept_locks.specs.Refusals.{Goes, shown_of}
-use Rattle.kept_locks.proofs.Trails.{tells_purged, step_lazy}
+use Rattle.kept_locks.specs.declared.trail.Trail.{Trail}
+use Rattle.kept_locks.specs.Refusals.{Goes, refused_by, shown_of}
+use Rattle.kept_locks.proofs.Trails.{tells_purged, tells_lazy, step_lazy}
 use Rattle.kept_locks.proofs.trail.step_to.Goals.{else-trail-via-then-trail+else-now-trail, else-trail-via-else-trail}
 use Rattle.kept_locks.proofs.trail.step_to.Goals as goal
 
@@ -9,15 +10,23 @@ pub returns-then-now-trail-clause-tells : goal.returns-then-now-trail-clause-tel
 returns-then-now-trail-clause-tells c =
     let lt : c.args.now < c.args.trail.as_of = c.if-now-trail.true in
     let le : c.args.now ≤ c.args.trail.as_of = omega (arith, lt) in
-    tells_purged c.args.chains.now c.purge-chain.new.self c.args.trail c.purge-chain.result c.args.now true le c.purge-chain.ensures.chain.spent_is
+    let result : Trail = record { chain = c.purge-chain.result.0; as_of = c.args.trail.as_of; purged = true; told = c.args.trail.told; count = c.purge-chain.result.1; left = c.purge-chain.result.1 } in
+    tells_purged c.args.index.now c.purge-chain.new.index c.args.file c.args.chains.now c.purge-chain.new.chains c.args.trail result c.args.now le refl refl c.purge-chain.ensures.forgets c.purge-chain.ensures.chain.spent_is c.requires.tells
 
 pub returns-clause-goes : goal.returns-clause-goes
 returns-clause-goes c =
     let trail = c.args.trail in
     let chains = c.args.chains.now in
-    subst (λ (m : ℕ). Goes chains chains trail (record { chain = trail.chain; as_of = m; purged = false }) (still_spent (shown_of chains trail) c.args.now)) (sym c.max.ensures)
-    (step_lazy chains trail c.args.now c.requires.live
+    subst (λ (m : ℕ). Goes chains chains trail (record { chain = trail.chain; as_of = m; purged = false; told = trail.told; count = trail.count; left = trail.left }) (still_spent (shown_of chains trail) c.args.now)) (sym c.max.ensures)
+    (step_lazy chains trail c.args.now trail.told trail.count trail.left c.requires.live
     (elim c.else-trail.branch [
       | else-trail-via-then-trail+else-now-trail w ↦ inr (w.if-now-trail.false)
       | else-trail-via-else-trail w ↦ inl w.if-trail.false
     ]))
+
+pub returns-clause-tells : goal.returns-clause-tells
+returns-clause-tells c =
+    let trail = c.args.trail in
+    let result : Trail = record { chain = trail.chain; as_of = c.max.result; purged = false; told = trail.told; count = trail.count; left = trail.left } in
+    let late : trail.as_of ≤ c.max.result = omega (arith, c.max.ensures) in
+    tells_lazy (refused_by c.args.index.now c.args.file) c.args.chains.now trail result refl refl late c.requires.tells

@@ -5,7 +5,7 @@ use Rattle.kept_locks.proofs.Latest.{latest_added, still_chained}
 use Rattle.kept_locks.proofs.locks.KeptLocks.add_file.Goals as goal
 
 pub invariant_of-self : goal.invariant_of-self
-invariant_of-self c = tied_added c.self.inside.places.items c.add_place.new.places.items c.self.inside.queue c.self.inside.chains c.self.inside.index c.in-Ok.ensures.ok c.self.invariant
+invariant_of-self c = tied_added c.self.inside.places.items c.add_place.new.places.items c.self.inside.queue c.self.inside.chains c.self.inside.index c.in-Ok.ensures.ok c.in-Ok.ensures.few c.self.invariant
 
 pub returns-in-Ok-clause-latest : goal.returns-in-Ok-clause-latest
 returns-in-Ok-clause-latest c = latest_added c.self.inside.places.items c.add_place.new.places.items c.in-Ok.ensures.ok ∙ ap (λ (l : Locks). l.latest) c.self.view_is

@@ -1,0 +1,20 @@
+use Rattle.std.proofs.Common.{◌≡◌, List, map, ap, ◌∙◌, arith}
+use Rattle.kept_locks.specs.Locks.{Standing, all_ended, all_purged, held_in, ids_in, ids_of}
+use Rattle.kept_locks.proofs.Placing.{places_are}
+use Rattle.kept_locks.proofs.locks.KeptLocks.make_place.Goals as goal
+
+pub returns-clause-spare : goal.returns-clause-spare
+returns-clause-spare c =
+    let now = c.args.now in
+    let files = c.args.self.now.files in
+    let is : c.purge.new.self.files ≡ all_purged now (all_ended now files) = c.purge.ensures.files ∙ ap (all_purged now) c.settle.ensures.files in
+    let ids : ids_in c.purge.new.self.chains ≡ ids_in (map ids_of (all_purged now (all_ended now files))) = ap ids_in c.purge.ensures.ids ∙ ap (λ (l : List Standing). ids_in (map ids_of l)) is in
+    let held : held_in c.purge.new.self.files ≡ held_in (all_purged now (all_ended now files)) = ap held_in is in
+    let are = places_are now files in
+    let left = c.used-left.ensures.used in
+    let room = c.used-left.ensures.room in
+    let same = c.purge.ensures.room in
+    let first = c.settle.ensures.room in
+    let few = c.requires.place in
+    let enough = c.requires.room in
+    omega (arith, ids, held, are, left, room, same, first, few, enough)

@@ -1,0 +1,11 @@
+use Rattle.std.proofs.Common.{◌≤◌, true, refl, arith}
+use Rattle.kept_locks.specs.declared.trail.Trail.{Trail}
+use Rattle.kept_locks.proofs.Trails.{tells_purged}
+use Rattle.kept_locks.proofs.trail.purge_hidden.Goals as goal
+
+pub returns-clause-tells : goal.returns-clause-tells
+returns-clause-tells c =
+    let trail = c.args.trail in
+    let result : Trail = record { chain = c.purge-chain.result.0; as_of = trail.as_of; purged = true; told = trail.told; count = c.purge-chain.result.1; left = c.purge-chain.result.1 } in
+    let le : trail.as_of ≤ trail.as_of = omega arith in
+    tells_purged c.args.index.now c.purge-chain.new.index c.args.file c.args.chains.now c.purge-chain.new.chains trail result trail.as_of le refl refl c.purge-chain.ensures.forgets c.purge-chain.ensures.chain.spent_is c.requires.tells

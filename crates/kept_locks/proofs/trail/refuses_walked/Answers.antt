@@ -1,0 +1,13 @@
+use Rattle.std.proofs.Common.{ℕ, List, inl, ap, ◌∙◌}
+use Rattle.wopi_model.specs.Act.{is_spent}
+use Rattle.wopi_model.specs.Settle.{still_spent}
+use Rattle.wopi_model.specs.declared.locks.Spent.{Spent}
+use Rattle.expiry_queue.specs.Chains.{spent_of}
+use Rattle.kept_locks.proofs.Trails.{shown_step}
+use Rattle.kept_locks.proofs.trail.refuses_walked.Goals as goal
+
+pub returns : goal.returns
+returns c =
+    let trail = c.args.trail in
+    c.refuses-2.ensures ∙ ap (λ (n : ℕ). is_spent (still_spent (spent_of c.args.chains.now trail.chain) n) c.args.id.now) c.max.ensures
+    ∙ ap (λ (l : List Spent). is_spent l c.args.id.now) (shown_step c.args.chains.now trail c.args.now (inl c.if-trail.false))
