@@ -16,7 +16,7 @@ use Rattle.kept_locks.specs.declared.places.Held.{Held}
 use Rattle.kept_locks.specs.declared.places.Place.{Place}
 use Rattle.kept_locks.specs.Keys.{is_same, same_parts}
 use Rattle.kept_locks.specs.Refusals.{Tells, Notes, OthersStay, refused_by, ends_after, later_of}
-use Rattle.kept_locks.specs.Ties.{Waits, OwnChains, AreTied, Puts, IsIndexed, bare, held_at, ids_at}
+use Rattle.kept_locks.specs.Ties.{Waits, OwnChains, AreTied, IsShort, Puts, IsIndexed, bare, held_at, ids_at}
 use Rattle.kept_locks.proofs.Counting.{total_added}
 use Rattle.kept_locks.proofs.Tying.{own_other, same_other}
 
@@ -146,6 +146,11 @@ module _ {S : Type 0} where
     room = tied.room;
     held = total_added held_at places bare refl ∙ tied.held;
     used = total_added (ids_at chains) places bare refl ∙ tied.used;
+    short = λ j p found. elim (pushed places bare j p found) [
+      | inl here ↦ tied.short j p here
+      | inr there ↦ subst (IsShort chains) there.1 (record { count = omega arith; short = omega arith; fresh = λ e. omega arith })
+    ];
+    fits = tied.fits;
     few = subst (λ (l : List Place). length l ≤ 2 ^ 32) is few;
   })
 

@@ -1,5 +1,5 @@
 -- What the index of spent ids says, and what is shown of a chain of them.
-use Rattle.std.specs.Prelude.{◌≡◌, ◌≢◌, ◌⊎◌, ℕ, ◌+◌, ◌≤◌, Bool, true, false, ◌&&◌, ◌||◌, List, [], ◌∷◌, length, Option, None, Some, max, nat_lt, nat_eq, bytes_eq, if◌then◌else◌}
+use Rattle.std.specs.Prelude.{◌≡◌, ◌≢◌, ◌⊎◌, ℕ, ◌+◌, ◌*◌, ◌-◌, ◌^◌, ◌≤◌, Bool, true, false, ◌&&◌, ◌||◌, List, [], ◌∷◌, length, Option, None, Some, max, min, nat_lt, nat_eq, bytes_eq, if◌then◌else◌}
 use Rattle.std.specs.HashMap.{HashMap, get}
 use Rattle.wopi_model.specs.Act.{is_spent}
 use Rattle.wopi_model.specs.Settle.{still_spent}
@@ -45,6 +45,20 @@ pub record Counts (old new : Chains) (chain result : Option ℕ) : Type 0 where
 -- the ids of a trail: those of its chain, without the ones that were over when the file was stepped
 abbrev pub shown_of : Chains → Trail → List Spent
 shown_of chains trail = if trail.purged then spent_of chains trail.chain else still_spent (spent_of chains trail.chain) trail.as_of
+
+-- so many ids, as a count in 64 bits has them
+abbrev pub count_of : List Spent → ℕ
+count_of ids = min (length ids) (2 ^ 64 - 1)
+
+-- The ids of a trail are counted, and are at most 8 or twice those that the last purge left. Where nothing but ids came since that purge, they are at most so many more than it left.
+pub record IsCounted (chains : Chains) (trail : Trail) (more : ℕ) : Type 0 where
+  pub count : trail.count ≡ count_of (spent_of chains trail.chain)
+  pub short : trail.count ≤ max 8 (2 * trail.left)
+  pub fresh : trail.purged ≡ true → trail.count ≤ trail.left + more
+
+-- the last purge left as many as the one before, or no more than are shown now
+abbrev pub LeavesFew : Chains → Trail → Trail → Type 0
+LeavesFew new trail result = result.left ≤ max trail.left (length (shown_of new result))
 
 -- where the trail is told: at each moment from the last step on, that tells of each id whether the chain refuses it
 abbrev pub Tells : (List ℕ → ℕ → Bool) → Chains → Trail → Type 0

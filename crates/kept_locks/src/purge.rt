@@ -2,7 +2,7 @@
 ghost use Rattle.std.specs.Prelude.{◌≡◌, ◌≤◌, ◌+◌, []};
 ghost use Rattle.expiry_queue.specs.Chains.{IsLive, Becomes, spent_of};
 ghost use Rattle.wopi_model.specs.Settle.{still_spent};
-ghost use Rattle.kept_locks.specs.Refusals.{Counts, Forgets, onto};
+ghost use Rattle.kept_locks.specs.Refusals.{Counts, Forgets, count_of, onto};
 
 use crate::index::{SpentOn, forget};
 use expiry_queue::SpentChains;
@@ -38,15 +38,16 @@ fn sift(
 }
 
 /// The ids of a chain from the last to the first, and how many.
-fn turn_over(chains: &mut SpentChains, chain: Option<usize>) -> (Option<usize>, u32)
+fn turn_over(chains: &mut SpentChains, chain: Option<usize>) -> (Option<usize>, usize)
     requires live { IsLive chains.old chain }
     ensures becomes { Becomes chains.old.cells chains.new.cells chain result.0 (spent_of chains.new result.0) }
     ensures ids { spent_of chains.new result.0 ≡ onto (spent_of chains.old chain) [] }
     ensures counts { Counts chains.old chains.new chain result.0 }
+    ensures count { result.1 ≡ count_of (spent_of chains.new result.0) }
 {
     let mut rest = chain;
     let mut kept = None;
-    let mut count: u32 = 0;
+    let mut count: usize = 0;
     'rest: while let Some(place) = rest {
         let (one, after) = chains.take(place);
         rest = after;
@@ -64,10 +65,11 @@ pub fn purge(
     file: u32,
     chain: Option<usize>,
     now: u64,
-) -> (Option<usize>, u32)
+) -> (Option<usize>, usize)
     requires live { IsLive chains.old chain }
     ensures chain { Becomes chains.old.cells chains.new.cells chain result.0 (still_spent (spent_of chains.old chain) now) }
     ensures counts { Counts chains.old chains.new chain result.0 }
+    ensures count { result.1 ≡ count_of (spent_of chains.new result.0) }
     ensures forgets { Forgets index.old index.new file now }
     ensures spare { chains.old.spare ≤ chains.new.spare }
 {

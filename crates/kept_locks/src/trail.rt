@@ -1,9 +1,9 @@
 //! The ids that were spent on one file.
-ghost use Rattle.std.specs.Prelude.{◌≡◌, ◌⊎◌, ◌+◌, ◌≤◌, ◌<◌, ◌^◌, ◌∷◌, length, max, None, true, false};
+ghost use Rattle.std.specs.Prelude.{◌≡◌, ◌⊎◌, ◌+◌, ◌*◌, ◌≤◌, ◌<◌, ◌^◌, ℕ, ◌∷◌, length, max, None, true, false};
 ghost use Rattle.expiry_queue.specs.Chains.{IsLive, spent_of};
 ghost use Rattle.wopi_model.specs.Act.{is_spent};
 ghost use Rattle.wopi_model.specs.Settle.{still_spent, with_spent};
-ghost use Rattle.kept_locks.specs.Refusals.{Goes, Tells, OthersStay, shown_of, refused_by};
+ghost use Rattle.kept_locks.specs.Refusals.{Goes, IsCounted, LeavesFew, Tells, OthersStay, shown_of, refused_by};
 
 use crate::index::{SpentOn, is_refused, note};
 use crate::purge::purge;
@@ -13,7 +13,7 @@ use wopi_model::Spent;
 use wopi_text::LockId;
 
 /// Once a chain has so many ids it is purged, unless its last purge left more than half of them.
-const MANY: u32 = 8;
+const MANY: usize = 8;
 
 /// A file's chain, and the latest moment at which the file was stepped. The ids that were over then
 /// are shown no longer; where the chain is purged, it has none of them. Where it is told, the index has
@@ -24,8 +24,8 @@ pub struct Trail {
     pub as_of: u64,
     pub purged: bool,
     pub told: bool,
-    pub count: u32,
-    pub left: u32,
+    pub count: usize,
+    pub left: usize,
 }
 
 /// The trail after a step at that moment.
@@ -43,6 +43,8 @@ pub fn step_to(
     ensures as_of { result.as_of ≡ max trail.as_of now }
     ensures others { OthersStay index.old index.new file }
     ensures spare { chains.old.spare ≤ chains.new.spare }
+    ensures counted { IsCounted chains.old trail 2 → IsCounted chains.new result 0 }
+    ensures left { LeavesFew chains.new trail result }
 {
     if trail.purged && now < trail.as_of {
         let (chain, count) = purge(chains, index, file, trail.chain, now);
@@ -81,6 +83,8 @@ fn purge_hidden(
     ensures purged { result.purged ≡ true }
     ensures others { OthersStay index.old index.new file }
     ensures spare { chains.old.spare ≤ chains.new.spare }
+    ensures counted { IsCounted chains.new result 0 }
+    ensures left { LeavesFew chains.new trail result }
 {
     let (chain, count) = purge(chains, index, file, trail.chain, trail.as_of);
     Trail {
@@ -109,6 +113,8 @@ pub fn purge_to(
     ensures purged { result.purged ≡ true }
     ensures others { OthersStay index.old index.new file }
     ensures spare { chains.old.spare ≤ chains.new.spare }
+    ensures counted { IsCounted chains.old trail 2 → IsCounted chains.new result 0 }
+    ensures left { LeavesFew chains.new trail result }
 {
     let stepped = step_to(chains, index, file, trail, now);
     if stepped.purged {
@@ -117,8 +123,10 @@ pub fn purge_to(
     purge_hidden(chains, index, file, stepped)
 }
 
-/// The chain has become twice what its last purge left.
-fn is_long(trail: &Trail) -> bool {
+/// One id more would make the chain longer than 8 ids, and than twice what its last purge left.
+fn is_long(trail: &Trail) -> bool
+    ensures { result ≡ false → trail.now.count + 1 ≤ max 8 (2 * trail.now.left) }
+{
     trail.count >= MANY && trail.count / 2 >= trail.left
 }
 
@@ -139,6 +147,9 @@ fn ready_for(
     ensures fits { (result.purged ≡ true) ⊎ (result.as_of < until) }
     ensures others { OthersStay index.old index.new file }
     ensures spare { chains.old.spare ≤ chains.new.spare }
+    ensures counted { (more : ℕ) → IsCounted chains.old trail more → IsCounted chains.new result more }
+    ensures short { (more : ℕ) → more ≤ 1 → IsCounted chains.old trail more → result.count + 1 ≤ max 8 (2 * result.left) }
+    ensures left { LeavesFew chains.new trail result }
 {
     if trail.purged {
         return trail;
@@ -167,6 +178,8 @@ pub fn spend_on(
     ensures as_of { result.as_of ≡ trail.as_of }
     ensures others { OthersStay index.old index.new file }
     ensures spare { chains.old.spare ≤ chains.new.spare + 1 }
+    ensures counted { (more : ℕ) → more ≤ 1 → IsCounted chains.old trail more → IsCounted chains.new result (more + 1) }
+    ensures left { LeavesFew chains.new trail result }
 {
     let ready = ready_for(chains, index, file, trail, one.until);
     let noted = note(index, file, one.id.copy(), one.until);
@@ -199,6 +212,8 @@ pub fn spend_now(
     ensures others { OthersStay index.old index.new file }
     ensures spare { chains.old.spare ≤ chains.new.spare + 1 }
     ensures kept { spend ≡ None → chains.old.spare ≤ chains.new.spare }
+    ensures counted { IsCounted chains.old trail 2 → IsCounted chains.new result 1 }
+    ensures left { LeavesFew chains.new trail result }
 {
     let stepped = step_to(chains, index, file, trail, now);
     match spend {

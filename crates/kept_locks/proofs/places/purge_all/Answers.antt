@@ -1,7 +1,33 @@
-use Rattle.std.proofs.Common.{◌≤◌, length, arith}
+use Rattle.std.proofs.Common.{◌≡◌, ◌+◌, ◌≤◌, ℕ, suc, length, subst, ◌∙◌, arith}
 use Rattle.std.proofs.lemmas.Option.{slice_get_within}
-use Rattle.kept_locks.proofs.Purging.{purged_files, purged_ids}
+use Rattle.kept_locks.specs.Ties.{lefts_in, standings}
+use Rattle.kept_locks.proofs.Counted.{leaves_next, purged_shorter}
+use Rattle.kept_locks.proofs.Purging.{PurgedTo, purged_files, purged_ids, purged_next}
 use Rattle.kept_locks.proofs.places.purge_all.Goals as goal
+
+pub places-preserved : goal.places-preserved
+places-preserved c =
+    let start = c.args.places.now.items in
+    let places = c.places.places.items in
+    let next = c.purge_place.new.places.items in
+    let first = c.args.chains.now in
+    let chains = c.places.chains in
+    let now = c.args.now in
+    let purged = c.places.invariant.purged in
+    let latest = c.places.invariant.latest in
+    let later = c.purge_place.ensures.latest in
+    let spare = c.places.invariant.spare in
+    let more = c.purge_place.ensures.spare in
+    let one_more : suc c.places.at ≡ c.places.at + 1 = omega arith in
+    record {
+      tied = c.purge_place.ensures.tied;
+      purged = subst (λ (n : ℕ). PurgedTo start next first c.purge_place.new.chains n now) one_more (purged_next start places next first chains c.purge_place.new.chains c.places.at now purged c.purge_place.ensures.purges);
+      latest = omega (arith, latest, later);
+      spare = omega (arith, spare, more);
+      left = leaves_next (lefts_in start) (lefts_in places) (lefts_in next) (standings first start) (standings chains places) c.places.invariant.left c.purge_place.ensures.left
+          (purged_shorter start places first chains c.places.at now purged);
+      room = c.purge_place.ensures.room ∙ c.places.invariant.room;
+    }
 
 pub returns-clause-files : goal.returns-clause-files
 returns-clause-files c =

@@ -1,5 +1,6 @@
 use Rattle.std.proofs.Common.{◌≡◌, ◌≤◌, ◌-◌, length, max}
-use Rattle.kept_locks.specs.Ties.{AreTied, spare_of, room_of, latest_of}
+use Rattle.kept_locks.specs.Locks.{LeavesAll}
+use Rattle.kept_locks.specs.Ties.{AreTied, lefts_in, standings, spare_of, room_of, latest_of}
 use Rattle.kept_locks.proofs.Purging.{PurgedTo}
 use Rattle.kept_locks.proofs.places.purge_all.Given as goal
 
@@ -9,6 +10,7 @@ invariant-places l = record {
   purged : PurgedTo l.fn.places.items l.places.items l.fn.chains l.chains l.at l.now;
   latest : latest_of l.places.items ≤ max (latest_of l.fn.places.items) l.now;
   spare : spare_of l.queue l.fn.chains ≤ spare_of l.queue l.chains;
+  left : LeavesAll (lefts_in l.fn.places.items) (lefts_in l.places.items) (standings l.fn.chains l.fn.places.items);
   room : room_of l.queue l.chains ≡ room_of l.queue l.fn.chains;
 }
 

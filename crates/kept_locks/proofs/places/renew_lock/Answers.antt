@@ -1,6 +1,7 @@
 use Rattle.std.proofs.Common.{None, max, refl, sym, subst, ◌∙◌, arith}
 use Rattle.std.specs.Prelude.{option_map}
 use Rattle.kept_locks.specs.Ties.{GoesOn, latest_of, lock_of, renewed, standings}
+use Rattle.kept_locks.proofs.Counted.{left_put, short_any, short_held, short_put, shown_long}
 use Rattle.kept_locks.proofs.Counting.{held_put, used_put}
 use Rattle.kept_locks.proofs.Tying.{own_put}
 use Rattle.kept_locks.proofs.Indexing.{indexed_put}
@@ -39,6 +40,9 @@ returns-clause-tied c =
       room = omega (arith, c.requires.tied.room, c.renew_in.ensures.long, c.renew_in.ensures.chains);
       held = omega (arith, held_put places _ c.args.number was now at puts, c.renew_in.ensures.queue.count, c.requires.tied.held);
       used = used_put places _ c.args.chains.now c.renew_in.new.chains c.args.number was now _ c.requires.tied.own at c.renew_in.ensures.goes.becomes puts c.renew_in.ensures.goes.counts c.requires.tied.used;
+      short = short_put places _ c.args.chains.now c.renew_in.new.chains c.args.number was now _ c.requires.tied.own c.requires.tied.short at c.renew_in.ensures.goes.becomes puts
+          (short_held c.renew_in.new.chains now.trail 0 (omega arith) now.held (c.renew_in.ensures.counted (short_any c.args.chains.now was.trail was.held (c.requires.tied.short c.args.number was at))));
+      fits = let there = c.renew_in.ensures.goes.counts.room in let fits = c.requires.tied.fits in omega (arith, there, fits);
       few = omega (arith, puts.long, c.requires.tied.few);
     }
 
@@ -68,3 +72,14 @@ returns-clause-room c =
     let here = c.renew_in.ensures.room in
     let there = c.renew_in.ensures.goes.counts.room in
     omega (arith, here, there)
+
+pub returns-clause-left : goal.returns-clause-left
+returns-clause-left c =
+    let places = c.args.places.now.items in
+    let was = c.index_mut.result.now in
+    let now = c.renew_in.new.place in
+    let at = place_found places c.args.number was c.requires.number c.index_mut.ensures.value in
+    let puts = puts_set places c.args.number now c.requires.number in
+    let le = c.renew_in.ensures.left in
+    let long = shown_long c.renew_in.new.chains _ c.args.number now puts.here in
+    left_put places _ c.args.number was now _ at puts (omega (arith, le, long))

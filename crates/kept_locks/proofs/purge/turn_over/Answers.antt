@@ -26,4 +26,5 @@ rest-preserved c =
       ids = ap (onto (spent_of c.add-kept.new.self after)) m.kept_is ∙ sym (ap (λ (l : List Spent). onto l (spent_of now c.rest.kept)) m.rest_is) ∙ c.rest.invariant.ids;
       used = omega (arith, longer, kept_long, taken, added, used);
       room = omega (arith, taken, added, freed, filled, room);
+      count = let counted = c.rest.invariant.count in let more = c.saturating_add-count.ensures in omega (arith, counted, more, kept_long);
     }

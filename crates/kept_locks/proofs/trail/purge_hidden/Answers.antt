@@ -1,5 +1,6 @@
 use Rattle.std.proofs.Common.{◌≤◌, true, refl, arith}
 use Rattle.kept_locks.specs.declared.trail.Trail.{Trail}
+use Rattle.kept_locks.proofs.Counted.{counted_purged, leaves_purged}
 use Rattle.kept_locks.proofs.Trails.{tells_purged}
 use Rattle.kept_locks.proofs.trail.purge_hidden.Goals as goal
 
@@ -9,3 +10,15 @@ returns-clause-tells c =
     let result : Trail = record { chain = c.purge-chain.result.0; as_of = trail.as_of; purged = true; told = trail.told; count = c.purge-chain.result.1; left = c.purge-chain.result.1 } in
     let le : trail.as_of ≤ trail.as_of = omega arith in
     tells_purged c.args.index.now c.purge-chain.new.index c.args.file c.args.chains.now c.purge-chain.new.chains trail result trail.as_of le refl refl c.purge-chain.ensures.forgets c.purge-chain.ensures.chain.spent_is c.requires.tells
+
+pub returns-clause-counted : goal.returns-clause-counted
+returns-clause-counted c =
+    let trail = c.args.trail in
+    let result : Trail = record { chain = c.purge-chain.result.0; as_of = trail.as_of; purged = true; told = trail.told; count = c.purge-chain.result.1; left = c.purge-chain.result.1 } in
+    counted_purged c.purge-chain.new.chains result c.purge-chain.ensures.count refl
+
+pub returns-clause-left : goal.returns-clause-left
+returns-clause-left c =
+    let trail = c.args.trail in
+    let result : Trail = record { chain = c.purge-chain.result.0; as_of = trail.as_of; purged = true; told = trail.told; count = c.purge-chain.result.1; left = c.purge-chain.result.1 } in
+    leaves_purged c.purge-chain.new.chains trail result refl c.purge-chain.ensures.count

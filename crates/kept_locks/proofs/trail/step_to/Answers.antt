@@ -2,6 +2,7 @@ use Rattle.std.proofs.Common.{◌<◌, ◌≤◌, ℕ, inl, inr, true, false, sy
 use Rattle.wopi_model.specs.Settle.{still_spent}
 use Rattle.kept_locks.specs.declared.trail.Trail.{Trail}
 use Rattle.kept_locks.specs.Refusals.{Goes, refused_by, shown_of}
+use Rattle.kept_locks.proofs.Counted.{counted_purged, counted_lazy, leaves_purged}
 use Rattle.kept_locks.proofs.Trails.{tells_purged, tells_lazy, step_lazy}
 use Rattle.kept_locks.proofs.trail.step_to.Goals.{else-trail-via-then-trail+else-now-trail, else-trail-via-else-trail}
 use Rattle.kept_locks.proofs.trail.step_to.Goals as goal
@@ -30,3 +31,19 @@ returns-clause-tells c =
     let result : Trail = record { chain = trail.chain; as_of = c.max.result; purged = false; told = trail.told; count = trail.count; left = trail.left } in
     let late : trail.as_of ≤ c.max.result = omega (arith, c.max.ensures) in
     tells_lazy (refused_by c.args.index.now c.args.file) c.args.chains.now trail result refl refl late c.requires.tells
+
+pub returns-then-now-trail-clause-counted : goal.returns-then-now-trail-clause-counted
+returns-then-now-trail-clause-counted c = λ before.
+    let result : Trail = record { chain = c.purge-chain.result.0; as_of = c.args.trail.as_of; purged = true; told = c.args.trail.told; count = c.purge-chain.result.1; left = c.purge-chain.result.1 } in
+    counted_purged c.purge-chain.new.chains result c.purge-chain.ensures.count refl
+
+pub returns-then-now-trail-clause-left : goal.returns-then-now-trail-clause-left
+returns-then-now-trail-clause-left c =
+    let result : Trail = record { chain = c.purge-chain.result.0; as_of = c.args.trail.as_of; purged = true; told = c.args.trail.told; count = c.purge-chain.result.1; left = c.purge-chain.result.1 } in
+    leaves_purged c.purge-chain.new.chains c.args.trail result refl c.purge-chain.ensures.count
+
+pub returns-clause-counted : goal.returns-clause-counted
+returns-clause-counted c = λ before.
+    let trail = c.args.trail in
+    let result : Trail = record { chain = trail.chain; as_of = c.max.result; purged = false; told = trail.told; count = trail.count; left = trail.left } in
+    counted_lazy c.args.chains.now trail result 2 refl refl refl refl before

@@ -1,5 +1,6 @@
-use Rattle.std.proofs.Common.{◌≡◌, List, map, ap, ◌∙◌, arith}
-use Rattle.kept_locks.specs.Locks.{Standing, all_ended, all_purged, held_in, ids_in, ids_of}
+use Rattle.std.proofs.Common.{◌≡◌, List, map, ap, subst, ◌∙◌, arith}
+use Rattle.kept_locks.specs.Locks.{LeavesAll, Standing, all_ended, all_purged, held_in, ids_in, ids_of}
+use Rattle.kept_locks.proofs.Counted.{leaves_next}
 use Rattle.kept_locks.proofs.Placing.{places_are}
 use Rattle.kept_locks.proofs.locks.KeptLocks.make_place.Goals as goal
 
@@ -18,3 +19,14 @@ returns-clause-spare c =
     let few = c.requires.place in
     let enough = c.requires.room in
     omega (arith, ids, held, are, left, room, same, first, few, enough)
+
+pub returns-then-taken-ids-clause-left : goal.returns-then-taken-ids-clause-left
+returns-then-taken-ids-clause-left c =
+    subst (λ (files : List Standing). LeavesAll c.args.self.now.left c.settle.new.self.left files) c.settle.ensures.files c.settle.ensures.left
+
+pub returns-clause-left : goal.returns-clause-left
+returns-clause-left c =
+    let ended = all_ended c.args.now c.args.self.now.files in
+    leaves_next c.args.self.now.left c.settle.new.self.left c.purge.new.self.left ended ended
+    (subst (λ (files : List Standing). LeavesAll c.args.self.now.left c.settle.new.self.left files) c.settle.ensures.files c.settle.ensures.left)
+    (subst (λ (files : List Standing). LeavesAll c.settle.new.self.left c.purge.new.self.left files) c.settle.ensures.files c.purge.ensures.left) (λ n. omega arith)
