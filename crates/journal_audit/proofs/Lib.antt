@@ -12,3 +12,4 @@ mod Givings
 mod Streaming
 mod Seeking
 mod Standing
+mod Finding

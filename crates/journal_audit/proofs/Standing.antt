@@ -30,7 +30,7 @@ use Rattle.journal_audit.proofs.Streaming.{behind_more}
 -- ---- opening files
 
 -- a shard's opening has the files of its names
-own_opening : (shard : ℕ) (opening : Opening) (name : List ℕ) → shard_of name ≡ shard → opened_contents (opening_of shard opening) name ≡ opened_contents opening name
+pub own_opening : (shard : ℕ) (opening : Opening) (name : List ℕ) → shard_of name ≡ shard → opened_contents (opening_of shard opening) name ≡ opened_contents opening name
 own_opening shard [] name own = refl
 own_opening shard (one ∷ opening) name own = by_tests (bytes_eq one.0 name) refl (shard_of one.0 == shard) refl (own_opening shard opening name own)
   where
@@ -75,7 +75,7 @@ brings file act.Look true contents version sized = absurd sized
 brings file (act.Create overwrite size) true contents version sized = (refl, refl, refl)
 brings file act.Delete true contents version sized = absurd sized
 
-accepted_version : (file : File) (line : Line) (opened now : ℕ) → (line.status == 200) ≡ true → IsRuledOn file line opened now
+pub accepted_version : (file : File) (line : Line) (opened now : ℕ) → (line.status == 200) ≡ true → IsRuledOn file line opened now
     → version_told file.version line.act line.version ≡ (effect file (call_of line) now).version
 accepted_version file line opened now ok ruled =
     let ruling = ruled.0 in
@@ -86,13 +86,14 @@ accepted_version file line opened now ok ruled =
     ∙ version_outcome file (call_of line) opened now ruling ruled.1 (ap (λ (s : ℕ). s == 200) status ∙ ok)
 
 -- the line's shard at its moment
-abbrev at_line : Begun → Line → Shard
+abbrev pub at_line : Begun → Line → Shard
 at_line begun line = at_moment (begun.shards line.shard) line.moment
 
 -- the file of a line's name behind the line
-behind_file : (begun : Begun) (line : Line) (name : List ℕ) → MayCome begun line → line.name ≡ name → (line.status == 200) ≡ true
-    → ((behind_line begun line).shards (shard_of name)).files name ≡ effect ((at_line begun line).files line.name) (call_of line) (at_line begun line).now
-behind_file begun line name may own ok =
+pub behind_own : (begun : Begun) (line : Line) (name : List ℕ) → MayCome begun line → line.name ≡ name
+    → ((behind_line begun line).shards (shard_of name)).files name
+    ≡ cond (line.status == 200) (effect ((at_line begun line).files line.name) (call_of line) (at_line begun line).now) ((at_line begun line).files name)
+behind_own begun line name may own =
     let at : Shard = at_line begun line in
     let here : (line.shard == shard_of name) ≡ true = eq-eqb line.shard (shard_of name) (may.ordered.own ∙ ap shard_of own) in
     let same : bytes_eq line.name name ≡ true = (bytes_eq-Decides line.name name).1 own in
@@ -101,7 +102,13 @@ behind_file begun line name may own ok =
     ap (λ (b : Bool). (cond b after (begun.shards (shard_of name))).files name) here
     ∙ ap (λ (b : Bool). cond b stepped (at.files name)) same
     ∙ sym (left-by (at.files line.name) line at.opened at.now may.ruled)
-    ∙ ap (λ (b : Bool). cond b (effect (at.files line.name) (call_of line) at.now) (at.files line.name)) ok
+    ∙ ap (λ (n : List ℕ). cond (line.status == 200) (effect (at.files line.name) (call_of line) at.now) (at.files n)) own
+
+behind_file : (begun : Begun) (line : Line) (name : List ℕ) → MayCome begun line → line.name ≡ name → (line.status == 200) ≡ true
+    → ((behind_line begun line).shards (shard_of name)).files name ≡ effect ((at_line begun line).files line.name) (call_of line) (at_line begun line).now
+behind_file begun line name may own ok =
+    let at : Shard = at_line begun line in
+    behind_own begun line name may own ∙ ap (λ (b : Bool). cond b (effect (at.files line.name) (call_of line) at.now) (at.files name)) ok
 
 stood_given : (text : JournalText) (name : List ℕ) (version : ℕ) (contents : List ℕ) → KeepsBounds text → LegalText text → IsGiven name version text.lines contents
     → Stood text name version contents

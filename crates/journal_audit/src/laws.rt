@@ -61,3 +61,9 @@ pub fn a_version_has_one_contents()
 pub fn contents_that_are_found_stood()
     ensures { (text : JournalText) (name : List ℕ) (version : ℕ) (contents : List ℕ) → KeepsBounds text → LegalText text → HadContents text name version contents → Stood text name version contents }
 {}
+
+/// What stood of a legal journal is found: where the file has that version behind some of its lines, with these
+/// contents, it had these.
+pub fn what_stood_is_found()
+    ensures { (text : JournalText) (name : List ℕ) (version : ℕ) (contents : List ℕ) → KeepsBounds text → LegalText text → Stood text name version contents → HadContents text name version contents }
+{}
