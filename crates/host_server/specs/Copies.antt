@@ -2,7 +2,6 @@
 use Rattle.std.specs.Prelude.{ℕ, ◌≡◌, ◌≢◌, ◌<◌, ◌+◌, ◌⊎◌, ⊤, Bool, false, List, [], ◌∷◌, ◌++◌, length, map, codes, None, Some, ◌==◌, if◌then◌else◌}
 use Rattle.std.specs.Str.{IsUtf8}
 use Rattle.wopi_text.specs.FileName.{IsFileName}
-use Rattle.wopi_text.specs.Ids.{id_of}
 use Rattle.wopi_text.specs.declared.reason.Reason.TheVariants.{Taken}
 use Rattle.wopi_model.specs.declared.token.Token.{Token}
 use Rattle.wopi_model.specs.declared.calls.Act.TheVariants as act
@@ -13,7 +12,7 @@ use Rattle.wopi_headers.specs.declared.answer.Answer.{Answer}
 use Rattle.wopi_headers.specs.declared.answer.BodyKind.TheVariants.{Json}
 use Rattle.wopi_headers.specs.declared.ask.Target.{Target}
 use Rattle.wopi_headers.specs.declared.ask.Target.TheVariants.{Suggested, Relative}
-use Rattle.access_tokens.specs.TokenText.{token_text}
+use Rattle.access_tokens.specs.Addresses.{address_with}
 use Rattle.file_info.specs.Relative.{relative_text}
 use Rattle.put_relative.specs.CopyNames.{IsTidy, copy_name, tidied}
 use Rattle.wopi_acts.specs.Answers.{status_only, ruling_told}
@@ -72,13 +71,9 @@ Decides tries number ruling = (number < tries) × ((¬ IsTaken ruling) ⊎ (numb
 abbrev pub token_for : List ℕ → Token → ℕ → Token
 token_for name asking moment = record asking { file = name; issued = moment }
 
--- the address of the file with that id, with that token in its query
-unfoldable pub address_text : List ℕ → List ℕ → List ℕ → List ℕ
-address_text base id token = base ++ codes "/wopi/files/" ++ id ++ codes "?access_token=" ++ token
-
 -- the address of the file of that name, with a token for it
 abbrev pub address : Desk → List ℕ → Token → ℕ → List ℕ
-address desk name asking moment = address_text desk.base (id_of name) (token_text desk.keys (token_for name asking moment))
+address desk name asking moment = address_with desk.base desk.keys (token_for name asking moment)
 
 -- the answer that tells the ruling on the making of the file of that name: where it was made, its name and its address
 abbrev pub file_told : Desk → List ℕ → Token → ℕ → Ruling → Answer

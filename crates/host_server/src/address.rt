@@ -1,19 +1,19 @@
 //! What is told of a file that was made beside another: its name and its address.
-ghost use Rattle.std.specs.Prelude.{◌≡◌, ◌++◌, IfOk, OnOk};
+ghost use Rattle.std.specs.Prelude.{◌≡◌, IfOk};
 ghost use Rattle.std.specs.Str.{IsUtf8};
 ghost use Rattle.wopi_model.specs.Moment.{IsMoment};
 ghost use Rattle.access_tokens.specs.TokenText.{IsWritable};
 ghost use Rattle.file_info.specs.Relative.{relative_text};
-ghost use Rattle.host_server.specs.Copies.{address, address_text, token_for, file_told};
+ghost use Rattle.host_server.specs.Copies.{address, token_for, file_told};
 
 use crate::desk::Desk;
 use crate::telling::ruling_told;
-use access_tokens::{Token, mint};
+use access_tokens::{Token, push_address};
 use file_info::relative_text;
 use host_core::Ruling;
 use std::alloc::Global;
 use wopi_headers::{Answer, BodyKind};
-use wopi_text::{Bytes, FileName, Memory, id_text};
+use wopi_text::{Bytes, FileName, Memory};
 
 /// A token for the file of that name, in the name of who asked, issued at that moment.
 fn token_for(name: &FileName, asking: &Token, moment: u64) -> Token
@@ -29,27 +29,6 @@ fn token_for(name: &FileName, asking: &Token, moment: u64) -> Token
     }
 }
 
-/// Appends a piece.
-fn push(text: &mut Vec<u8>, piece: &[u8]) -> Result<(), Memory>
-    ensures { OnOk result (text.new.items ≡ text.old.items ++ piece.now) }
-{
-    text.extend_from_slice(piece)?;
-    Ok(())
-}
-
-/// The address of the file with that id, with that token in its query.
-#[tactic(auto, unfolding(crate::specs::Copies::address_text))]
-fn address_text(alloc: Global, base: &[u8], id: &[u8], token: &[u8]) -> Result<Vec<u8>, Memory>
-    ensures { IfOk result (λ text. text.items ≡ address_text base.now id.now token.now) }
-{
-    let mut text = base.to_vec(alloc)?;
-    push(&mut text, b"/wopi/files/")?;
-    push(&mut text, id)?;
-    push(&mut text, b"?access_token=")?;
-    push(&mut text, token)?;
-    Ok(text)
-}
-
 /// The address of the file of that name, with a token for it.
 fn address(
     alloc: Global,
@@ -60,9 +39,10 @@ fn address(
 ) -> Result<Vec<u8>, Memory>
     ensures { IfOk result (λ text. text.items ≡ address desk.now name.now asking.now moment) }
 {
-    let id = id_text(alloc, name)?;
-    let token = mint(alloc, &desk.keys, &token_for(name, asking, moment))?;
-    address_text(alloc, desk.base.as_slice(), id.as_slice(), token.as_slice())
+    let token = token_for(name, asking, moment);
+    let mut text = Vec::new(alloc);
+    push_address(&mut text, desk.base.as_slice(), &desk.keys, &token)?;
+    Ok(text)
 }
 
 fn text_of(bytes: &[u8]) -> &str

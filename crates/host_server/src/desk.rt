@@ -1,7 +1,7 @@
 //! What a host knows beside its files.
 ghost use Rattle.std.specs.Prelude.{◌≡◌, true};
 ghost use Rattle.wopi_model.specs.Moment.{IsMoment};
-ghost use Rattle.host_server.specs.Bases.{is_base};
+ghost use Rattle.access_tokens.specs.Addresses.{is_base};
 
 use access_tokens::Keys;
 use wopi_text::Bytes;

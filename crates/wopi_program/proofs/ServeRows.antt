@@ -4,7 +4,7 @@ use Rattle.std.specs.Option.{option_len}
 use Rattle.std.specs.Str.{bytes_eq}
 use Rattle.access_tokens.specs.Keys.{IsWordOf}
 use Rattle.host_core.specs.Opening.{most_first}
-use Rattle.host_server.specs.Bases.{is_base}
+use Rattle.access_tokens.specs.Addresses.{is_base}
 use Rattle.wopi_program.specs.declared.serve_words.ServeAsk.{ServeAsk}
 use Rattle.wopi_program.specs.declared.serve_words.ServeOptions.{ServeOptions}
 use Rattle.wopi_program.specs.ServeWords.{IsServe, IsServeRow, asked_of, before_others, number_in, option_before, options_of, unless_told, with_each, with_first, with_journal, with_links}

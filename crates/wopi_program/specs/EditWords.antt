@@ -3,7 +3,7 @@ use Rattle.std.specs.Prelude.{◌≡◌, ◌<◌, ◌≤◌, ◌+◌, ℕ, true,
 use Rattle.std.specs.List.{list_all}
 use Rattle.wopi_text.specs.FileName.{IsFileName}
 use Rattle.wopi_text.specs.Ids.{id_of}
-use Rattle.host_server.specs.Bases.{is_visible}
+use Rattle.access_tokens.specs.Addresses.{is_visible}
 use Rattle.save_session.specs.Nonce.{IsNonce}
 
 -- a port: the decimal of 1 to 65,535

@@ -2,7 +2,7 @@
 ghost use Rattle.std.specs.Prelude.{◌≡◌, ◌≢◌, ◌≤◌, length, map, string_bytes, true, IfOk, None};
 ghost use Rattle.outside.specs.Faults.{Rose};
 ghost use Rattle.host_core.specs.Single.{sight_of, SeesItsOwn};
-ghost use Rattle.host_server.specs.Bases.{is_base};
+ghost use Rattle.access_tokens.specs.Addresses.{is_base};
 ghost use Rattle.host_server.specs.Connection.{Serves};
 ghost use Rattle.wopi_program.specs.Words.{IsRow};
 ghost use Rattle.wopi_program.specs.Notes.{NotesFor};

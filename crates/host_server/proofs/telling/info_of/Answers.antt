@@ -1,6 +1,7 @@
 use Rattle.std.proofs.Common.{sym, ◌∙◌, subst}
 use Rattle.std.specs.Str.{IsUtf8}
-use Rattle.host_server.proofs.AsciiLemmas.{owner_is_text, user_is_text, version_is_text}
+use Rattle.containers.proofs.Texts.{version_is_text}
+use Rattle.host_server.proofs.AsciiLemmas.{owner_is_text, user_is_text}
 use Rattle.host_server.proofs.telling.info_of.Goals as goal
 
 pub returns-clause-texts : goal.returns-clause-texts
