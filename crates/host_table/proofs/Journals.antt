@@ -13,7 +13,7 @@ use Rattle.wopi_model.specs.Shard.{Opening, Entry, Item, Step, Legal, RisesFrom,
 use Rattle.wopi_model.specs.Host.{shard_of_entry, opening_of, part_of, LegalHost, IsInOrder}
 use Rattle.host_core.specs.Opening.{MayKeep}
 use Rattle.host_core.specs.Entries.{Made}
-use Rattle.host_core.specs.Value.{Book, Left, IsLawful}
+use Rattle.host_core.specs.Value.{Book, InMemory, Left, IsLawful}
 use Rattle.host_table.specs.declared.journal.Spot.{Spot}
 use Rattle.host_core.specs.Times.{steps_of, untimed, last_time}
 use Rattle.host_table.specs.Histories.{as_opened, AreNamed}
@@ -47,8 +47,8 @@ module _ {A : Type 0} where
   place_has (y ∷ xs) (suc k) x e = inr (place_has xs k x e)
 
 module _ {F : Type 0} (files : F → Option Files) (faults : F → ℕ) where
-  pub taken_at : (books : List (Book F)) (parts : List (Left F)) (folders : List F) (i : ℕ) (part : Left F) → AreTaken files faults books parts folders → slice_get parts i ≡ Some part
-      → (h : Book F) × (folder : F) × (slice_get books i ≡ Some h) × IsTakenApart files faults h part folder
+  pub taken_at : (books : List (Book (InMemory F))) (parts : List (Left F)) (folders : List F) (i : ℕ) (part : Left F) → AreTaken files faults books parts folders → slice_get parts i ≡ Some part
+      → (h : Book (InMemory F)) × (folder : F) × (slice_get books i ≡ Some h) × IsTakenApart files faults h part folder
   taken_at [] [] [] i part a e = absurd (cc e)
   taken_at [] [] (f ∷ folders) i part a e = absurd a
   taken_at [] (p ∷ parts) [] i part a e = absurd a
@@ -59,7 +59,7 @@ module _ {F : Type 0} (files : F → Option Files) (faults : F → ℕ) where
   taken_at (b ∷ books) (p ∷ parts) (f ∷ folders) zero part a e = let same : p ≡ part = cc e in (b, f, refl, subst (λ (z : Left F). IsTakenApart files faults b z f) same a.0)
   taken_at (b ∷ books) (p ∷ parts) (f ∷ folders) (suc i) part a e = taken_at books parts folders i part a.1 e
 
-  taken_long : (books : List (Book F)) (parts : List (Left F)) (folders : List F) → AreTaken files faults books parts folders → length parts ≡ length books
+  taken_long : (books : List (Book (InMemory F))) (parts : List (Left F)) (folders : List F) → AreTaken files faults books parts folders → length parts ≡ length books
   taken_long [] [] [] a = refl
   taken_long [] [] (f ∷ folders) a = absurd a
   taken_long [] (p ∷ parts) [] a = absurd a
@@ -70,16 +70,17 @@ module _ {F : Type 0} (files : F → Option Files) (faults : F → ℕ) where
   taken_long (b ∷ books) (p ∷ parts) (f ∷ folders) a = ap suc (taken_long books parts folders a.1)
 
   -- what a shard leaves is of the shard that was opened
-  ended_one : (h : Book F) (part : Left F) (folder : F) → IsTakenApart files faults h part folder → IsEnded files faults (as_opened h) part folder
+  ended_one : (h : Book (InMemory F)) (part : Left F) (folder : F) → IsTakenApart files faults h part folder → IsEnded files faults (as_opened h) part folder
   ended_one h part folder t =
       let goes = t.lawful.timely t.held.unticked in
       let time : last_time h.opened h.made ≡ h.time = sym goes.time_is in
       let P : Left F × F → Type 0 = λ z. IsEnded files faults (as_opened h) z.0 z.1 in
-      let both : (record { opening = h.opening; made = h.made; start = h.start }, h.folder) ≡ (part, folder) = λ i. (sym t.left_is i, sym t.folder_is i) in
-      let Q : ℕ → Type 0 = λ n. IsLawful (record { only = h.only; opening = h.opening; opened = h.opened; first = h.first; capacity = h.capacity; made = h.made; time = n; ticked = h.ticked; start = h.start; folder = h.folder }) (files h.start) (files h.folder) (faults h.start) (faults h.folder) in
-      subst P both (record { opening = refl; start = refl; timely = goes.timely; lawful = subst Q (sym time) t.lawful })
+      let both : (record { opening = h.opening; made = h.made; start = h.start.folder }, h.folder.folder) ≡ (part, folder) = λ i. (sym t.left_is i, sym t.folder_is i) in
+      let Q : ℕ → Type 0 = λ n. IsLawful (record { only = h.only; opening = h.opening; opened = h.opened; first = h.first; capacity = h.capacity; made = h.made; time = n; ticked = h.ticked; start = h.start.folder; folder = h.folder.folder }) (files h.start.folder) (files h.folder.folder) (faults h.start.folder) (faults h.folder.folder) in
+      let was : Q h.time = record { legal = t.lawful.legal; folder = t.lawful.folder; faults = t.lawful.faults; timely = t.lawful.timely; alone = t.lawful.alone } in
+      subst P both (record { opening = refl; start = refl; timely = goes.timely; lawful = subst Q (sym time) was })
 
-  ended_all : (books : List (Book F)) (parts : List (Left F)) (folders : List F) → AreTaken files faults books parts folders → AreEnded files faults (map as_opened books) parts folders
+  ended_all : (books : List (Book (InMemory F))) (parts : List (Left F)) (folders : List F) → AreTaken files faults books parts folders → AreEnded files faults (map as_opened books) parts folders
   ended_all [] [] [] a = tt
   ended_all [] [] (f ∷ folders) a = absurd a
   ended_all [] (p ∷ parts) [] a = absurd a
@@ -90,7 +91,7 @@ module _ {F : Type 0} (files : F → Option Files) (faults : F → ℕ) where
   ended_all (b ∷ books) (p ∷ parts) (f ∷ folders) a = (ended_one b p f a.0, ended_all books parts folders a.1)
 
   -- each part's entries stand in their names' shard, and their stamps rise
-  parts_placed : (opened oldest capacity j : ℕ) (books : List (Book F)) (parts : List (Left F)) (folders : List F) → AreTaken files faults books parts folders → AreBases opened oldest capacity j (map as_opened books) → ArePlaced j parts × AreRising parts
+  parts_placed : (opened oldest capacity j : ℕ) (books : List (Book (InMemory F))) (parts : List (Left F)) (folders : List F) → AreTaken files faults books parts folders → AreBases opened oldest capacity j (map as_opened books) → ArePlaced j parts × AreRising parts
   parts_placed opened oldest capacity j [] [] [] a b = (tt, tt)
   parts_placed opened oldest capacity j [] [] (f ∷ folders) a b = absurd a
   parts_placed opened oldest capacity j [] (p ∷ parts) [] a b = absurd a
@@ -211,14 +212,14 @@ homed_files : (only : Option ℕ) (j : ℕ) (opening : Opening) → only ≡ Som
 homed_files only j [] e a = tt
 homed_files only j (file ∷ opening) e a = let P : Option ℕ → Type 0 = λ o. MayKeep o file.0 in ((subst P e a.0).1, homed_files only j opening e a.1)
 
-part_legal : {F : Type 0} (files : F → Option Files) (faults : F → ℕ) (h : Book F) (part : Left F) (folder : F) → IsTakenApart files faults h part folder → Legal part.opening h.opened h.first (untimed part.made)
+part_legal : {F : Type 0} (files : F → Option Files) (faults : F → ℕ) (h : Book (InMemory F)) (part : Left F) (folder : F) → IsTakenApart files faults h part folder → Legal part.opening h.opened h.first (untimed part.made)
 part_legal files faults h part folder t =
     let P : Opening × List Made → Type 0 = λ z. Legal z.0 h.opened h.first (untimed z.1) in
     let both : (h.opening, h.made) ≡ (part.opening, part.made) = λ i. ((sym t.left_is i).opening, (sym t.left_is i).made) in
     subst P both (t.lawful.alone t.held.unticked)
 
 module _ {F : Type 0} where
-  homed_all : (files : F → Option Files) (faults : F → ℕ) (opened oldest capacity j : ℕ) (books : List (Book F)) (parts : List (Left F)) (folders : List F) → AreTaken files faults books parts folders → AreBases opened oldest capacity j (map as_opened books) → AreHomed j parts
+  homed_all : (files : F → Option Files) (faults : F → ℕ) (opened oldest capacity j : ℕ) (books : List (Book (InMemory F))) (parts : List (Left F)) (folders : List F) → AreTaken files faults books parts folders → AreBases opened oldest capacity j (map as_opened books) → AreHomed j parts
   homed_all files faults opened oldest capacity j [] [] [] a b = tt
   homed_all files faults opened oldest capacity j [] [] (f ∷ folders) a b = absurd a
   homed_all files faults opened oldest capacity j [] (p ∷ parts) [] a b = absurd a
@@ -248,13 +249,13 @@ module _ {F : Type 0} where
         parts_are merge (j + 1) parts (λ i p e. let n : j + suc i ≡ (j + 1) + i = omega arith in f (suc i) p e ∙ ap (λ (m : ℕ). filter (λ (one : Made). shard_of_entry one.step == m) merge) n),
       )
 
-  seen_are : (seats : List (Place F)) (parts : List (Left F)) → length seats ≡ length parts → ((i : ℕ) (s : Place F) (part : Left F) → slice_get seats i ≡ Some s → slice_get parts i ≡ Some part → IsPrefix s.seen part.made) → AreSeen seats parts
+  seen_are : {S : Type 0} (seats : List (Place S)) (parts : List (Left F)) → length seats ≡ length parts → ((i : ℕ) (s : Place S) (part : Left F) → slice_get seats i ≡ Some s → slice_get parts i ≡ Some part → IsPrefix s.seen part.made) → AreSeen seats parts
   seen_are [] [] e f = tt
   seen_are [] (p ∷ parts) e f = absurd (omega arith)
   seen_are (s ∷ seats) [] e f = absurd (omega arith)
   seen_are (s ∷ seats) (p ∷ parts) e f = (f 0 s p refl refl, seen_are seats parts (omega arith) (λ i t q a b. f (suc i) t q a b))
 
-module _ {F : Type 0} (files : F → Option Files) (faults : F → ℕ) (opened oldest capacity made : ℕ) (passes : List (PassView F)) (seats : List (Place F)) (books : List (Book F)) (parts : List (Left F)) (folders : List F) (sorted : List Spot)
+module _ {F : Type 0} (files : F → Option Files) (faults : F → ℕ) (opened oldest capacity made : ℕ) (passes : List (PassView (InMemory F))) (seats : List (Place (InMemory F))) (books : List (Book (InMemory F))) (parts : List (Left F)) (folders : List F) (sorted : List Spot)
     (whole : IsWhole made passes) (joined : IsJoinOf passes seats) (ends : AreEnds seats books) (bases : AreBases opened oldest capacity 0 (map as_opened books)) (taken : AreTaken files faults books parts folders) (long : length books ≡ 16)
     (moved : IsPermutation (all_spots 0 parts) sorted) (up : IsNonDecreasingBy order_of sorted) where
   abbrev merge : List Made
@@ -298,10 +299,10 @@ module _ {F : Type 0} (files : F → Option Files) (faults : F → ℕ) (opened 
       let part_same : w.2 ≡ part = cc (w.3, ap (slice_get parts) same, at) in
       place_has part.made w.1 one (ap (λ (p : Left F). slice_get p.made w.1) (sym part_same) ∙ w.4))
 
-  made_of : (i : ℕ) (part : Left F) → slice_get parts i ≡ Some part → (h : Book F) × (folder : F) × (slice_get books i ≡ Some h) × IsTakenApart files faults h part folder
+  made_of : (i : ℕ) (part : Left F) → slice_get parts i ≡ Some part → (h : Book (InMemory F)) × (folder : F) × (slice_get books i ≡ Some h) × IsTakenApart files faults h part folder
   made_of i part at = taken_at files faults books parts folders i part taken at
 
-  whose : (one : Made) → Has merge one → (q : PassView F) × (o : Own) × Has passes q × (one.step.pass ≡ q.number) × Has (own_of q) o × (o.entry ≡ one.step)
+  whose : (one : Made) → Has merge one → (q : PassView (InMemory F)) × (o : Own) × Has passes q × (one.step.pass ≡ q.number) × Has (own_of q) o × (o.entry ≡ one.step)
   whose one h =
       let w = where_is one h in let t = made_of w.0 w.2 w.3 in
       let made : slice_get t.0.made w.1 ≡ Some one = ap (λ (z : Left F). slice_get z.made w.1) (sym t.3.left_is) ∙ w.4 in
@@ -311,7 +312,7 @@ module _ {F : Type 0} (files : F → Option Files) (faults : F → ℕ) (opened 
   once : (n : ℕ) → times n (map number_of passes) ≤ 1
   once n = let is = whole.numbers n in grind (arith, nat_tests)
 
-  there_in_merge : (p : PassView F) (o : Own) → Has passes p → Has (own_of p) o → (one : Made) × Has merge one × (one.step.pass ≡ p.number) × (o.entry ≡ one.step)
+  there_in_merge : (p : PassView (InMemory F)) (o : Own) → Has passes p → Has (own_of p) o → (one : Made) × Has merge one × (one.step.pass ≡ p.number) × (o.entry ≡ one.step)
   there_in_merge p o mine h =
       let at = in_from 0 p.seats o (in_sorted (owned_from 0 p.seats) o h) in
       let is = all_at IsPass passes p joined.passes_are mine in
@@ -326,7 +327,7 @@ module _ {F : Type 0} (files : F → Option Files) (faults : F → ℕ) (opened 
       (at.one, has_one at.shard part.0 at.place at.one part.1 made, ap (λ (z : Made). z.step.pass) (sym same) ∙ own.2, ap (λ (z : Own). z.entry) at.is)
 
   -- the entries of a pass's number are its own
-  own_is : (p : PassView F) → Has passes p → filter (λ (entry : Entry). entry.pass == p.number) (steps_of merge) ≡ map (λ one. one.entry) (own_of p)
+  own_is : (p : PassView (InMemory F)) → Has passes p → filter (λ (entry : Entry). entry.pass == p.number) (steps_of merge) ≡ map (λ one. one.entry) (own_of p)
   own_is p mine =
       let test : Entry → Bool = λ entry. entry.pass == p.number in
       let is = all_at IsPass passes p joined.passes_are mine in
@@ -338,7 +339,7 @@ module _ {F : Type 0} (files : F → Option Files) (faults : F → ℕ) (opened 
       let t = f.1 in let pass : m.0.step.pass ≡ e.pass = ap (λ (z : Entry). z.pass) m.2 in let q = w.3 in
       let number : w.0.number ≡ p.number = grind (arith, nat_tests) in
       let same : w.0 ≡ p = same_number passes w.0 p once w.2 mine number in
-      let there : Has (own_of p) w.1 = subst (λ (z : PassView F). Has (own_of z) w.1) same w.4 in
+      let there : Has (own_of p) w.1 = subst (λ (z : PassView (InMemory F)). Has (own_of z) w.1) same w.4 in
       subst (λ (z : Entry). Has (map (λ (one : Own). one.entry) (own_of p)) z) (w.5 ∙ m.2) (has_map (λ (one : Own). one.entry) (own_of p) w.1 there))
       (λ e h. let m = map_has (λ (one : Own). one.entry) (own_of p) e h in let w = there_in_merge p m.0 mine m.1 in
       let same : w.0.step ≡ e = sym w.3 ∙ m.2 in
@@ -383,14 +384,14 @@ module _ {F : Type 0} (files : F → Option Files) (faults : F → ℕ) (opened 
   all_parts = parts_are merge 0 parts (λ i part at. let z : i ≡ 0 + i = omega arith in part_is i part at ∙ ap (λ (n : ℕ). filter (λ (one : Made). shard_of_entry one.step == n) merge) z)
 
   pub all_seen : AllByRecursion (λ pass. AreSeen pass.seats parts) passes
-  all_seen = all_of (λ (p : PassView F). AreSeen p.seats parts) passes (λ p mine.
+  all_seen = all_of (λ (p : PassView (InMemory F)). AreSeen p.seats parts) passes (λ p mine.
       let is = all_at IsPass passes p joined.passes_are mine in
       seen_are p.seats parts (is.wide ∙ sym parts_long) (λ i s part at there.
       let t = made_of i part there in
       subst (λ (m : List Made). IsPrefix s.seen m) (sym (ap (λ (z : Left F). z.made) t.3.left_is)) (seen_begins passes seats books p i s t.0 joined ends mine at t.2)))
 
   pub all_own : AllByRecursion (λ pass. filter (λ (entry : Entry). entry.pass == pass.number) (steps_of merge) ≡ map (λ one. one.entry) (own_of pass)) passes
-  all_own = all_of (λ (p : PassView F). filter (λ (entry : Entry). entry.pass == p.number) (steps_of merge) ≡ map (λ one. one.entry) (own_of p)) passes own_is
+  all_own = all_of (λ (p : PassView (InMemory F)). filter (λ (entry : Entry). entry.pass == p.number) (steps_of merge) ≡ map (λ one. one.entry) (own_of p)) passes own_is
 
   number_below : (n : ℕ) → 1 ≤ times n (map number_of passes) → n < made
   number_below n some = let is = whole.numbers n in grind (arith, nat_tests)
@@ -402,7 +403,7 @@ module _ {F : Type 0} (files : F → Option Files) (faults : F → ℕ) (opened 
       let below = number_below w.0.number (has_times (map number_of passes) w.0.number (has_map number_of passes w.0 w.2)) in
       omega (arith, same, below))
 
-pub ends_all : {F : Type 0} (files : F → Option Files) (faults : F → ℕ) (host : HostView F) (passes : List (PassView F)) (seats : List (Place F)) (books : List (Book F)) (parts : List (Left F)) (folders : List F) (sorted : List Spot)
+pub ends_all : {F : Type 0} (files : F → Option Files) (faults : F → ℕ) (host : HostView (InMemory F)) (passes : List (PassView (InMemory F))) (seats : List (Place (InMemory F))) (books : List (Book (InMemory F))) (parts : List (Left F)) (folders : List F) (sorted : List Spot)
     → AreBases host.opened host.first host.capacity 0 host.bases → length books ≡ 16 → AllByRecursion (IsPassOf host) passes → IsWhole host.made passes → IsJoinOf passes seats → AreEnds seats books → AreTaken files faults books parts folders
     → IsPermutation (all_spots 0 parts) sorted → IsNonDecreasingBy order_of sorted
     → AreFound parts sorted × Ends files faults host passes (record { opened = host.opened; first = host.first; parts = parts; merge = merge_of parts sorted }) folders

@@ -7,7 +7,7 @@ use Rattle.outside.specs.Folder.{Files}
 use Rattle.wopi_model.specs.Shard.{Opening}
 use Rattle.host_core.specs.Entries.{Made}
 use Rattle.host_core.specs.Opening.{IsByName, MayKeep}
-use Rattle.host_core.specs.Value.{Book, Left}
+use Rattle.host_core.specs.Value.{Book, InMemory, Left}
 use Rattle.host_table.specs.declared.journal.Spot.{Spot}
 use Rattle.host_table.specs.Bounds.{AreOpenings, IsKept}
 use Rattle.host_table.specs.Close.{capacity_of, AreTaken}
@@ -21,7 +21,7 @@ spots_long shard place [] = refl
 spots_long shard place (one ∷ made) = let rest = spots_long shard (place + 1) made in omega (arith, rest)
 
 module _ {F : Type 0} (files : F → Option Files) (faults : F → ℕ) where
-  spots_few : (j : ℕ) (books : List (Book F)) (parts : List (Left F)) (folders : List F) → AreTaken files faults books parts folders → length (all_spots j parts) ≤ total capacity_of books
+  spots_few : (j : ℕ) (books : List (Book (InMemory F))) (parts : List (Left F)) (folders : List F) → AreTaken files faults books parts folders → length (all_spots j parts) ≤ total capacity_of books
   spots_few j [] [] [] a = omega arith
   spots_few j [] [] (f ∷ folders) a = absurd a
   spots_few j [] (p ∷ parts) [] a = absurd a
@@ -35,7 +35,7 @@ module _ {F : Type 0} (files : F → Option Files) (faults : F → ℕ) where
       let all = length-append (spots_from j 0 p.made) (all_spots (j + 1) parts) in
       omega (arith, here, made, few, rest, all)
 
-  openings_are : (opened oldest capacity j : ℕ) (books : List (Book F)) (parts : List (Left F)) (folders : List F) → AreTaken files faults books parts folders → AreBases opened oldest capacity j (map as_opened books) → AreOpenings j parts
+  openings_are : (opened oldest capacity j : ℕ) (books : List (Book (InMemory F))) (parts : List (Left F)) (folders : List F) → AreTaken files faults books parts folders → AreBases opened oldest capacity j (map as_opened books) → AreOpenings j parts
   openings_are opened oldest capacity j [] [] [] a b = tt
   openings_are opened oldest capacity j [] [] (f ∷ folders) a b = absurd a
   openings_are opened oldest capacity j [] (p ∷ parts) [] a b = absurd a
@@ -49,7 +49,7 @@ module _ {F : Type 0} (files : F → Option Files) (faults : F → ℕ) where
       let both : (h.only, h.opening) ≡ (Some j, p.opening) = λ i. (b.0.only i, opening i) in
       (subst P both (b.0.ordered, b.0.names), openings_are opened oldest capacity (j + 1) books parts folders a.1 b.1)
 
-  pub journal_kept : (host : HostView F) (books : List (Book F)) (parts : List (Left F)) (folders : List F) (sorted : List Spot) → IsHost host → AreBases host.opened host.first host.capacity 0 (map as_opened books)
+  pub journal_kept : (host : HostView (InMemory F)) (books : List (Book (InMemory F))) (parts : List (Left F)) (folders : List F) (sorted : List Spot) → IsHost host → AreBases host.opened host.first host.capacity 0 (map as_opened books)
       → total capacity_of books ≡ 16 * host.capacity → AreTaken files faults books parts folders → IsPermutation (all_spots 0 parts) sorted → AreFound parts sorted → IsKept host.opened host.first parts sorted
   journal_kept host books parts folders sorted is bases sums taken moved found =
       let long = merge_length parts sorted found in let same = length_permutation (all_spots 0 parts) sorted moved in

@@ -3,7 +3,7 @@ use Rattle.std.proofs.Common.{◌≡◌, ℕ, zero, suc, ◌+◌, Option, Some, 
 use Rattle.std.proofs.lemmas.List.{append-nil}
 use Rattle.outside.specs.Folder.{Files}
 use Rattle.host_core.specs.Entries.{Made}
-use Rattle.host_core.specs.Value.{Book, Left}
+use Rattle.host_core.specs.Value.{Book, InMemory, Left}
 use Rattle.host_table.specs.declared.journal.Spot.{Spot}
 use Rattle.host_table.specs.Held.{IsTakenApart}
 use Rattle.host_table.specs.Close.{AreTaken}
@@ -36,7 +36,7 @@ module _ {F : Type 0} where
   all_push j (p ∷ parts) part n e =
       ap (λ (z : List Spot). spots_from j 0 p.made ++ z) (all_push (j + 1) parts part n (omega arith)) ∙ sym (append_assoc (spots_from j 0 p.made) (all_spots (j + 1) parts) (spots_from n 0 part.made))
 
-  pub taken_push : (files : F → Option Files) (faults : F → ℕ) (books : List (Book F)) (parts : List (Left F)) (folders : List F) (book : Book F) (part : Left F) (folder : F)
+  pub taken_push : (files : F → Option Files) (faults : F → ℕ) (books : List (Book (InMemory F))) (parts : List (Left F)) (folders : List F) (book : Book (InMemory F)) (part : Left F) (folder : F)
       → AreTaken files faults books parts folders → IsTakenApart files faults book part folder → AreTaken files faults (books ++ book ∷ []) (parts ++ part ∷ []) (folders ++ folder ∷ [])
   taken_push files faults [] [] [] book part folder a t = (t, tt)
   taken_push files faults [] [] (f ∷ folders) book part folder a t = absurd a

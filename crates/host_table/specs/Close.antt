@@ -5,7 +5,7 @@ use mathlib.Core.List.{IsPrefix}
 use Rattle.turn_lock.specs.Places.{total, AreAllBelow, longer}
 use Rattle.outside.specs.Folder.{Files}
 use Rattle.wopi_model.specs.Host.{LegalHost}
-use Rattle.host_core.specs.Value.{Book, Left, IsLawful}
+use Rattle.host_core.specs.Value.{Book, InMemory, Left, IsLawful}
 use Rattle.host_core.specs.Times.{steps_of, last_time, IsTimely}
 use Rattle.host_table.specs.Held.{IsTakenApart}
 use Rattle.host_table.specs.Journal.{JournalView, AreParts, openings}
@@ -69,41 +69,52 @@ module _ {F : Type 0} where
     pub gathered : (shard : ℕ) (seat : Place F) → slice_get seats shard ≡ Some seat → IsGathered (column shard passes) seat
 
   -- what was seen of each shard begins the shard's part
-  abbrev pub AreSeen : List (Place F) → List (Left F) → Type 0
+  abbrev pub AreSeen : {S : Type 0} → List (Place S) → List (Left F) → Type 0
   AreSeen [] [] = ⊤
   AreSeen [] (part ∷ parts) = ⊥
   AreSeen (seat ∷ seats) [] = ⊥
   AreSeen (seat ∷ seats) (part ∷ parts) = IsPrefix seat.seen part.made × AreSeen seats parts
 
   -- a shard at its end
-  abbrev pub ended_book : Book F → Left F → F → Book F
-  ended_book base part folder = record base { opening = part.opening; made = part.made; time = last_time base.opened part.made; start = part.start; folder = folder }
+  abbrev pub ended_book : Book (InMemory F) → Left F → F → Book F
+  ended_book base part folder = record {
+    only = base.only;
+    opening = part.opening;
+    opened = base.opened;
+    first = base.first;
+    capacity = base.capacity;
+    made = part.made;
+    time = last_time base.opened part.made;
+    ticked = base.ticked;
+    start = part.start;
+    folder = folder;
+  }
 
   abbrev pub capacity_of : Book F → ℕ
   capacity_of book = book.capacity
 
 module _ {F : Type 0} (files : F → Option Files) (faults : F → ℕ) where
   -- each shard was taken apart
-  abbrev pub AreTaken : List (Book F) → List (Left F) → List F → Type 0
+  abbrev pub AreTaken : List (Book (InMemory F)) → List (Left F) → List F → Type 0
   AreTaken [] [] [] = ⊤
   AreTaken (book ∷ books) (part ∷ parts) (folder ∷ folders) = IsTakenApart files faults book part folder × AreTaken books parts folders
   AreTaken _ _ _ = ⊥
 
   -- What a shard leaves is of the shard that was opened, and its folder is as the last step left it: it holds what the
   -- entries leave, and its count rose by each store call that failed.
-  pub record IsEnded (base : Book F) (part : Left F) (folder : F) : Type 0 where
+  pub record IsEnded (base : Book (InMemory F)) (part : Left F) (folder : F) : Type 0 where
     pub opening : part.opening ≡ base.opening
-    pub start : part.start ≡ base.start
+    pub start : part.start ≡ base.start.folder
     pub timely : IsTimely base.opened part.made
     pub lawful : IsLawful (ended_book base part folder) (files part.start) (files folder) (faults part.start) (faults folder)
 
-  abbrev pub AreEnded : List (Book F) → List (Left F) → List F → Type 0
+  abbrev pub AreEnded : List (Book (InMemory F)) → List (Left F) → List F → Type 0
   AreEnded [] [] [] = ⊤
   AreEnded (base ∷ bases) (part ∷ parts) (folder ∷ folders) = IsEnded base part folder × AreEnded bases parts folders
   AreEnded _ _ _ = ⊥
 
   -- the journal of a host and of all its passes, which has no entry of another, and the folders
-  pub record Ends (host : HostView F) (passes : List (PassView F)) (journal : JournalView F) (folders : List F) : Type 0 where
+  pub record Ends (host : HostView (InMemory F)) (passes : List (PassView (InMemory F))) (journal : JournalView F) (folders : List F) : Type 0 where
     pub opened_is : journal.opened ≡ host.opened
     pub first_is : journal.first ≡ host.first
     pub legal : LegalHost (openings journal.parts) journal.opened journal.first (steps_of journal.merge)

@@ -8,7 +8,7 @@ use Rattle.host_core.specs.declared.caller.CallFault.{CallFault}
 use Rattle.host_core.specs.Caller.{entry_of, called_back, IsFullCall, next_stamp}
 use Rattle.host_core.specs.Entries.{back_of}
 use Rattle.host_core.specs.LockActs.{is_lock_act}
-use Rattle.host_core.specs.Value.{Book, Left, IsLawful}
+use Rattle.host_core.specs.Value.{Book, InMemory, Left, IsLawful}
 use Rattle.host_core.specs.Times.{untimed}
 use Rattle.host_table.specs.Histories.{AreNamed}
 
@@ -38,8 +38,8 @@ pub record Declines {F : Type 0} (old new : Book F) (call : Call) (floor moment 
   pub light : is_lock_act call.act ≡ true → IsFullCall refusal
 
 -- what a shard leaves, and its folder as the last step left it
-pub record IsTakenApart {F : Type 0} (files : F → Option Files) (faults : F → ℕ) (book : Book F) (left : Left F) (folder : F) : Type 0 where
-  pub left_is : left ≡ record { opening = book.opening; made = book.made; start = book.start }
-  pub folder_is : folder ≡ book.folder
-  pub held : IsHeld book (files book.start) (files book.folder) (faults book.start) (faults book.folder)
-  pub lawful : IsLawful book (files book.start) (files book.folder) (faults book.start) (faults book.folder)
+pub record IsTakenApart {F : Type 0} (files : F → Option Files) (faults : F → ℕ) (book : Book (InMemory F)) (left : Left F) (folder : F) : Type 0 where
+  pub left_is : left ≡ record { opening = book.opening; made = book.made; start = book.start.folder }
+  pub folder_is : folder ≡ book.folder.folder
+  pub held : IsHeld book (files book.start.folder) (files book.folder.folder) (faults book.start.folder) (faults book.folder.folder)
+  pub lawful : IsLawful book (files book.start.folder) (files book.folder.folder) (faults book.start.folder) (faults book.folder.folder)

@@ -1,5 +1,5 @@
 -- What a host begins with, and what is handed back where it doesn't begin. (Own.)
-use Rattle.std.specs.Prelude.{◌≡◌, ⊤, ℕ, ◌+◌, ◌≤◌, ◌^◌, false, Option, Some, List, [], ◌∷◌, ◌++◌, length}
+use Rattle.std.specs.Prelude.{◌≡◌, ⊤, ℕ, ◌+◌, ◌≤◌, ◌^◌, false, Option, Some, List, [], ◌∷◌, ◌++◌, length, map}
 use Rattle.std.specs.List.{AllByRecursion}
 use Rattle.atomic_table.specs.Seated.{TableId}
 use Rattle.turn_lock.specs.Seats.{first_seat}
@@ -9,7 +9,7 @@ use Rattle.wopi_model.specs.Shard.{Opening}
 use Rattle.host_core.specs.declared.opening.StartFault.{StartFault}
 use Rattle.host_core.specs.declared.opening.StartFault.TheVariants as fault
 use Rattle.host_core.specs.Opening.{IsOpening, Fits, IsTooLarge, IfTooLarge}
-use Rattle.host_core.specs.Value.{Book}
+use Rattle.host_core.specs.Value.{Book, InMemory}
 use Rattle.host_table.specs.Passes.{Place, HostView, PassView, IsPassOf}
 
 module _ {F : Type 0} where
@@ -25,6 +25,9 @@ module _ {F : Type 0} where
 
   abbrev pub start_of : Book F → F
   start_of book = book.start
+
+  abbrev pub folder_in : InMemory F → F
+  folder_in store = store.folder
 
   -- no entry was made
   abbrev pub AreNew : List (Book F) → Type 0
@@ -91,3 +94,10 @@ module _ {F : Type 0} (files : F → Option Files) (faults : F → ℕ) where
     pub made : host.made ≡ 1
     pub pass_is : pass ≡ first_pass host
     pub of_host : IsPassOf host pass
+
+module _ {F : Type 0} (files : F → Option Files) (faults : F → ℕ) where
+  -- a host over stores in memory over these folders, and its first pass
+  pub record StartsKept (folders : List F) (capacity opened first : ℕ) (host : HostView (InMemory F)) (pass : PassView (InMemory F)) : Type 0 where
+    pub stores : List (InMemory F)
+    pub over : map folder_in stores ≡ folders
+    pub starts : Starts (λ store. files store.folder) (λ store. faults store.folder) stores capacity opened first host pass

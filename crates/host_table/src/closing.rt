@@ -11,13 +11,13 @@ use crate::host::{Host, SHARDS};
 use crate::journal::{Journal, Spot};
 use crate::pass::Pass;
 use crate::rows::close_all;
-use host_core::Past;
+use host_core::{Kept, Past, Store};
 use outside::Folder;
 use std::alloc::{AllocError, Global};
 use turn_lock::{Grown, Seat, TurnLock};
 
 /// Joins to each seat the other at the same lock.
-fn join_row<F: Folder>(
+fn join_row<F: Store>(
     locks: &Vec<TurnLock<Held<F>>>,
     seats: &mut Vec<Seat<Held<F>>>,
     others: Vec<Seat<Held<F>>>,
@@ -38,7 +38,7 @@ fn join_row<F: Folder>(
 }
 
 /// The seats of all passes, joined: one at each lock.
-pub(crate) fn join_all<F: Folder>(
+pub(crate) fn join_all<F: Store>(
     locks: &Vec<TurnLock<Held<F>>>,
     passes: Vec<Pass<F>>,
 ) -> Vec<Seat<Held<F>>>
@@ -83,7 +83,7 @@ fn list_spots<F: Folder>(spots: &mut Vec<Spot>, past: &Past<F>, shard: u8, count
 
 /// Takes each shard apart, and lists where all entries stand, one shard after another.
 pub(crate) fn take_apart<F: Folder>(
-    shards: Vec<Held<F>>,
+    shards: Vec<Held<Kept<F>>>,
     folders: &mut Vec<F>,
     pasts: &mut Vec<Past<F>>,
     spots: &mut Vec<Spot>,
@@ -111,7 +111,7 @@ pub(crate) fn take_apart<F: Folder>(
 /// The memory that ending a host takes, all of it before anything ends.
 #[derive(Drop)]
 pub(crate) struct Room<F: Folder> {
-    pub shards: Vec<Held<F>>,
+    pub shards: Vec<Held<Kept<F>>>,
     pub folders: Vec<F>,
     pub pasts: Vec<Past<F>>,
     pub spots: Vec<Spot>,
@@ -141,8 +141,8 @@ impl<F: Folder> Room<F> {
 /// Ends a host by all its passes, in the room that was taken for it. The entries are sorted in place, which takes
 /// time by their number times its logarithm.
 pub(crate) fn end_host<F: Folder>(
-    host: Host<F>,
-    passes: Vec<Pass<F>>,
+    host: Host<Kept<F>>,
+    passes: Vec<Pass<Kept<F>>>,
     room: Room<F>,
 ) -> (Journal<F>, Vec<F>)
     requires of_host { AllByRecursion (IsPassOf host) passes.items }

@@ -10,7 +10,9 @@ ghost use Rattle.wopi_text.specs.FileName.{shard_of};
 ghost use Rattle.host_table.specs.Histories.{last_stamp, as_opened, IsSeen};
 ghost use Rattle.host_table.specs.Held.{Adds, Declines, IsTakenApart};
 
-use host_core::{CallFault, Listing, Past, Receipt, Shard, StartFault, StepFault};
+use host_core::{
+    CallFault, Kept, Listing, Past, Receipt, Shard, StartFault, StepFault, Store, leave,
+};
 use outside::Folder;
 use std::alloc::Global;
 use std::marker::Model;
@@ -20,11 +22,11 @@ use wopi_text::Memory;
 
 /// A shard that keeps the files of one number, and whose time goes on with its entries alone.
 #[derive(Drop)]
-pub struct Held<F: Folder> {
+pub struct Held<F: Store> {
     shard: Shard<F>,
 }
 
-impl<F: Folder> Model for Held<F> {
+impl<F: Store> Model for Held<F> {
     ghost use Rattle.host_core.specs.Value.{Book};
 
     ghost Value = { Book F };
@@ -36,7 +38,7 @@ impl<F: Folder> Model for Held<F> {
     ghost invariant = { λ held. IsHeld held.shard (F.files held.shard.start) (F.files held.shard.folder) (F.faults held.shard.start) (F.faults held.shard.folder) };
 }
 
-impl<F: Folder> Grown for Held<F> {
+impl<F: Store> Grown for Held<F> {
     type Entry = host_core::Entry;
 
     /// The shard as it was opened, over the folder as it was handed in.
@@ -51,7 +53,7 @@ impl<F: Folder> Grown for Held<F> {
     }
 }
 
-impl<F: Folder> Held<F> {
+impl<F: Store> Held<F> {
     /// Opens the shard of that number over a folder. A refusal hands the folder back.
     pub fn start(
         alloc: Global,
@@ -146,14 +148,7 @@ impl<F: Folder> Held<F> {
     pub fn last(&self) -> u64
         ensures { result ≡ last_stamp self.now.made }
     {
-        let count = self.shard.len();
-        if count == 0 {
-            return 0;
-        }
-        match self.shard.entry(count - 1) {
-            None => 0,
-            Some(entry) => entry.stamp(),
-        }
+        self.shard.last()
     }
 
     /// The folder of a shard that made no entry.
@@ -166,13 +161,15 @@ impl<F: Folder> Held<F> {
         let (folder, _) = shard.end();
         folder
     }
+}
 
+impl<F: Folder> Held<Kept<F>> {
     /// The folder as the last step left it, and what the shard leaves.
     pub fn end(self) -> (F, Past<F>)
         ensures taken { IsTakenApart F.files F.faults self result.1 result.0 }
     {
         let Held { shard } = self;
-        let (folder, past) = shard.end();
+        let (folder, past) = leave(shard);
         (folder, past)
     }
 }

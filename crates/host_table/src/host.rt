@@ -9,7 +9,7 @@ ghost use Rattle.host_core.specs.Listing.{IsListing, Lists, LooksAt};
 ghost use Rattle.host_core.specs.Times.{untimed};
 ghost use Rattle.host_table.specs.Histories.{last_stamp, as_opened, IsSeen};
 ghost use Rattle.host_table.specs.Passes.{locks_of, own_of, top, sight_of, kept_pass, given_pass, IsPassOf, IsSamePass, HasSeen, AreBases};
-ghost use Rattle.host_table.specs.Start.{first_seats, first_pass, AreHanded, IsBlamed, Starts};
+ghost use Rattle.host_table.specs.Start.{first_seats, first_pass, AreHanded, IsBlamed, Starts, StartsKept};
 ghost use Rattle.host_table.specs.Close.{IsWhole, Ends};
 ghost use Rattle.host_table.specs.Calls.{Calls, Glances, Looks};
 
@@ -20,8 +20,9 @@ use crate::opening::{hand_back, lock_all, open_all};
 use crate::pass::Pass;
 use crate::rooms::{CloseRoom, SplitRoom};
 use crate::rows::split_all;
+use crate::stores::{free_all, keep_all};
 use crate::whole::{are_numbered, weigh_whole};
-use host_core::{CallFault, Listing, Receipt, StartFault};
+use host_core::{CallFault, Kept, Listing, Receipt, StartFault, Store};
 use outside::Folder;
 use std::alloc::Global;
 use std::marker::Model;
@@ -36,7 +37,7 @@ pub(crate) const SHARDS: usize = 16;
 
 /// Sixteen shards, each under a lock. Threads share it by reference, and each comes with a pass of its own.
 #[derive(Drop)]
-pub struct Host<F: Folder> {
+pub struct Host<F: Store> {
     pub(crate) alloc: Global,
     pub(crate) locks: Vec<TurnLock<Held<F>>>,
     /// The shards when the host began.
@@ -48,7 +49,7 @@ pub struct Host<F: Folder> {
     pub(crate) made: u32,
 }
 
-impl<F: Folder> Model for Host<F> {
+impl<F: Store> Model for Host<F> {
     ghost use Rattle.host_table.specs.Passes.{HostView};
 
     ghost Value = { HostView F };
@@ -63,13 +64,13 @@ impl<F: Folder> Model for Host<F> {
 
 /// Why a host wasn't closed.
 #[derive(Drop)]
-pub enum CloseFault<F: Folder> {
+pub enum CloseFault<F: Store> {
     /// There was no memory. The host and its passes come back.
     Memory(Host<F>, Vec<Pass<F>>),
 }
 
 /// One call in the shard's turn. `last` is the greatest stamp that was seen in any shard.
-fn turn<F: Folder, R: Wait>(
+fn turn<F: Store, R: Wait>(
     rt: &R,
     lock: &TurnLock<Held<F>>,
     seat: &mut Seat<Held<F>>,
@@ -95,7 +96,7 @@ fn turn<F: Folder, R: Wait>(
 }
 
 /// A listing in the shard's turn. `last` is the greatest stamp that was seen in any shard.
-fn list_in_turn<F: Folder, R: Wait>(
+fn list_in_turn<F: Store, R: Wait>(
     rt: &R,
     lock: &TurnLock<Held<F>>,
     seat: &mut Seat<Held<F>>,
@@ -117,7 +118,7 @@ fn list_in_turn<F: Folder, R: Wait>(
 }
 
 /// The host over these locks, and the pass of their first seats.
-fn begin<F: Folder>(
+fn begin<F: Store>(
     alloc: Global,
     locks: Vec<TurnLock<Held<F>>>,
     seats: Vec<Seat<Held<F>>>,
@@ -157,7 +158,7 @@ fn begin<F: Folder>(
     (host, pass)
 }
 
-impl<F: Folder> Host<F> {
+impl<F: Store> Host<F> {
     /// Opens a shard over each of 16 folders, and gives the host and its first pass, which has number 0. Shard i
     /// takes the names whose number is i, and its files begin at version `first`. The fault is that of the first
     /// shard that has one; a refusal hands the folders back in their order.
@@ -302,10 +303,46 @@ impl<F: Folder> Host<F> {
         }
         weigh_whole(passes)
     }
+}
+
+impl<F: Folder> Host<Kept<F>> {
+    /// The same over folders, each with a store that keeps all in memory.
+    pub fn keep(
+        alloc: Global,
+        folders: Vec<F>,
+        capacity: u32,
+        opened: u64,
+        first: u64,
+    ) -> Result<(Host<Kept<F>>, Pass<Kept<F>>), (Vec<F>, StartFault)>
+        requires capacity { (1 ≤ capacity) × (capacity ≤ 32768) }
+        requires folders { length folders.items ≡ 16 }
+        requires opened { IsMoment opened }
+        requires first { IsFirstVersion first }
+        ensures starts { IfOk result (λ begun. StartsKept F.files F.faults folders.items capacity opened first begun.0 begun.1) }
+        ensures handed { IfErr result (λ refused. AreHanded F.files F.faults folders.items refused.0.items) }
+        ensures blamed { IfErr result (λ refused. IsBlamed F.files F.faults folders.items refused.0.items refused.1) }
+    {
+        let Ok(mut back) = Vec::with_capacity(alloc, SHARDS) else {
+            return Err((folders, StartFault::Memory));
+        };
+        match keep_all(alloc, folders) {
+            Err(folders) => return Err((folders, StartFault::Memory)),
+            Ok(stores) => match Host::start(alloc, stores, capacity, opened, first) {
+                Ok(begun) => return Ok(begun),
+                Err((stores, fault)) => {
+                    free_all(stores, &mut back);
+                    return Err((back, fault));
+                }
+            },
+        }
+    }
 
     /// Ends the host by all its passes: gives its journal, and the folders in the order of the shards, as the last
     /// steps left them. Where there is no memory, all is handed back as it was.
-    pub fn close(self, passes: Vec<Pass<F>>) -> Result<(Journal<F>, Vec<F>), CloseFault<F>>
+    pub fn close(
+        self,
+        passes: Vec<Pass<Kept<F>>>,
+    ) -> Result<(Journal<F>, Vec<F>), CloseFault<Kept<F>>>
         requires of_host { AllByRecursion (IsPassOf self) passes.items }
         requires whole { IsWhole self.made passes.items }
         ensures ends { IfOk result (λ ended. Ends F.files F.faults self passes.items ended.0 ended.1.items) }
@@ -318,7 +355,7 @@ impl<F: Folder> Host<F> {
     }
 
     /// The same in room that was taken ahead, so that it wants no memory.
-    pub fn close_into(self, passes: Vec<Pass<F>>, room: CloseRoom<F>) -> (Journal<F>, Vec<F>)
+    pub fn close_into(self, passes: Vec<Pass<Kept<F>>>, room: CloseRoom<F>) -> (Journal<F>, Vec<F>)
         requires of_host { AllByRecursion (IsPassOf self) passes.items }
         requires whole { IsWhole self.made passes.items }
         requires room { self.capacity ≤ room.capacity }

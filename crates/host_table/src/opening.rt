@@ -9,8 +9,7 @@ ghost use Rattle.host_table.specs.Start.{first_seats, start_of, AreNew, AreHande
 use crate::held::Held;
 use crate::host::SHARDS;
 use crate::rows::close_all;
-use host_core::StartFault;
-use outside::Folder;
+use host_core::{StartFault, Store};
 use std::alloc::Global;
 use std::vec::IntoIter;
 use turn_lock::{NewFault, Seat, TurnLock};
@@ -27,7 +26,7 @@ fn move_all<T: Drop>(mut rest: IntoIter<T, Global>, into: &mut Vec<T>)
 }
 
 /// Hands back the folders of shards that made no entry, behind those that are there.
-pub(crate) fn hand_back<F: Folder>(shards: Vec<Held<F>>, back: &mut Vec<F>)
+pub(crate) fn hand_back<F: Store>(shards: Vec<Held<F>>, back: &mut Vec<F>)
     requires new { AreNew shards.items }
     requires room { vec_len back.old + vec_len shards ≤ vec_capacity back.old }
     ensures handed { (handed : List F) × (back.new.items ≡ back.old.items ++ handed) × AreHanded F.files F.faults (map start_of shards.items) handed }
@@ -41,7 +40,7 @@ pub(crate) fn hand_back<F: Folder>(shards: Vec<Held<F>>, back: &mut Vec<F>)
 }
 
 /// Opens a shard over each folder. A refusal leaves all folders in `back`, in their order.
-pub(crate) fn open_all<F: Folder>(
+pub(crate) fn open_all<F: Store>(
     alloc: Global,
     folders: Vec<F>,
     back: &mut Vec<F>,
@@ -79,7 +78,7 @@ pub(crate) fn open_all<F: Folder>(
 }
 
 /// The shard that no lock was made for.
-fn unlocked<F: Folder>(fault: NewFault<Held<F>>) -> Held<F>
+fn unlocked<F: Store>(fault: NewFault<Held<F>>) -> Held<F>
     ensures { NewFault.Memory result ≡ fault }
 {
     match fault {
@@ -88,7 +87,7 @@ fn unlocked<F: Folder>(fault: NewFault<Held<F>>) -> Held<F>
 }
 
 /// A lock round each shard, and its first seat. Where there is no memory the shards come back.
-pub(crate) fn lock_all<F: Folder>(
+pub(crate) fn lock_all<F: Store>(
     alloc: Global,
     shards: Vec<Held<F>>,
 ) -> Result<(Vec<TurnLock<Held<F>>>, Vec<Seat<Held<F>>>), Vec<Held<F>>>

@@ -3,7 +3,7 @@ ghost use Rattle.std.specs.Prelude.{◌≡◌};
 ghost use Rattle.host_table.specs.Passes.{HasSeen};
 
 use crate::held::Held;
-use outside::Folder;
+use host_core::Store;
 use std::marker::Model;
 use std::snapshot::Snapshot;
 use turn_lock::Seat;
@@ -12,7 +12,7 @@ use turn_lock::Seat;
 /// entries with their places, and its last stamp. One that is dropped takes its weight with it, so its host
 /// can't be closed any more.
 #[derive(Drop)]
-pub struct Pass<F: Folder> {
+pub struct Pass<F: Store> {
     pub(crate) number: u32,
     /// The greatest stamp of any entry that was seen.
     pub(crate) last: u64,
@@ -25,7 +25,7 @@ pub struct Pass<F: Folder> {
     pub(crate) seats: Vec<Seat<Held<F>>>,
 }
 
-impl<F: Folder> Model for Pass<F> {
+impl<F: Store> Model for Pass<F> {
     ghost use Rattle.host_table.specs.Passes.{PassView};
 
     ghost Value = { PassView F };
@@ -38,7 +38,7 @@ impl<F: Folder> Model for Pass<F> {
     ghost invariant = { λ pass. IsPass (pass_of pass) };
 }
 
-impl<F: Folder> Pass<F> {
+impl<F: Store> Pass<F> {
     /// The pass's part of the weight, of which all passes of a host together have 2^62.
     pub fn weight(&self) -> u64
         ensures { result ≡ self.now.weight }

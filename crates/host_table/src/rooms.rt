@@ -4,6 +4,7 @@ ghost use Rattle.std.specs.Prelude.{◌≡◌, ◌*◌, ◌≤◌, [], IfOk, vec
 use crate::closing::Room;
 use crate::held::Held;
 use crate::host::SHARDS;
+use host_core::Store;
 use outside::Folder;
 use std::alloc::Global;
 use turn_lock::Seat;
@@ -14,13 +15,13 @@ pub(crate) const PIECE: usize = 65_536;
 
 /// The memory that splitting a pass takes.
 #[derive(Drop)]
-pub struct SplitRoom<F: Folder> {
+pub struct SplitRoom<F: Store> {
     pub(crate) seats: Vec<Seat<Held<F>>>,
     ghost none: { seats.items ≡ [] },
     ghost wide: { 16 ≤ vec_capacity seats },
 }
 
-impl<F: Folder> SplitRoom<F> {
+impl<F: Store> SplitRoom<F> {
     /// Room for one pass.
     pub fn new(alloc: Global) -> Result<SplitRoom<F>, Memory> {
         let seats = Vec::with_capacity(alloc, SHARDS)?;

@@ -5,12 +5,12 @@ ghost use Rattle.host_table.specs.Passes.{lock_of, kept_half, given_half};
 ghost use Rattle.host_table.specs.Rows.{CanSplit, CanClose, AreEnds};
 
 use crate::held::Held;
-use outside::Folder;
+use host_core::Store;
 use std::sync::Wait;
 use turn_lock::{Seat, TurnLock};
 
 /// A new seat for each old one.
-pub(crate) fn split_all<F: Folder, R: Wait>(
+pub(crate) fn split_all<F: Store, R: Wait>(
     rt: &R,
     locks: &Vec<TurnLock<Held<F>>>,
     seats: &mut Vec<Seat<Held<F>>>,
@@ -32,7 +32,7 @@ pub(crate) fn split_all<F: Folder, R: Wait>(
 }
 
 /// Ends each lock by its seat. The shards go behind those that are there.
-pub(crate) fn close_all<F: Folder>(
+pub(crate) fn close_all<F: Store>(
     locks: Vec<TurnLock<Held<F>>>,
     seats: Vec<Seat<Held<F>>>,
     shards: &mut Vec<Held<F>>,

@@ -5,8 +5,7 @@ ghost use Rattle.host_table.specs.Seated.{AreInShards-prop};
 
 use crate::host::{Host, SHARDS};
 use crate::pass::Pass;
-use host_core::{CallFault, Caller, Lister, Listing, Receipt};
-use outside::Folder;
+use host_core::{CallFault, Caller, Lister, Listing, Receipt, Store};
 use std::marker::Model;
 use std::snapshot::Snapshot;
 use std::sync::Wait;
@@ -15,7 +14,7 @@ use wopi_text::Memory;
 
 /// A host and a pass of it, by which a thread makes its calls. Each call waits for its shard's turn.
 #[derive(Drop)]
-pub struct Seated<'a, R: Wait, F: Folder> {
+pub struct Seated<'a, R: Wait, F: Store> {
     rt: &'a R,
     host: &'a Host<F>,
     pass: &'a mut Pass<F>,
@@ -27,11 +26,11 @@ pub struct Seated<'a, R: Wait, F: Folder> {
 
 /// What stands behind a pass at its host: the host, the pass's number and weight, and the shards as they were
 /// opened. Contracts alone see it, and no value of it is made.
-pub struct Footing<F: Folder> {
+pub struct Footing<F: Store> {
     start: Snapshot<F>,
 }
 
-impl<F: Folder> Model for Footing<F> {
+impl<F: Store> Model for Footing<F> {
     ghost use Rattle.std.specs.Prelude.{[]};
     ghost use Rattle.host_table.specs.Seated.{Basis};
 
@@ -40,7 +39,7 @@ impl<F: Folder> Model for Footing<F> {
     ghost view = { λ _. record { locks = []; number = 0; weight = 0; bases = [] } };
 }
 
-impl<'a, R: Wait, F: Folder> Seated<'a, R, F> {
+impl<'a, R: Wait, F: Store> Seated<'a, R, F> {
     /// The pass is one of this host.
     pub fn new(rt: &'a R, host: &'a Host<F>, pass: &'a mut Pass<F>) -> Seated<'a, R, F>
         requires { IsPassOf host.now pass.old }
@@ -53,7 +52,7 @@ impl<'a, R: Wait, F: Folder> Seated<'a, R, F> {
     }
 }
 
-impl<R: Wait, F: Folder> Caller for Seated<'_, R, F> {
+impl<R: Wait, F: Store> Caller for Seated<'_, R, F> {
     ghost use Rattle.std.specs.Prelude.{[], ◌∷◌};
     ghost use Rattle.host_table.specs.Passes.{sight_of};
     ghost use Rattle.host_table.specs.Seated.{basis_of, SeesShards};
@@ -78,7 +77,7 @@ impl<R: Wait, F: Folder> Caller for Seated<'_, R, F> {
     }
 }
 
-impl<R: Wait, F: Folder> Lister for Seated<'_, R, F> {
+impl<R: Wait, F: Store> Lister for Seated<'_, R, F> {
     ghost use Rattle.std.specs.Prelude.{[], ◌∷◌};
     ghost use Rattle.host_table.specs.Sights.{home_below, home_reached};
 

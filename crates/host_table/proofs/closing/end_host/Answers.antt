@@ -3,6 +3,7 @@ use Rattle.std.proofs.lemmas.List.Sorted.{IsNonDecreasingBy-from_sort_by_key}
 use Rattle.std.specs.List.{AllByRecursion}
 use Rattle.std.specs.List.Sorted.{IsNonDecreasingBy}
 use Rattle.host_table.specs.declared.journal.Spot.{Spot}
+use Rattle.host_core.specs.Value.{InMemory}
 use Rattle.host_table.specs.Views.{host_of}
 use Rattle.host_table.specs.Passes.{HostView, IsPassOf}
 use Rattle.host_table.specs.Close.{IsWhole, Ends}
@@ -17,23 +18,23 @@ close_all-requires-clause-whole g c = can_close c.join_all-seats.result.items _ 
 pub take_apart-requires-clause-spots : goal.take_apart-requires-clause-spots
 take_apart-requires-clause-spots g c =
     let F = g.row.F.Denot in let host = host_of c.host.inside in let e = c.close_all.ensures.ended in
-    let of = subst (λ (h : HostView F). AllByRecursion (IsPassOf h) c.args.passes.items) (sym c.host.view_is) c.requires.of_host in
+    let of = subst (λ (h : HostView (InMemory F)). AllByRecursion (IsPassOf h) c.args.passes.items) (sym c.host.view_is) c.requires.of_host in
     let sums = shards_sum host c.args.passes.items c.join_all-seats.result.items c.close_all.new.shards.items c.args.room.shards.items e.0 c.host.invariant of c.join_all-seats.ensures.joined c.join_all-seats.ensures.locks e.2 c.requires.shards.0 e.1 in
-    let capacity : host.capacity ≡ c.args.host.capacity = ap (λ (h : HostView F). h.capacity) c.host.view_is in
+    let capacity : host.capacity ≡ c.args.host.capacity = ap (λ (h : HostView (InMemory F)). h.capacity) c.host.view_is in
     let room : 16 * host.capacity ≤ vec_capacity c.args.room.spots = subst (λ n. 16 * n ≤ vec_capacity c.args.room.spots) (sym capacity) c.requires.spots.1 in
     (c.requires.spots.0, subst (λ n. n ≤ vec_capacity c.args.room.spots) (sym sums) room)
 
 pub take_apart-requires-clause-few : goal.take_apart-requires-clause-few
 take_apart-requires-clause-few g c =
     let F = g.row.F.Denot in let host = host_of c.host.inside in let e = c.close_all.ensures.ended in
-    let of = subst (λ (h : HostView F). AllByRecursion (IsPassOf h) c.args.passes.items) (sym c.host.view_is) c.requires.of_host in
+    let of = subst (λ (h : HostView (InMemory F)). AllByRecursion (IsPassOf h) c.args.passes.items) (sym c.host.view_is) c.requires.of_host in
     shards_fit host c.args.passes.items c.join_all-seats.result.items c.close_all.new.shards.items c.args.room.shards.items e.0 c.host.invariant of c.join_all-seats.ensures.joined c.join_all-seats.ensures.locks e.2 c.requires.shards.0 e.1
 
 pub invariant_of-journal : goal.invariant_of-journal
 invariant_of-journal g c =
     let F = g.row.F.Denot in let f = g.F.Folder in let host = host_of c.host.inside in let e = c.close_all.ensures.ended in let joined = c.join_all-seats.ensures in
-    let of = subst (λ (h : HostView F). AllByRecursion (IsPassOf h) c.args.passes.items) (sym c.host.view_is) c.requires.of_host in
-    let whole = subst (λ (h : HostView F). IsWhole h.made c.args.passes.items) (sym c.host.view_is) c.requires.whole in
+    let of = subst (λ (h : HostView (InMemory F)). AllByRecursion (IsPassOf h) c.args.passes.items) (sym c.host.view_is) c.requires.of_host in
+    let whole = subst (λ (h : HostView (InMemory F)). IsWhole h.made c.args.passes.items) (sym c.host.view_is) c.requires.whole in
     let sorted = c.sort_unstable_by_key.new.self.items in
     let up : IsNonDecreasingBy order_of sorted = IsNonDecreasingBy-from_sort_by_key order_of sorted c.sort_unstable_by_key.ensures.sorted (λ a r q k. search rules) in
     let moved = subst (λ (spots : List Spot). IsPermutation spots sorted) c.take_apart.ensures.spots c.sort_unstable_by_key.ensures.permutation in
@@ -49,8 +50,8 @@ invariant_of-journal g c =
 pub returns : goal.returns
 returns g c =
     let F = g.row.F.Denot in let f = g.F.Folder in let host = host_of c.host.inside in let e = c.close_all.ensures.ended in let joined = c.join_all-seats.ensures in
-    let of = subst (λ (h : HostView F). AllByRecursion (IsPassOf h) c.args.passes.items) (sym c.host.view_is) c.requires.of_host in
-    let whole = subst (λ (h : HostView F). IsWhole h.made c.args.passes.items) (sym c.host.view_is) c.requires.whole in
+    let of = subst (λ (h : HostView (InMemory F)). AllByRecursion (IsPassOf h) c.args.passes.items) (sym c.host.view_is) c.requires.of_host in
+    let whole = subst (λ (h : HostView (InMemory F)). IsWhole h.made c.args.passes.items) (sym c.host.view_is) c.requires.whole in
     let sorted = c.sort_unstable_by_key.new.self.items in
     let up : IsNonDecreasingBy order_of sorted = IsNonDecreasingBy-from_sort_by_key order_of sorted c.sort_unstable_by_key.ensures.sorted (λ a r q k. search rules) in
     let moved = subst (λ (spots : List Spot). IsPermutation spots sorted) c.take_apart.ensures.spots c.sort_unstable_by_key.ensures.permutation in
@@ -58,4 +59,4 @@ returns g c =
     (shards_long host c.args.passes.items c.join_all-seats.result.items c.close_all.new.shards.items c.args.room.shards.items e.0 c.host.invariant of joined.joined joined.locks e.2 c.requires.shards.0 e.1)
     of whole joined.joined (shards_ends host c.args.passes.items c.join_all-seats.result.items c.close_all.new.shards.items c.args.room.shards.items e.0 c.host.invariant of joined.joined joined.locks e.2 c.requires.shards.0 e.1)
     c.take_apart.ensures.taken moved up).1 in
-    subst (λ (h : HostView F). Ends f.files f.faults h c.args.passes.items (record { opened = host.opened; first = host.first; parts = c.take_apart.new.pasts.items; merge = merge_of c.take_apart.new.pasts.items sorted }) c.take_apart.new.folders.items) c.host.view_is all
+    subst (λ (h : HostView (InMemory F)). Ends f.files f.faults h c.args.passes.items (record { opened = host.opened; first = host.first; parts = c.take_apart.new.pasts.items; merge = merge_of c.take_apart.new.pasts.items sorted }) c.take_apart.new.folders.items) c.host.view_is all

@@ -1,23 +1,44 @@
-use Rattle.std.proofs.Common.{arith, ap, sym, subst, ◌∙◌, ◌≡◌, ◌+◌, ◌<◌, List, [], ◌∷◌, ◌++◌, length}
+use Rattle.std.proofs.Common.{arith, ap, sym, subst, ◌∙◌, ◌≡◌, ◌+◌, ◌<◌, ◌≤◌, vec_len, vec_capacity, List, [], ◌∷◌, ◌++◌, length}
+use Rattle.std.proofs.lemmas.List.{append-nil}
 use Rattle.std.specs.Vec.Iter.{into_iter_items}
 use Rattle.std.specs.List.{AllByRecursion}
 use Rattle.turn_lock.specs.Places.{total}
-use Rattle.host_core.specs.Value.{Book, Left}
+use Rattle.host_core.specs.Value.{Book, InMemory, Left}
 use Rattle.host_table.specs.declared.journal.Spot.{Spot}
 use Rattle.host_table.specs.Close.{capacity_of, AreTaken}
 use Rattle.host_table.specs.Journal.{spots_from, all_spots}
-use Rattle.host_table.proofs.Ending.{more_done}
+use Rattle.host_table.proofs.Ending.{more_done, nothing_left}
 use Rattle.host_table.proofs.Listing.{all_push, taken_push}
 use Rattle.host_table.proofs.closing.take_apart.Goals as goal
+
+pub loop-held-init : goal.loop-held-init
+loop-held-init g c =
+    let F = g.row.F.Denot in let f = g.F.Folder in let it = c.into_iter-rest.ensures in
+    let long = it.len in let whole = c.args.shards.ok.0 in let many = c.requires.many in
+    let none : vec_len c.args.spots.now ≡ 0 = c.args.spots.now.ok.0 ∙ ap length c.requires.spots.0 in
+    let sums : total capacity_of (into_iter_items c.into_iter-rest.result) ≡ total capacity_of c.args.shards.items = ap (total capacity_of) it.rest in
+    let room' : total capacity_of c.args.shards.items ≤ vec_capacity c.args.spots.now = c.requires.spots.1 in
+    let P : List (Left F) × List F → Type 0 = λ z. AreTaken f.files f.faults [] z.0 z.1 in
+    let both : ([], []) ≡ (c.args.pasts.now.items, c.args.folders.now.items) = λ i. (sym c.requires.pasts.0 i, sym c.requires.folders.0 i) in
+    record {
+      len = it.len ∙ (c.args.shards.ok.0 ∙ sym (ap length it.rest));
+      count = omega (arith, long, whole, many);
+      folders = (c.args.folders.now.ok.0 ∙ ap length c.requires.folders.0, c.requires.folders.1);
+      pasts = (c.args.pasts.now.ok.0 ∙ ap length c.requires.pasts.0, c.requires.pasts.1);
+      room = omega (arith, none, sums, room');
+      few = subst (λ (books : List (Book (InMemory F))). AllByRecursion (λ book. book.capacity < 4294967296) books) (sym it.rest) c.requires.few;
+      spots = c.requires.spots.0 ∙ ap (all_spots 0) (sym c.requires.pasts.0);
+      taken = ([], sym it.rest, subst P both tt);
+    }
 
 pub loop-held-preserved : goal.loop-held-preserved
 loop-held-preserved g c =
     let F = g.row.F.Denot in let f = g.F.Folder in let inv = c.loop-held.invariant in let k = inv.taken in
-    let held : Book F = c.in-Some.held in let part = c.end-folder.result.1 in let folder : F = c.end-folder.result.0 in
+    let held : Book (InMemory F) = c.in-Some.held in let part = c.end-folder.result.1 in let folder : F = c.end-folder.result.0 in
     let rest = into_iter_items c.loop-held.rest in let rest' = into_iter_items c.next.new.self in
     let len = inv.len in let count' = inv.count in let l = c.in-Some.ensures.len in
     let ll : length rest ≡ length rest' + 1 = ap length c.in-Some.ensures.items ∙ omega arith in
-    let few = subst (λ (books : List (Book F)). AllByRecursion (λ book. book.capacity < 4294967296) books) c.in-Some.ensures.items inv.few in
+    let few = subst (λ (books : List (Book (InMemory F))). AllByRecursion (λ book. book.capacity < 4294967296) books) c.in-Some.ensures.items inv.few in
     let taken = c.end-folder.ensures.taken in
     let made : length part.made ≡ length held.made = ap (λ (z : Left F). length z.made) taken.left_is in
     let most = taken.held.few in
@@ -42,3 +63,10 @@ loop-held-preserved g c =
         subst P both (taken_push f.files f.faults k.0 c.loop-held.pasts.items c.loop-held.folders.items held part folder k.2 taken),
       );
     }
+
+pub returns-clause-taken : goal.returns-clause-taken
+returns-clause-taken g c =
+    let F = g.row.F.Denot in let f = g.F.Folder in let inv = c.loop-held.invariant in let k = inv.taken in
+    let none : into_iter_items c.loop-held.rest ≡ [] = nothing_left (into_iter_items c.loop-held.rest) (sym inv.len ∙ c.in_default.ensures.cases.0) in
+    let all : k.0 ≡ c.args.shards.items = sym (k.1 ∙ (ap (λ (z : List (Book (InMemory F))). k.0 ++ z) none ∙ append-nil k.0)) in
+    subst (λ (z : List (Book (InMemory F))). AreTaken f.files f.faults z c.loop-held.pasts.items c.loop-held.folders.items) all k.2

@@ -1,11 +1,11 @@
-use Rattle.std.proofs.Common.{arith, ◌-◌, ap, sym, ◌∙◌}
+use Rattle.std.proofs.Common.{List, ap, ◌∙◌}
+use Rattle.wopi_model.specs.Shard.{Entry, stamps, last_from}
 use Rattle.host_core.specs.Value.{Book}
+use Rattle.host_core.proofs.Timing.{entries-history}
 use Rattle.host_table.specs.Histories.{last_stamp}
-use Rattle.host_table.proofs.Timing.{last_stamp-at}
 use Rattle.host_table.proofs.held.Held.last.Goals as goal
 
-pub returns-in-Some : goal.returns-in-Some
-returns-in-Some g c =
-    let made = c.self.inside.shard.made in let count = c.len-count.ensures in let some = c.if-count-eq0.false in
-    c.stamp.ensures ∙ sym (last_stamp-at (c.len-count.result - 1) made c.in-Some.entry.now (sym c.in-Some.ensures) (omega arith))
-    ∙ ap (λ (b : Book g.row.F.Denot). last_stamp b.made) c.self.view_is
+pub returns : goal.returns
+returns g c =
+    let shard : Book g.row.F.Denot = c.self.inside.shard in
+    c.last.ensures ∙ (ap (λ (es : List Entry). last_from 0 (stamps es)) (entries-history shard.made shard.time) ∙ ap (λ (b : Book g.row.F.Denot). last_stamp b.made) c.self.view_is)
