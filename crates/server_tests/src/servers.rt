@@ -3,7 +3,7 @@ ghost use Rattle.std.specs.Prelude.{◌≤◌};
 ghost use Rattle.wopi_model.specs.Moment.{IsMoment};
 
 use access_tokens::{Keys, Token, read};
-use host_core::{Act, Call, Caller, Shard, Single};
+use host_core::{Act, Call, Caller, Kept, Shard, Single};
 use host_server::{Desk, answer};
 use outside::{Folder, MemFolder};
 use std::alloc::Global;
@@ -38,17 +38,17 @@ fn folder(alloc: Global, names: &[&str]) -> Result<MemFolder, Fail> {
     Ok(folder)
 }
 
-fn over(alloc: Global, capacity: u32, folder: MemFolder) -> Result<Single<MemFolder>, Fail>
+fn over(alloc: Global, capacity: u32, folder: MemFolder) -> Result<Single<Kept<MemFolder>>, Fail>
     requires { (1 ≤ capacity) × (capacity ≤ 32768) }
 {
-    match Shard::start(alloc, folder, None, capacity, 0, 1) {
+    match Shard::start(alloc, Kept::new(alloc, folder), None, capacity, 0, 1) {
         Ok(shard) => Ok(Single::new(shard)),
         Err(_refused) => Err("a shard".into()),
     }
 }
 
 /// A caller over such files.
-fn open(alloc: Global, capacity: u32, names: &[&str]) -> Result<Single<MemFolder>, Fail>
+fn open(alloc: Global, capacity: u32, names: &[&str]) -> Result<Single<Kept<MemFolder>>, Fail>
     requires { (1 ≤ capacity) × (capacity ≤ 32768) }
 {
     over(alloc, capacity, folder(alloc, names)?)
@@ -84,7 +84,7 @@ fn request(alloc: Global, text: &str, headers: &[Header<'_>]) -> Result<Request,
 /// Puts `x` beside the token's file.
 fn put(
     alloc: Global,
-    single: &mut Single<MemFolder>,
+    single: &mut Single<Kept<MemFolder>>,
     text: &str,
     headers: &[Header<'_>],
     moment: u64,
@@ -95,7 +95,7 @@ fn put(
     Ok(answer(alloc, single, &desk(alloc)?, request, moment)?)
 }
 
-fn contents<'a>(single: &'a Single<MemFolder>, name: &[u8]) -> Option<&'a [u8]> {
+fn contents<'a>(single: &'a Single<Kept<MemFolder>>, name: &[u8]) -> Option<&'a [u8]> {
     let name = FileName::read(name).ok()?;
     Some(single.shard().file(&name)?.contents)
 }
@@ -118,7 +118,7 @@ fn an_ending_makes_a_file_beside_the_source(rt: HostRuntime) -> Result<(), Fail>
 /// The status and the reason of an act on `a.csv`.
 fn act(
     alloc: Global,
-    single: &mut Single<MemFolder>,
+    single: &mut Single<Kept<MemFolder>>,
     act: Act,
     moment: u64,
 ) -> Result<(u16, Option<Reason>), Fail>
@@ -135,7 +135,7 @@ fn act(
     }
 }
 
-fn version(single: &Single<MemFolder>) -> Result<u64, Fail> {
+fn version(single: &Single<Kept<MemFolder>>) -> Result<u64, Fail> {
     let name = FileName::read(b"a.csv")?;
     Ok(single.shard().file(&name).ok_or("the file")?.version)
 }
@@ -163,13 +163,13 @@ fn a_suggestion_gets_a_hundred_tries(rt: HostRuntime) -> Result<(), Fail> {
 }
 
 /// A caller over `a.csv`, whose removal fails once.
-fn over_a_failing_removal(alloc: Global) -> Result<Single<MemFolder>, Fail> {
+fn over_a_failing_removal(alloc: Global) -> Result<Single<Kept<MemFolder>>, Fail> {
     let mut folder = MemFolder::new(alloc, Vec::new(alloc), [4u64].as_slice().to_vec(alloc)?);
     folder.replace("a.csv", b"1,2").ok().ok_or("a file")?;
     over(alloc, 4096, folder)
 }
 
-fn is_torn(single: &Single<MemFolder>) -> Result<bool, Fail> {
+fn is_torn(single: &Single<Kept<MemFolder>>) -> Result<bool, Fail> {
     let name = FileName::read(b"a.csv")?;
     Ok(single.shard().file(&name).ok_or("the file")?.torn)
 }

@@ -2,7 +2,7 @@
 ghost use Rattle.std.specs.Prelude.{◌≡◌, ◌^◌, IfOk};
 ghost use Rattle.host_table.specs.Passes.{IsPassOf};
 
-use host_core::{Act, Call, Caller, Receipt};
+use host_core::{Act, Call, Caller, Kept, Receipt};
 use host_table::{
     Host, Journal, Pass, Seated, WriteEnd, WriteRoom, write_journal, write_journal_into,
 };
@@ -20,16 +20,16 @@ mod listing;
 /// An entry's stamp and shard.
 type Spot = (u64, u8);
 
-/// A folder with `a.csv` and `b.csv`.
-fn folder(alloc: Global) -> Result<MemFolder, Fail> {
+/// A store in memory over a folder with `a.csv` and `b.csv`.
+fn folder(alloc: Global) -> Result<Kept<MemFolder>, Fail> {
     let mut folder = MemFolder::new(alloc, Vec::new(alloc), Vec::new(alloc));
     folder.replace("a.csv", b"1,2\n").ok().ok_or("a file")?;
     folder.replace("b.csv", b"3,4\n").ok().ok_or("a file")?;
-    Ok(folder)
+    Ok(Kept::new(alloc, folder))
 }
 
 /// A host over 16 such folders, opened at 0, and its first pass. Its files begin at version 7.
-fn open(alloc: Global) -> Result<(Host<MemFolder>, Pass<MemFolder>), Fail>
+fn open(alloc: Global) -> Result<(Host<Kept<MemFolder>>, Pass<Kept<MemFolder>>), Fail>
     ensures of_host { IfOk result (λ begun. IsPassOf begun.0 begun.1) }
     ensures fresh { IfOk result (λ begun. (begun.0.made ≡ 1) × (begun.1.weight ≡ 2 ^ 62)) }
 {
@@ -81,10 +81,10 @@ fn make<C: Caller>(caller: &mut C, call: Call) -> Option<Spot>
 /// Makes two calls by a pass at its host.
 fn make_two<R: Wait>(
     rt: &R,
-    host: &Host<MemFolder>,
-    mut pass: Pass<MemFolder>,
+    host: &Host<Kept<MemFolder>>,
+    mut pass: Pass<Kept<MemFolder>>,
     calls: [Call; 2],
-) -> (Pass<MemFolder>, [Option<Spot>; 2])
+) -> (Pass<Kept<MemFolder>>, [Option<Spot>; 2])
     requires { IsPassOf host.now pass }
     ensures { IsPassOf host.now result.0 }
 {
@@ -99,8 +99,8 @@ fn make_two<R: Wait>(
 /// Makes a call by a pass at its host.
 fn make_one<R: Wait>(
     rt: &R,
-    host: &Host<MemFolder>,
-    pass: &mut Pass<MemFolder>,
+    host: &Host<Kept<MemFolder>>,
+    pass: &mut Pass<Kept<MemFolder>>,
     call: Call,
 ) -> Option<Spot>
     requires { IsPassOf host.now pass.old }
@@ -115,9 +115,9 @@ fn make_one<R: Wait>(
 /// Closes a host by all its passes.
 fn close(
     alloc: Global,
-    host: Host<MemFolder>,
-    first: Pass<MemFolder>,
-    second: Pass<MemFolder>,
+    host: Host<Kept<MemFolder>>,
+    first: Pass<Kept<MemFolder>>,
+    second: Pass<Kept<MemFolder>>,
 ) -> Result<(Journal<MemFolder>, Vec<MemFolder>), Fail>
     requires first { IsPassOf host first }
     requires second { IsPassOf host second }
@@ -203,8 +203,8 @@ fn a_journal_tells_the_opening_files_and_the_contents(rt: HostRuntime) -> Result
 /// Closes a host by its one pass.
 fn close_one(
     alloc: Global,
-    host: Host<MemFolder>,
-    pass: Pass<MemFolder>,
+    host: Host<Kept<MemFolder>>,
+    pass: Pass<Kept<MemFolder>>,
 ) -> Result<Journal<MemFolder>, Fail>
     requires { IsPassOf host pass }
 {

@@ -24,8 +24,8 @@ fn list_all<L: Lister>(alloc: Global, lister: &mut L) -> Result<Vec<Listing>, Fa
 /// Looks at a shard by a pass of its host.
 fn look_at<R: Wait>(
     rt: &R,
-    host: &Host<MemFolder>,
-    pass: &mut Pass<MemFolder>,
+    host: &Host<Kept<MemFolder>>,
+    pass: &mut Pass<Kept<MemFolder>>,
     shard: u8,
 ) -> Result<Listing, Memory>
     requires of_host { IsPassOf host.now pass.old }
