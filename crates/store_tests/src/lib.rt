@@ -16,6 +16,4 @@ mod locks;
 #[cfg(test)]
 mod shards;
 #[cfg(test)]
-mod stores;
-#[cfg(test)]
 mod tokens;
