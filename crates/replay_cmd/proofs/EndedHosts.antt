@@ -5,7 +5,7 @@ use Rattle.wopi_model.specs.Shard.{Shard, Opening, Tick, Step}
 use Rattle.wopi_model.specs.Shard as run
 use Rattle.wopi_model.proofs.Histories.{after-append}
 use Rattle.host_core.specs.Opening.{opened_contents}
-use Rattle.host_core.specs.Value.{Book, Left}
+use Rattle.host_core.specs.Value.{Book, InMemory, Left}
 use Rattle.wopi_world.specs.History.{Item, Ran, Restarted, restarted, after, ran_from, last_run}
 use Rattle.wopi_world.specs.World as in_world
 use Rattle.wopi_world.specs.World.{Setting, World, Event, comes, entry_of, first_shard}
@@ -92,7 +92,7 @@ past_more (other ∷ pasts) [] past host h one = absurd h
 past_more (other ∷ pasts) (another ∷ hosts) past host h one = (h.0, past_more pasts hosts past host h.1 one)
 
 -- at a restart one more comes, from the host that ends
-pub hosts_more : {F : Type 0} (start : Shard) (pasts : List (Left F)) (book book' : Book F) (world : World) (moment first next : ℕ)
+pub hosts_more : {F : Type 0} (start : Shard) (pasts : List (Left F)) (book book' : Book (InMemory F)) (world : World) (moment first next : ℕ)
     → after start world.history ≡ world.shard → StandsFor book world → Reopens book moment first book' → ShowsHosts start pasts book.opening world.history
     → ShowsHosts start (pasts ++ past_left_by book ∷ []) book'.opening (world.history ++ Restarted moment next ∷ [])
 hosts_more start pasts book book' world moment first next leaves stands reopens shows =

@@ -4,7 +4,7 @@ use Rattle.wopi_model.specs.Shard.{Shard, Opening, entries}
 use Rattle.wopi_model.specs.Shard as run
 use Rattle.host_core.specs.Entries.{items_of}
 use Rattle.host_core.specs.Opening.{opened_contents}
-use Rattle.host_core.specs.Value.{Book, Left}
+use Rattle.host_core.specs.Value.{Book, InMemory, Left}
 use Rattle.wopi_world.specs.History.{Item, Ran, Restarted, restarted}
 
 -- a host that ended: the shard as it was when the host opened, and what ran in it
@@ -47,5 +47,5 @@ pub record ShowsHosts {F : Type 0} (start : Shard) (pasts : List (Left F)) (open
   pub over : IsOver opening (began_from start [] history)
 
 -- what a shard leaves
-abbrev pub past_left_by : {F : Type 0} → Book F → Left F
-past_left_by book = record { opening = book.opening; made = book.made; start = book.start }
+abbrev pub past_left_by : {F : Type 0} → Book (InMemory F) → Left F
+past_left_by book = record { opening = book.opening; made = book.made; start = book.start.folder }

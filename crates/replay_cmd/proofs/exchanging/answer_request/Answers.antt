@@ -1,5 +1,5 @@
 use Rattle.std.proofs.Common.{Ok, ◌∙◌, subst}
-use Rattle.host_core.specs.Value.{Book}
+use Rattle.host_core.specs.Value.{Book, InMemory}
 use Rattle.host_core.specs.Single.{sight_of, SeesItsOwn}
 use Rattle.host_server.specs.Turns.{Answers}
 use Rattle.host_server.specs.Answering.{Ruled}
@@ -12,7 +12,7 @@ pub returns-clause-asked : goal.returns-clause-asked
 returns-clause-asked c =
     let new = c.answer.new.caller in
     let a = c.in_ok-answer.answer in
-    let answers = subst (λ (b : Book FaultlessFolder). Answers c.args.desk.now c.args.request c.args.moment SeesItsOwn (sight_of b) (sight_of new.shard) (Ok a))
+    let answers = subst (λ (b : Book (InMemory FaultlessFolder)). Answers c.args.desk.now c.args.request c.args.moment SeesItsOwn (sight_of b) (sight_of new.shard) (Ok a))
     c.begin.ensures.shard c.in_ok-answer.ensures.answers in
     λ ask body asks same.
     let tells : Tells (Ruled c.args.desk.now ask body c.args.moment) SeesItsOwn (sight_of c.args.host.now.shard) (sight_of new.shard) (Ok a) = (
@@ -27,5 +27,5 @@ returns-clause-asked c =
 pub returns-clause-answers : goal.returns-clause-answers
 returns-clause-answers c =
     let new = c.answer.new.caller in
-    subst (λ (b : Book FaultlessFolder). Answers c.args.desk.now c.args.request c.args.moment SeesItsOwn (sight_of b) (sight_of new.shard) (Ok c.in_ok-answer.answer))
+    subst (λ (b : Book (InMemory FaultlessFolder)). Answers c.args.desk.now c.args.request c.args.moment SeesItsOwn (sight_of b) (sight_of new.shard) (Ok c.in_ok-answer.answer))
     c.begin.ensures.shard c.in_ok-answer.ensures.answers

@@ -1,5 +1,5 @@
 use Rattle.std.proofs.Common.{◌≡◌, ◌-◌, ℕ, sym, ap, ◌∙◌}
-use Rattle.host_core.specs.Value.{state_of}
+use Rattle.host_core.specs.Value.{InMemory, state_of}
 use Rattle.replay_cmd.specs.declared.faultless.FaultlessFolder.{FaultlessFolder}
 use Rattle.replay_cmd.specs.Hosts.{Watch}
 use Rattle.replay_cmd.proofs.Greatest.{greatest_next, not_past, state_first}
@@ -8,7 +8,7 @@ use Rattle.replay_cmd.proofs.watched.Watched.greatest.Goals as goal
 pub loop-place-init : goal.loop-place-init
 loop-place-init c =
     let book = c.args.self.now.shard in
-    let first : c.self.inside.first ≡ c.args.self.now.shard.first = c.self.invariant.2 ∙ ap (λ (w : Watch FaultlessFolder). w.shard.first) c.self.view_is in
+    let first : c.self.inside.first ≡ c.args.self.now.shard.first = c.self.invariant.2 ∙ ap (λ (w : Watch (InMemory FaultlessFolder)). w.shard.first) c.self.view_is in
     c.saturating_sub-greatest.ensures ∙ ap (λ (n : ℕ). n - 1) (first ∙ sym (state_first book))
 
 pub unreachable-requires : goal.unreachable-requires
