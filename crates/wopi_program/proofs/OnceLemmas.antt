@@ -1,10 +1,11 @@
 -- From a shard that was served to a run of `once`.
 use Rattle.std.proofs.Common.{◌≡◌, ◌≢◌, ℕ, Bool, false, List, [], ◌++◌, map, Option, None, refl, sym, ap, ◌∙◌, subst, inl, inr, arith}
 use Rattle.outside.specs.Clock.{Gives}
+use Rattle.outside.specs.Folder.{Files}
 use Rattle.wopi_model.specs.Shard.{Opening, Item, Step, Entry, Legal, entries}
 use Rattle.host_core.specs.Entries.{Made, items_of}
 use Rattle.host_core.specs.Times.{untimed, happened_of}
-use Rattle.host_core.specs.Value.{Book, IsLawful}
+use Rattle.host_core.specs.Value.{Book, InMemory, IsLawful}
 use Rattle.host_core.specs.Opening.{IsOpening, Fits}
 use Rattle.host_core.specs.Single.{sight_of, sees_its_own, SeesItsOwn}
 use Rattle.host_server.specs.declared.desk.Desk.{Desk}
@@ -17,9 +18,13 @@ use Rattle.wopi_program.specs.declared.once.OnceEnd.{OnceEnd}
 use Rattle.wopi_program.specs.declared.once.OnceEnd.TheVariants.{Served, FolderFault, TooLarge, Memory}
 use Rattle.wopi_program.specs.Files.{AreShownIn}
 use Rattle.wopi_program.specs.Meanings.{Meanings}
-use Rattle.wopi_program.specs.Once.{IsFresh, ServesShard, OpensAndServes, OnceRuns, OnceRunsIn, Untouched, Finishes, OnceEnds}
+use Rattle.wopi_program.specs.Once.{over_folder, IsFresh, ServesShard, OpensAndServes, OnceRuns, OnceRunsIn, Untouched, Finishes, OnceEnds}
 use Rattle.access_tokens.specs.declared.keys.Keys.{Keys}
 use Rattle.wopi_program.proofs.ListingLemmas.{all_shown}
+
+-- what is lawful over a store is so over its folder
+pub lawful_over : {F : Type 0} (book : Book (InMemory F)) (start now : Option Files) (began count : ℕ) → IsLawful book start now began count → IsLawful (over_folder book) start now began count
+lawful_over book start now began count l = record { legal = l.legal; folder = l.folder; faults = l.faults; timely = l.timely; alone = l.alone }
 
 module _ {S K F N D C L : Type 0} (m : Meanings S K F N D C L) where
   pub shard_serves : (desk : Desk) (end : ConnEnd) (first began ended last : Book F) (folder : F) (clock clock' : C) (old new : Outside S K F N D C)
@@ -100,6 +105,28 @@ module _ {S K F N D C L : Type 0} (m : Meanings S K F N D C L) where
         (subst (λ (n : ℕ). AreShownIn first.opening first.opened n [] serves.serves.deeds) (ap (λ (b : Book F). b.first) book)
         (shown_alone desk end first folder' mid clock' old new (ap (λ (b : Book F). b.made) book) (ap (λ (b : Book F). b.ticked) book) serves));
   }
+
+  -- the same where the shard was opened over a store round the folder
+  pub kept_and_served : (desk : Desk) (keys : Keys) (base : List ℕ) (opened : ℕ) (end : ConnEnd) (folder kept folder' : F) (clock mid clock' : C) (old new : Outside S K F N D C)
+      (first : Book F) → kept ≡ folder → desk.keys ≡ keys → desk.base ≡ base → desk.opened ≡ opened → Gives (m.work.moments clock) (m.work.moments mid) opened
+      → first ≡ record {
+        only = None;
+        opening = first.opening;
+        opened = opened;
+        first = 1;
+        capacity = 4096;
+        made = [];
+        time = opened;
+        ticked = false;
+        start = kept;
+        folder = first.folder;
+      }
+      → IsOpening None (m.files kept) first.opening → Fits first.opening
+      → ServesShard m desk end first folder' mid clock' old new
+      → OpensAndServes m keys base end folder folder' clock clock' old new
+  kept_and_served desk keys base opened end folder kept folder' clock mid clock' old new first same keys_are base_is opened_is times book opening fits serves =
+      subst (λ (f : F). OpensAndServes m keys base end f folder' clock clock' old new) same
+      (opens_and_serves desk keys base opened end kept folder' clock mid clock' old new first keys_are base_is opened_is times book opening fits serves)
 
   -- a run speaks of the streams alone, and of the folder and the clock that it was given
   module _ (keys : Keys) (base : List ℕ) (folder folder' : F) (clock clock' : C) (old new old' new' : Outside S K F N D C)

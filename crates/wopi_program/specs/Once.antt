@@ -7,7 +7,7 @@ use Rattle.wopi_text.specs.Ids.{id_of}
 use Rattle.wopi_model.specs.Shard.{Step, Legal}
 use Rattle.host_core.specs.declared.opening.StartFault.{StartFault}
 use Rattle.host_core.specs.declared.opening.StartFault.TheVariants as start
-use Rattle.host_core.specs.Value.{Book, IsLawful}
+use Rattle.host_core.specs.Value.{Book, InMemory, IsLawful}
 use Rattle.host_core.specs.Opening.{IsOpening, Fits, IsTooLarge}
 use Rattle.host_core.specs.Single.{sight_of, SeesItsOwn}
 use Rattle.host_server.specs.declared.desk.Desk.{Desk}
@@ -57,6 +57,21 @@ Finishes held count status old new Memory = (status ≡ 6) × NotesFor held coun
 abbrev pub Untouched : {S K F N D C : Type 0} → OnceEnd → Outside S K F N D C → Outside S K F N D C → Type 0
 Untouched (Served end) old new = ⊤
 Untouched end old new = (new.input ≡ old.input) × (new.output ≡ old.output)
+
+-- a shard, over the folder of its store
+abbrev pub over_folder : {F : Type 0} → Book (InMemory F) → Book F
+over_folder book = record {
+  only = book.only;
+  opening = book.opening;
+  opened = book.opened;
+  first = book.first;
+  capacity = book.capacity;
+  made = book.made;
+  time = book.time;
+  ticked = book.ticked;
+  start = book.start.folder;
+  folder = book.folder.folder;
+}
 
 module _ {S K F N D C L : Type 0} (m : Meanings S K F N D C L) where
   -- A shard that was opened over a folder at a moment: its files, at version 1, and no entry yet.

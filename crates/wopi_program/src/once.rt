@@ -6,14 +6,15 @@ ghost use Rattle.access_tokens.specs.Addresses.{is_base};
 ghost use Rattle.host_server.specs.Connection.{Serves};
 ghost use Rattle.wopi_program.specs.Words.{IsRow};
 ghost use Rattle.wopi_program.specs.Notes.{NotesFor};
-ghost use Rattle.wopi_program.specs.Once.{OnceEnds, ServesShard, OnceRuns, OnceRunsIn, Untouched, end_of, Finishes, TooLargeEnds, too_large_line, status_of};
+ghost use Rattle.wopi_program.specs.Once.{OnceEnds, ServesShard, OnceRuns, OnceRunsIn, Untouched, end_of, Finishes, TooLargeEnds, too_large_line, over_folder, status_of};
 
 use crate::once_words::once_words;
 use crate::telling::want;
 use crate::{Command, Meant, Outside, note};
 use access_tokens::Keys;
-use host_core::{Shard, Single, StartFault};
+use host_core::{Kept, Shard, Single, StartFault, leave};
 use host_server::{ConnEnd, Desk, serve_connection};
+use host_table::free;
 use outside::{Clock, Dialer, Folder, Lent, Listener, Sink, Source};
 use std::alloc::Global;
 use wopi_text::{Bytes, FileName, Memory, id_text};
@@ -37,7 +38,7 @@ pub enum OnceEnd {
 fn serve<S: Source, K: Sink, F: Folder, C: Clock>(
     alloc: Global,
     desk: &Desk,
-    single: &mut Single<F>,
+    single: &mut Single<Kept<F>>,
     source: &mut S,
     sink: &mut K,
     clock: &mut C,
@@ -58,12 +59,12 @@ fn serve<S: Source, K: Sink, F: Folder, C: Clock>(
 fn serve_over<S: Source, K: Sink, F: Folder, N: Listener, D: Dialer, C: Clock>(
     alloc: Global,
     desk: &Desk,
-    shard: Shard<F>,
+    shard: Shard<Kept<F>>,
     clock: &mut C,
     outside: &mut Outside<S, K, F, N, D, C>,
 ) -> (F, ConnEnd)
     requires { shard.only ≡ None }
-    ensures serves { ServesShard ⟦<Outside<S, K, F, N, D, C> as Meant<S, K, F, N, D, C, N::Link>>⟧.meanings desk.now result.1 shard result.0 clock.old clock.new outside.old outside.new }
+    ensures serves { ServesShard ⟦<Outside<S, K, F, N, D, C> as Meant<S, K, F, N, D, C, N::Link>>⟧.meanings desk.now result.1 (over_folder shard) result.0 clock.old clock.new outside.old outside.new }
     ensures others { outside.new ≡ record outside.old { input = outside.new.input; output = outside.new.output } }
     ensures fine { result.1 ≢ ConnEnd.ReadFault → S.read_faults outside.new.input ≡ S.read_faults outside.old.input }
     ensures read_fault { result.1 ≡ ConnEnd.ReadFault → Rose (S.read_faults outside.old.input) (S.read_faults outside.new.input) }
@@ -80,7 +81,7 @@ fn serve_over<S: Source, K: Sink, F: Folder, N: Listener, D: Dialer, C: Clock>(
         clock,
     );
     let shard = single.end();
-    let (folder, _past) = shard.end();
+    let (folder, _past) = leave(shard);
     (folder, end)
 }
 
@@ -115,14 +116,15 @@ fn once_over<S: Source, K: Sink, F: Folder, N: Listener, D: Dialer, C: Clock>(
 {
     let opened = clock.now();
     let desk = Desk::new(keys, base, opened);
-    match Shard::start(alloc, folder, None, CAPACITY, opened, 1) {
+    let store = Kept::new(alloc, folder);
+    match Shard::start(alloc, store, None, CAPACITY, opened, 1) {
         Ok(shard) => {
             let (folder, end) = serve_over(alloc, &desk, shard, clock, outside);
             (folder, OnceEnd::Served(end))
         }
         Err(refused) => {
-            let (folder, fault) = refused;
-            (folder, end_of(fault))
+            let (store, fault) = refused;
+            (free(store), end_of(fault))
         }
     }
 }

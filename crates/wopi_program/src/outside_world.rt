@@ -1,6 +1,7 @@
 //! What the program meets.
 ghost use Rattle.wopi_program.specs.Meanings.{Meanings};
 
+use host_core::Kept;
 use host_server::{WorkMeant, Worker};
 use outside::{Clock, Dialer, Folder, Listener, Sink, Source};
 
@@ -41,7 +42,7 @@ impl<S: Source, K: Sink, F: Folder, N: Listener, D: Dialer, C: Clock> Meant<
       write_faults = K.write_faults;
       files = F.files;
       folder_faults = F.faults;
-      work = ⟦<Worker<N, C, F> as WorkMeant<N, N::Link, C>>⟧.meanings;
+      work = ⟦<Worker<N, C, Kept<F>> as WorkMeant<N, N::Link, C>>⟧.meanings;
       exchanges = D.exchanges;
       dialer_faults = D.faults;
     } };

@@ -1,8 +1,10 @@
-use Rattle.wopi_program.proofs.OnceLemmas.{opens_and_serves}
+use Rattle.std.proofs.Common.{ap}
+use Rattle.wopi_program.specs.Once.{over_folder}
+use Rattle.wopi_program.proofs.OnceLemmas.{kept_and_served}
 use Rattle.wopi_program.proofs.once.once_over.Goals as goal
 
 pub returns-in-Ok-clause-runs : goal.returns-in-Ok-clause-runs
 returns-in-Ok-clause-runs g c =
-    opens_and_serves _ c.new-desk.result c.args.keys c.args.base c.now-opened.result c.serve_over-folder.result.1 c.args.folder c.serve_over-folder.result.0 _ _ _ _ _
-    c.in-Ok.shard c.new-desk.ensures.keys c.new-desk.ensures.base c.new-desk.ensures.opened c.now-opened.ensures.told
-    c.in-Ok.ensures.opened c.in-Ok.ensures.opening c.in-Ok.ensures.fits c.serve_over-folder.ensures.serves
+    kept_and_served _ c.new-desk.result c.args.keys c.args.base c.now-opened.result c.serve_over-folder.result.1 c.args.folder c.new-store.result.folder c.serve_over-folder.result.0 _ _ _ _ _
+    (over_folder c.in-Ok.shard) c.new-store.ensures.folder c.new-desk.ensures.keys c.new-desk.ensures.base c.new-desk.ensures.opened c.now-opened.ensures.told
+    (ap over_folder c.in-Ok.ensures.opened) c.in-Ok.ensures.opening c.in-Ok.ensures.fits c.serve_over-folder.ensures.serves

@@ -14,11 +14,12 @@ returns-in-Err-clause-runs g c =
 
 pub serve_opened-requires-clause-first : goal.serve_opened-requires-clause-first
 serve_opened-requires-clause-first g c κs within =
-    let fact = ready_at_start g.F.Folder.files g.F.Folder.faults c.replace-folders.result.items c.args.ask.capacity c.first_moment-opened.result c.args.ask.first c.in-Ok-start.begun.0 c.in-Ok-start.begun.1 c.in-Ok-start.ensures.starts in
+    let kept = c.in-Ok-keep.ensures.starts in
+    let fact = ready_at_start _ _ kept.stores c.args.ask.capacity c.first_moment-opened.result c.args.ask.first c.in-Ok-keep.begun.0 c.in-Ok-keep.begun.1 kept.starts in
     search (rules, fact)
 
-pub returns-in-Ok-start-clause-runs : goal.returns-in-Ok-start-clause-runs
-returns-in-Ok-start-clause-runs g c =
-    runs _ c.args.keys c.args.base c.args.ask c.new-desk.result c.first_moment-opened.result c.in-Ok-start.begun.0 c.in-Ok-start.begun.1 _ _ _
+pub returns-in-Ok-keep-clause-runs : goal.returns-in-Ok-keep-clause-runs
+returns-in-Ok-keep-clause-runs g c =
+    runs _ c.args.keys c.args.base c.args.ask c.new-desk.result c.first_moment-opened.result c.in-Ok-keep.begun.0 c.in-Ok-keep.begun.1 _ _ _
     c.new-desk.ensures.keys c.new-desk.ensures.base c.new-desk.ensures.opened c.first_moment-opened.ensures.opens refl refl
-    c.replace-folders.result.items (λ i. (c.replace-folders.ensures.value i).items) c.in-Ok-start.ensures.starts c.serve_opened.result c.serve_opened.ensures.runs
+    c.replace-folders.result.items (λ i. (c.replace-folders.ensures.value i).items) c.in-Ok-keep.ensures.starts c.serve_opened.result c.serve_opened.ensures.runs
