@@ -10,7 +10,7 @@ use Rattle.wopi_model.proofs.Conflicts.{tells_why}
 use Rattle.wopi_model.proofs.Replacing.{Along-weaker, keeps_contents}
 use Rattle.host_core.specs.Entries.{Made}
 use Rattle.host_core.specs.Times.{IsTimely, steps_of}
-use Rattle.host_core.specs.Value.{Book, Left}
+use Rattle.host_core.specs.Value.{InMemory, Book, Left}
 use Rattle.host_table.specs.Close.{AreEnded, Ends}
 use Rattle.host_table.specs.Journal.{AreParts, JournalView, openings}
 use Rattle.host_table.specs.Passes.{AreBases, HostView, IsHost, PassView}
@@ -93,7 +93,7 @@ tells_host text keeps =
 -- ---- a host's journal
 
 module _ {F : Type 0} (files : F → Option Files) (faults : F → ℕ) where
-  timely_from : (opened first capacity shard n : ℕ) (merge : List Made) (bases : List (Book F)) (parts : List (Left F)) (folders : List F) → AreBases opened first capacity shard bases →
+  timely_from : (opened first capacity shard n : ℕ) (merge : List Made) (bases : List (Book (InMemory F))) (parts : List (Left F)) (folders : List F) → AreBases opened first capacity shard bases →
       AreParts merge shard parts → AreEnded files faults bases parts folders → shard ≤ n → n < shard + length bases → IsTimely opened (made_in n merge)
   timely_from opened first capacity shard n merge [] parts folders are these ended le less = absurd (omega (arith, le, less))
   timely_from opened first capacity shard n merge (base ∷ bases) [] [] are these ended le less = absurd ended
@@ -107,7 +107,7 @@ module _ {F : Type 0} (files : F → Option Files) (faults : F → ℕ) where
       subst (λ (l : List Made). IsTimely opened l) (these.0 ∙ ap (λ k. made_in k merge) e) here)
       (λ apart. timely_from opened first capacity (shard + 1) n merge bases parts folders are.1 these.1 ended.1 (omega (arith, le, apart)) (omega (arith, less)))
 
-  pub journal_is_legal : (host : HostView F) (passes : List (PassView F)) (journal : JournalView F) (folders : List F) → IsHost host → Ends files faults host passes journal folders → LegalText (told_by journal)
+  pub journal_is_legal : (host : HostView (InMemory F)) (passes : List (PassView (InMemory F))) (journal : JournalView F) (folders : List F) → IsHost host → Ends files faults host passes journal folders → LegalText (told_by journal)
   journal_is_legal host passes journal folders is ends =
       let many = is.many in
       let timely : AreTimely (λ shard. journal.opened) journal.merge = λ n small.

@@ -2,6 +2,7 @@
 ghost use Rattle.std.specs.Prelude.{◌≡◌, ◌↔◌, ◌++◌, ℕ, List, map};
 ghost use Rattle.std.specs.List.{AllByRecursion};
 ghost use Rattle.host_core.specs.Entries.{Made};
+ghost use Rattle.host_core.specs.Value.{InMemory};
 ghost use Rattle.host_table.specs.Close.{Ends};
 ghost use Rattle.host_table.specs.Journal.{JournalView};
 ghost use Rattle.host_table.specs.Passes.{HostView, IsHost, PassView};
@@ -41,7 +42,7 @@ pub fn legal_texts_tell_hosts()
 
 /// What `write_journal` writes of a host's journal reads as a legal one.
 pub fn journals_are_legal<F: Folder>()
-    ensures { (host : HostView F) (passes : List (PassView F)) (journal : JournalView F) (folders : List F) → IsHost host → Ends F.files F.faults host passes journal folders → LegalText (told_by journal) }
+    ensures { (host : HostView (InMemory F)) (passes : List (PassView (InMemory F))) (journal : JournalView F) (folders : List F) → IsHost host → Ends F.files F.faults host passes journal folders → LegalText (told_by journal) }
 {}
 
 /// Of the entries that a legal journal tells, each shard's part keeps non-empty contents: they change only by an
