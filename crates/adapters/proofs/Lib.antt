@@ -1,1 +1,2 @@
-mod Sorted
+pub mod ListenerLemmas
+pub mod Sorted

@@ -1,1 +1,3 @@
 pub mod Limits
+pub mod Stopping
+pub mod Telling

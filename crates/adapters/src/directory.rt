@@ -44,6 +44,8 @@ pub struct DirFolder<'a, R> {
     // What the last fault was, and at which path.
     cause: Option<io::Error>,
     place: String,
+    // How long the file at `path` was, where the last call read one.
+    seen: Option<u64>,
     ghost path_fits: { string_len folder + 256 ≤ string_capacity path },
     ghost temporary_fits: { string_len folder + 256 ≤ string_capacity temporary },
     ghost place_fits: { string_len folder + 256 ≤ string_capacity place },
@@ -55,6 +57,14 @@ pub struct Cause<'a> {
     /// The path of the folder, or that of the file in it.
     pub path: &'a str,
     pub error: io::Error,
+}
+
+/// A file that was read.
+#[derive(Clone, Copy, Debug, PartialEq, Eq)]
+pub struct LastRead<'a> {
+    pub path: &'a str,
+    /// How many bytes it had.
+    pub len: u64,
 }
 
 impl<'a, R: Files> DirFolder<'a, R> {
@@ -70,6 +80,7 @@ impl<'a, R: Files> DirFolder<'a, R> {
             faults: 0,
             cause: None,
             place: String::with_capacity(alloc, room)?,
+            seen: None,
         })
     }
 
@@ -84,6 +95,17 @@ impl<'a, R: Files> DirFolder<'a, R> {
         }
     }
 
+    /// The file that the last call read, also where it was longer than asked for; none where it read none.
+    pub fn last_read(&self) -> Option<LastRead<'_>> {
+        match self.seen {
+            Some(len) => Some(LastRead {
+                path: self.path.as_str(),
+                len,
+            }),
+            None => None,
+        }
+    }
+
     // Counts a fault at the path of the call.
     fn fault(&mut self, error: io::Error) -> OutFault
         ensures rose { Rose self.old.faults self.new.faults }
@@ -91,6 +113,7 @@ impl<'a, R: Files> DirFolder<'a, R> {
     {
         self.faults = self.faults.saturating_add(1);
         self.cause = Some(error);
+        self.seen = None;
         mem::swap(&mut self.path, &mut self.place);
         if error.kind() == ErrorKind::OutOfMemory {
             OutFault::Memory
@@ -102,17 +125,23 @@ impl<'a, R: Files> DirFolder<'a, R> {
     fn read_file(&mut self, name: &str, most: usize) -> io::Result<FolderRead>
         ensures { self.new.faults ≡ self.old.faults }
     {
+        self.seen = None;
         if !is_name(name) {
             return Ok(FolderRead::Absent);
         }
         join(&mut self.path, &self.folder, "", name, "");
-        contents_of(self.rt, self.alloc, &self.path, most)
+        let Some(found) = plain_file(self.rt, &self.path)? else {
+            return Ok(FolderRead::Absent);
+        };
+        self.seen = Some(found.len());
+        contents_of(self.rt, self.alloc, &self.path, found.len(), most)
     }
 
     // Up to the rename, which is yet to be made last.
     fn replace_file(&mut self, name: &str, contents: &[u8]) -> io::Result<()>
         ensures { self.new.faults ≡ self.old.faults }
     {
+        self.seen = None;
         if !is_name(name) {
             self.path.clear();
             return Err(io::Error::from(ErrorKind::InvalidFilename));
@@ -125,6 +154,7 @@ impl<'a, R: Files> DirFolder<'a, R> {
     fn remove_file(&mut self, name: &str) -> io::Result<()>
         ensures { self.new.faults ≡ self.old.faults }
     {
+        self.seen = None;
         if !is_name(name) {
             return Ok(());
         }
@@ -143,6 +173,7 @@ impl<'a, R: Files> Folder for DirFolder<'a, R> {
     ghost faults = { λ f. f.faults };
 
     fn list(&mut self) -> Result<Names, OutFault> {
+        self.seen = None;
         self.path.clear();
         append(&mut self.path, &self.folder);
         match names_in(self.rt, self.alloc, &self.folder) {
@@ -259,16 +290,19 @@ fn in_order(alloc: Global, found: BTreeSet<String>) -> Result<Names, Memory>
     Ok(names)
 }
 
-// The bytes of a plain file.
-fn contents_of<R: Files>(rt: &R, alloc: Global, path: &str, most: usize) -> io::Result<FolderRead> {
-    let Some(found) = plain_file(rt, path)? else {
-        return Ok(FolderRead::Absent);
-    };
-    if found.len() > most as u64 {
+// The bytes of a plain file that was found to be so long.
+fn contents_of<R: Files>(
+    rt: &R,
+    alloc: Global,
+    path: &str,
+    len: u64,
+    most: usize,
+) -> io::Result<FolderRead> {
+    if len > most as u64 {
         return Ok(FolderRead::TooLong);
     }
     let mut file = File::open(rt, path)?;
-    match read_up_to(alloc, &mut file, found.len() as usize, most)? {
+    match read_up_to(alloc, &mut file, len as usize, most)? {
         Some(bytes) => Ok(FolderRead::Whole(Bytes::from_vec(bytes))),
         None => Ok(FolderRead::TooLong),
     }

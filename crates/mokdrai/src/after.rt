@@ -1,33 +1,13 @@
 //! What is told on the notes once a command has ended: why, and that it has.
 use crate::making::Unbound;
-use adapters::DirFolder;
+use adapters::{DirFolder, cause_line, folder_line, too_large_line};
 use outside::Sink;
 use std::alloc::Global;
 use std::fs::Files;
-use std::io;
 use wopi_program::note;
 use wopi_text::Memory;
 
-/// The line that tells why something failed.
-fn cause_line(alloc: Global, what: &str, error: io::Error) -> Result<String, Memory> {
-    let line = format!(in alloc; "{what}: {error}\n")?;
-    Ok(line)
-}
-
-/// That of the first folder that failed.
-fn folder_line<R: Files>(
-    alloc: Global,
-    folders: &[DirFolder<'_, R>],
-) -> Result<Option<String>, Memory> {
-    for folder in folders {
-        if let Some(cause) = folder.cause() {
-            return Ok(Some(cause_line(alloc, cause.path, cause.error)?));
-        }
-    }
-    Ok(None)
-}
-
-/// That of a socket that could not be bound.
+/// The line of a socket that could not be bound.
 fn socket_line(alloc: Global, unbound: Option<&Unbound>) -> Result<Option<String>, Memory> {
     match unbound {
         Some(unbound) => Ok(Some(cause_line(alloc, unbound.address.as_str(), unbound.error)?)),
@@ -48,7 +28,8 @@ pub(crate) struct End<'a> {
 }
 
 impl<'a> End<'a> {
-    /// The line that tells why a folder failed or a socket couldn't be bound. Where memory is wanting for it, there is none.
+    /// The line that tells why a folder failed, is too large, or a socket couldn't be bound. Where memory is wanting for it,
+    /// there is none.
     pub(crate) fn cause<R: Files>(
         &self,
         alloc: Global,
@@ -57,6 +38,7 @@ impl<'a> End<'a> {
         let line = match self.status {
             5 => folder_line(alloc, folders),
             10 => socket_line(alloc, self.unbound),
+            12 => too_large_line(alloc, folders),
             _ => Ok(None),
         };
         match line {

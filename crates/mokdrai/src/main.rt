@@ -10,15 +10,12 @@ mod after;
 mod around;
 mod making;
 mod reading;
-mod sharing;
-mod stopping;
 
 use crate::after::End;
 use crate::around::Around;
 use crate::making::{Streams, world};
 use crate::reading::understand;
-use crate::stopping::{stop_path, wake_path};
-use adapters::{StdSink, StdSource};
+use adapters::{StdSink, StdSource, stop_path, wake_path};
 use std::alloc::Global;
 use std::env::{self, Args, Env};
 use std::io::{self, ErrorKind, IsTerminal, Stderr};

@@ -4,9 +4,10 @@ ghost use Rattle.std.specs.List.{AllByRecursion};
 ghost use Rattle.wopi_program.specs.Asking.{IsEditAt, IsOnceOver, IsServeOver};
 
 use crate::around::Around;
-use crate::sharing::{Ready, SharedListener, SharedSocket, bind, close_later, share};
-use crate::stopping::{StopListener, until_stopped};
-use adapters::{DirFolder, SystemClock, TcpDialer, TcpListen};
+use adapters::{
+    DirFolder, Ready, SharedListener, SharedSocket, StopListener, SystemClock, TcpDialer,
+    TcpListen, bind, close_later, ready_line, share, until_stopped,
+};
 use std::alloc::Global;
 use std::fs::{File, Files};
 use std::io::{self, Stderr};
@@ -122,10 +123,7 @@ fn address_of(alloc: Global, listen: &str, port: u32) -> Result<String, Memory>
 /// What tells on the notes, where it is to, that the address is listened at.
 fn ready_at(alloc: Global, notes: Option<Stderr>, address: &str) -> Result<Option<Ready>, Memory> {
     match notes {
-        Some(notes) => {
-            let line = format!(in alloc; "ready at {address}\n")?;
-            Ok(Some(Ready::new(notes, line)))
-        }
+        Some(notes) => { Ok(Some(Ready::new(notes, ready_line(alloc, address)?))) }
         None => Ok(None),
     }
 }

@@ -1,7 +1,7 @@
 use Rattle.std.proofs.Common.{◌≡◌, ◌≢◌, None, Some, false}
-use Rattle.mokdrai.specs.Stopping.{PassesOn}
-use Rattle.mokdrai.proofs.StopLemmas.{turned_away}
-use Rattle.mokdrai.proofs.stopping.StopListenerListener.accept.Goals as goal
+use Rattle.adapters.specs.Stopping.{PassesOn}
+use Rattle.adapters.proofs.ListenerLemmas.{turned_away}
+use Rattle.adapters.proofs.stopping.StopListenerListener.accept.Goals as goal
 
 pub returns-then-is_there-clause-asked : goal.returns-then-is_there-clause-asked
 returns-then-is_there-clause-asked g c =

@@ -1,10 +1,10 @@
 //! One socket that many listeners take links of, and that is closed for all of them at once.
 ghost use Rattle.std.specs.Prelude.{◌≡◌, ◌≤◌, ◌<◌, ◌+◌, false, IfOk, OnOk, IsErrOf, None, vec_len};
 ghost use Rattle.std.specs.List.{AllByRecursion};
-ghost use Rattle.mokdrai.specs.Stopping.{PassesOnShared, TakesBack};
+ghost use Rattle.adapters.specs.Stopping.{PassesOnShared, TakesBack};
 
 use crate::stopping::CloseAll;
-use adapters::{Door, Limits, TcpListen};
+use crate::{Door, Limits, TcpListen};
 use outside::{Accepted, Listener, OutFault};
 use std::alloc::Global;
 use std::fs::{File, Files};
@@ -18,14 +18,14 @@ use wopi_text::Memory;
 
 /// The line that the first accept writes on the notes.
 #[derive(Drop)]
-pub(crate) struct Ready {
+pub struct Ready {
     notes: Stderr,
     line: String,
     is_written: AtomicBool,
 }
 
 impl Ready {
-    pub(crate) fn new(notes: Stderr, line: String) -> Ready {
+    pub fn new(notes: Stderr, line: String) -> Ready {
         Ready {
             notes,
             line,
@@ -43,7 +43,7 @@ impl Ready {
 
 /// A listening socket of many listeners.
 #[derive(Drop)]
-pub(crate) struct SharedSocket {
+pub struct SharedSocket {
     pub door: Arc<Door, Global>,
     // How many listeners take links of it.
     takers: AtomicU64,
@@ -60,7 +60,7 @@ impl SharedSocket {
     }
 
     /// Closes it for all. Who waits to be accepted is closed too.
-    pub(crate) fn close(&self) {
+    pub fn close(&self) {
         self.door.close();
     }
 
@@ -71,7 +71,7 @@ impl SharedSocket {
 
 /// A socket that is bound to this address, as `127.0.0.1:8880`, or why it can't be. So many seconds
 /// after it was closed its links are. `ready` is told at its first accept.
-pub(crate) fn bind<R: Net<Stream = TcpStream, Listener = TcpListener>>(
+pub fn bind<R: Net<Stream = TcpStream, Listener = TcpListener>>(
     alloc: Global,
     rt: &R,
     address: &str,
@@ -111,7 +111,7 @@ impl Drop for Taker {
 
 /// Takes the links of another listener, and is closed once the socket that it shares is.
 #[derive(Drop)]
-pub(crate) struct SharedListener<N: Listener> {
+pub struct SharedListener<N: Listener> {
     listener: N,
     // None where no socket is shared.
     taker: Option<Taker>,
@@ -120,7 +120,7 @@ pub(crate) struct SharedListener<N: Listener> {
 
 impl<N: Listener> SharedListener<N> {
     /// `listener` takes its links of the socket. With no socket only its own end ends it.
-    pub(crate) fn new(listener: N, socket: Option<Arc<SharedSocket, Global>>) -> SharedListener<N>
+    pub fn new(listener: N, socket: Option<Arc<SharedSocket, Global>>) -> SharedListener<N>
         ensures listener { result.listener ≡ listener }
         ensures alone { socket ≡ None → result.taker ≡ None }
     {
@@ -220,7 +220,7 @@ impl<N: Listener> Listener for SharedListener<N> {
 
 /// One listener for each worker over the socket, each of which takes `most` connections within these
 /// limits. With no socket each accept fails.
-pub(crate) fn share<T: time::Clock + Copy + Send>(
+pub fn share<T: time::Clock + Copy + Send>(
     alloc: Global,
     clock: T,
     socket: &Option<Arc<SharedSocket, Global>>,
@@ -244,7 +244,7 @@ pub(crate) fn share<T: time::Clock + Copy + Send>(
 }
 
 /// Waits for a byte, and then closes the socket. At the end of what it reads, or a fault, it doesn't.
-pub(crate) fn close_at_byte<I: Read + Drop>(mut from: I, socket: &SharedSocket) {
+pub fn close_at_byte<I: Read + Drop>(mut from: I, socket: &SharedSocket) {
     if let Ok(1) = from.read(&mut [0u8]) {
         socket.close();
     }
@@ -252,7 +252,7 @@ pub(crate) fn close_at_byte<I: Read + Drop>(mut from: I, socket: &SharedSocket) 
 
 /// Has `close_at_byte` wait for what comes at the path, in a thread that nobody joins. Where the path
 /// can't be opened or no thread can be made, nothing does. A pipe is opened once somebody writes to it.
-pub(crate) fn close_later<R: Files<File = File> + Threads>(
+pub fn close_later<R: Files<File = File> + Threads>(
     rt: &R,
     path: Option<&str>,
     socket: &Option<Arc<SharedSocket, Global>>,

@@ -9,7 +9,7 @@
 ghost use Rattle.std.specs.Prelude.{◌≡◌, ◌≤◌, ◌<◌, ◌+◌, ◌↔◌, false, IfOk, IfErr, IfSome, IsSome, OnOk, IsErr, IsErrOf, None, Some, Ok, map, vec_len};
 ghost use Rattle.std.specs.List.{AllByRecursion};
 ghost use Rattle.std.specs.Option.{ForSome};
-ghost use Rattle.mokdrai.specs.Stopping.{Answers, AreOver, IsLink, PassesOn, TakesBack};
+ghost use Rattle.adapters.specs.Stopping.{Answers, AreOver, IsLink, PassesOn, TakesBack};
 
 use outside::{Accepted, Listener, OutFault};
 use std::alloc::Global;
@@ -24,7 +24,7 @@ const STOP: &str = "MOKDRAI_STOP";
 const WAKE: &str = "MOKDRAI_WAKE";
 
 /// What a variable comes to that could not be read: no path, or want of memory.
-pub(crate) fn no_path(error: VarError) -> Result<Option<String>, Memory>
+pub fn no_path(error: VarError) -> Result<Option<String>, Memory>
     ensures exact { IsErr result ↔ (error ≡ VarError.OutOfMemory) }
     ensures none { result ≡ Ok None ↔ ¬ (error ≡ VarError.OutOfMemory) }
 {
@@ -36,7 +36,7 @@ pub(crate) fn no_path(error: VarError) -> Result<Option<String>, Memory>
 }
 
 /// The path that a variable has; of one that could not be read none, or want of memory.
-pub(crate) fn path_of(read: Result<String, VarError>) -> Result<Option<String>, Memory>
+pub fn path_of(read: Result<String, VarError>) -> Result<Option<String>, Memory>
     ensures path { IfOk read (λ path. result ≡ Ok (Some path)) }
     ensures unread { IfErr read (λ error. IsErr result ↔ (error ≡ VarError.OutOfMemory)) }
     ensures none { IfErr read (λ error. result ≡ Ok None ↔ ¬ (error ≡ VarError.OutOfMemory)) }
@@ -48,17 +48,17 @@ pub(crate) fn path_of(read: Result<String, VarError>) -> Result<Option<String>, 
 }
 
 /// The path of the stop file, where the environment has one that is text.
-pub(crate) fn stop_path<R: Env + AllocGlobal>(rt: &R) -> Result<Option<String>, Memory> {
+pub fn stop_path<R: Env + AllocGlobal>(rt: &R) -> Result<Option<String>, Memory> {
     path_of(env::var(rt, STOP))
 }
 
 /// The path of that pipe, where the environment has one that is text.
-pub(crate) fn wake_path<R: Env + AllocGlobal>(rt: &R) -> Result<Option<String>, Memory> {
+pub fn wake_path<R: Env + AllocGlobal>(rt: &R) -> Result<Option<String>, Memory> {
     path_of(env::var(rt, WAKE))
 }
 
 /// A listener that can be closed for all that share where its links come from.
-pub(crate) trait CloseAll {
+pub trait CloseAll {
     /// No link is given any more, by this listener or by another that shares with it.
     fn close_all(&self);
 }
@@ -73,7 +73,7 @@ pub(crate) trait CloseAll {
 /// As soon as it sees the file it closes its listener for all that share with it, also for those
 /// that wait in an accept or serve a link. As soon as it gives no more links it lets its listener go.
 #[derive(Drop)]
-pub(crate) struct StopListener<'a, R, N: Listener> {
+pub struct StopListener<'a, R, N: Listener> {
     rt: &'a R,
     path: Option<&'a str>,
     // None once it is closed.
@@ -87,7 +87,7 @@ pub(crate) struct StopListener<'a, R, N: Listener> {
 
 impl<'a, R: Files, N: Listener + CloseAll> StopListener<'a, R, N> {
     /// `path` is that of the stop file; with none only the listener's own end ends it.
-    pub(crate) fn new(rt: &'a R, path: Option<&'a str>, listener: N) -> StopListener<'a, R, N>
+    pub fn new(rt: &'a R, path: Option<&'a str>, listener: N) -> StopListener<'a, R, N>
         requires { N.finished listener ≡ N.accepted listener }
         ensures listener { IfSome result.listener (λ one. one ≡ listener) }
         ensures untold { path.entry ≡ None → result.listener ≡ Some listener }
@@ -207,7 +207,7 @@ fn is_there<R: Files>(rt: &R, path: Option<&str>) -> bool
 }
 
 /// Each listener, until the stop file is there.
-pub(crate) fn until_stopped<'a, R: Files, N: Listener + CloseAll>(
+pub fn until_stopped<'a, R: Files, N: Listener + CloseAll>(
     alloc: Global,
     rt: &'a R,
     path: Option<&'a str>,

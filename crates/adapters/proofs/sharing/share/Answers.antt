@@ -1,6 +1,6 @@
 use Rattle.std.proofs.Common.{◌≡◌, arith}
-use Rattle.mokdrai.proofs.StopLemmas.{AllByRecursion-more}
-use Rattle.mokdrai.proofs.sharing.share.Goals as goal
+use Rattle.adapters.proofs.ListenerLemmas.{AllByRecursion-more}
+use Rattle.adapters.proofs.sharing.share.Goals as goal
 
 pub loop-preserved : goal.loop-preserved
 loop-preserved g c =

@@ -1,6 +1,6 @@
 use Rattle.std.proofs.Common.{◌≡◌, [], ◌∷◌, arith, length-append}
-use Rattle.mokdrai.proofs.StopLemmas.{AllByRecursion-more, AreOver-more, held-more}
-use Rattle.mokdrai.proofs.stopping.until_stopped.Goals as goal
+use Rattle.adapters.proofs.ListenerLemmas.{AllByRecursion-more, AreOver-more, held-more}
+use Rattle.adapters.proofs.stopping.until_stopped.Goals as goal
 
 pub loop-listener-preserved : goal.loop-listener-preserved
 loop-listener-preserved g c =

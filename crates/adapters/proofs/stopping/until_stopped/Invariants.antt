@@ -1,7 +1,7 @@
 use Rattle.std.proofs.Common.{◌≡◌, length, map, vec_len, None, Some}
 use Rattle.std.specs.List.{AllByRecursion}
-use Rattle.mokdrai.specs.Stopping.{AreOver}
-use Rattle.mokdrai.proofs.stopping.until_stopped.Given as goal
+use Rattle.adapters.specs.Stopping.{AreOver}
+use Rattle.adapters.proofs.stopping.until_stopped.Given as goal
 
 abbrev pub invariant-loop-listener : goal.invariant-loop-listener
 invariant-loop-listener g l = record {
