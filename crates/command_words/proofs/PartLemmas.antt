@@ -14,7 +14,7 @@ use Rattle.command_words.proofs.OptionLemmas.{of_run_name, plain_no_flag, plain_
 pub third : {A : Type 0} (a b : Bool) (x y z : A) → a ≡ false → b ≡ false → (if a then x else if b then y else z) ≡ z
 third a b x y z untrue none = ap (λ c. if c then x else if b then y else z) untrue ∙ ap (λ c. if c then y else z) none
 
-second : {A : Type 0} (a b : Bool) (x y z : A) → a ≡ false → b ≡ true → (if a then x else if b then y else z) ≡ y
+pub second : {A : Type 0} (a b : Bool) (x y z : A) → a ≡ false → b ≡ true → (if a then x else if b then y else z) ≡ y
 second a b x y z untrue holds = ap (λ c. if c then x else if b then y else z) untrue ∙ ap (λ c. if c then y else z) holds
 
 pub first : {A : Type 0} (a b : Bool) (x y z : A) → a ≡ true → (if a then x else if b then y else z) ≡ x
@@ -59,11 +59,11 @@ plain_parted k [] options plain = refl
 plain_parted k (word ∷ places) options plain =
     parted_place k word (places ++ options) (plain_no_flag k word plain.0) (plain_untaken k word plain.0) ∙ ap (λ (p : Parts). with_place word p) (plain_parted k places options plain.1)
 
-run_no_flag : (name : List ℕ) → is_run_option name ≡ true → is_flag kind.Serve name ≡ false
+pub run_no_flag : (name : List ℕ) → is_run_option name ≡ true → is_flag kind.Serve name ≡ false
 unfolding is_flag
 run_no_flag name is = of_run_name (λ word. bytes_eq word (codes "--verbose") ≡ false) refl refl refl refl name is
 
-run_taken : (name : List ℕ) → is_run_option name ≡ true → takes kind.Serve name ≡ true
+pub run_taken : (name : List ℕ) → is_run_option name ≡ true → takes kind.Serve name ≡ true
 unfolding takes
 run_taken name is = ap (λ b. b || is_around_option name) is
 

@@ -27,7 +27,7 @@ lacks_flag : (k : Kind) (word : List ℕ) (words : List (List ℕ)) → is_flag 
 lacks_flag k word [] holds = ap (λ c. if c then false else takes k word) holds
 lacks_flag k word (value ∷ words) holds = first (is_flag k word) (takes k word) _ _ _ holds
 
-lacks_place : (k : Kind) (word : List ℕ) (words : List (List ℕ)) → is_flag k word ≡ false → takes k word ≡ false → lacks_value k (word ∷ words) ≡ lacks_value k words
+pub lacks_place : (k : Kind) (word : List ℕ) (words : List (List ℕ)) → is_flag k word ≡ false → takes k word ≡ false → lacks_value k (word ∷ words) ≡ lacks_value k words
 lacks_place k word [] untrue none = ap (λ c. if c then false else takes k word) untrue ∙ none
 lacks_place k word (value ∷ words) untrue none = third (is_flag k word) (takes k word) _ _ _ untrue none
 

@@ -1,5 +1,5 @@
 -- What holds of the meanings of words. (Own.)
-use Rattle.std.specs.Prelude.{◌≡◌, ◌≢◌, ℕ, true, ⊤, List, [], ◌∷◌, ◌++◌, length, None, Some, slice_index}
+use Rattle.std.specs.Prelude.{◌≡◌, ◌≢◌, ◌≤◌, ℕ, true, ⊤, List, [], ◌∷◌, ◌++◌, length, None, Some, slice_index}
 use Rattle.std.specs.List.{AllByRecursion}
 use Rattle.command_words.specs.declared.around.Around.{Around}
 use Rattle.command_words.specs.declared.options.Kind.TheVariants as kind
@@ -28,6 +28,12 @@ pub record IsAsBefore (words : List (List ℕ)) : Type 0 where
   pub options_are : AreRunOptions options
   pub others : kind_of name ≢ Some kind.Serve → options ≡ []
   pub edits : kind_of name ≡ Some kind.Edit → length places ≢ 3
+
+-- At most a hundred such words have a meaning, so they aren't refused. So have words that are short for others.
+abbrev pub NothingOfBeforeIsRefused : Type 0
+NothingOfBeforeIsRefused =
+    (moment : ℕ) (own : List ℕ) (words : List (List ℕ)) (around : Around) → IsDefault around → length words ≤ 100
+    → (IsAsBefore words → Means moment own words words around) × ((word : List ℕ) → short_for words ≡ Some word → Means moment own words (word ∷ []) around)
 
 -- such words mean themselves, and the adapters take what stands where no option does
 abbrev pub NothingOfBeforeChanges : Type 0

@@ -3,6 +3,7 @@ pub mod Laws
 pub mod Meaning
 pub mod Options
 pub mod Parts
+pub mod Refusals
 pub mod Secrets
 pub mod Spans
 pub mod Values

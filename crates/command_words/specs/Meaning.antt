@@ -1,14 +1,15 @@
 -- What words mean, as people write them. (Own.)
-use Rattle.std.specs.Prelude.{◌≡◌, ◌+◌, ◌==◌, ℕ, Bool, true, false, nat_lt, ◌||◌, ◌&&◌, if◌then◌else◌, List, [], ◌∷◌, ◌++◌, length, codes, decimal, string_bytes, Option, None, Some}
+use Rattle.std.specs.Prelude.{◌≡◌, ◌+◌, ◌<◌, ◌≤◌, ◌==◌, ℕ, Bool, true, false, nat_lt, ◌||◌, ◌&&◌, if◌then◌else◌, List, [], ◌∷◌, ◌++◌, length, codes, decimal, string_bytes, Option, None, Some}
 use Rattle.std.specs.List.{list_any}
 use Rattle.std.specs.Str.{bytes_eq}
 use Rattle.wopi_text.specs.FileName.{IsFileName}
 use Rattle.wopi_text.specs.Ids.{id_of}
+use Rattle.wopi_text.specs.Moments.{moments_end}
 use Rattle.command_words.specs.declared.options.Kind.{Kind}
 use Rattle.command_words.specs.declared.options.Kind.TheVariants as kind
 use Rattle.command_words.specs.declared.around.Around.{Around}
 use Rattle.command_words.specs.Options.{is_run_option}
-use Rattle.command_words.specs.Parts.{Parts, halved, parted_of}
+use Rattle.command_words.specs.Parts.{Parts, halved, lacks_value, parted_of}
 use Rattle.command_words.specs.Spans.{IsSpan}
 use Rattle.command_words.specs.Values.{number_of, text_of, values_of}
 
@@ -64,6 +65,10 @@ pub record MeansEdit (own : List ℕ) (parts : Parts) (words : List (List ℕ)) 
 abbrev pub rights_of : List (List ℕ) → List ℕ
 rights_of flags = if list_any (λ flag. bytes_eq flag (codes "--write")) flags then codes "w" else codes "r"
 
+-- both flags of a token stand there
+abbrev pub has_both : List (List ℕ) → Bool
+has_both flags = list_any (λ flag. bytes_eq flag (codes "--write")) flags && list_any (λ flag. bytes_eq flag (codes "--read")) flags
+
 -- no option stands there
 abbrev pub is_bare : Parts → Bool
 is_bare parts = length parts.options == 0 && length parts.flags == 0
@@ -72,7 +77,8 @@ is_bare parts = length parts.options == 0 && length parts.flags == 0
 abbrev pub serial_and_life : ℕ → ℕ → List (List ℕ)
 serial_and_life now span = decimal now ∷ decimal now ∷ decimal (now + span) ∷ []
 
--- `token KEY` and its options: a token that is issued now, for so long. The moment is its serial number too.
+-- `token KEY` and its options: a token that is issued now, for so long, and whose end is a moment. The moment is its serial
+-- number too.
 pub record MeansToken (now : ℕ) (parts : Parts) (words : List (List ℕ)) : Type 0 where
   pub key : List ℕ
   pub user : List ℕ
@@ -84,6 +90,8 @@ pub record MeansToken (now : ℕ) (parts : Parts) (words : List (List ℕ)) : Ty
   pub file_is : values_of (codes "--file") parts.options ≡ file ∷ []
   pub time_is : values_of (codes "--for") parts.options ≡ time ∷ []
   pub span_is : IsSpan time span
+  pub low : now + span < moments_end
+  pub one : has_both parts.flags ≡ false
   pub words_are : words ≡ codes "token" ∷ key ∷ user ∷ file ∷ rights_of parts.flags ∷ serial_and_life now span
 
 -- `ctoken KEY` and its options
@@ -96,6 +104,8 @@ pub record MeansCtoken (now : ℕ) (parts : Parts) (words : List (List ℕ)) : T
   pub user_is : values_of (codes "--user") parts.options ≡ user ∷ []
   pub time_is : values_of (codes "--for") parts.options ≡ time ∷ []
   pub span_is : IsSpan time span
+  pub low : now + span < moments_end
+  pub one : has_both parts.flags ≡ false
   pub words_are : words ≡ codes "ctoken" ∷ key ∷ user ∷ rights_of parts.flags ∷ serial_and_life now span
 
 -- the words mean these, of a command that has options
@@ -118,7 +128,8 @@ kind_of name =
 
 abbrev pub MeansBehind : ℕ → List ℕ → Option Kind → List ℕ → List (List ℕ) → List (List ℕ) → Around → Type 0
 MeansBehind now own None name rest words around = (words ≡ name ∷ rest) × IsDefault around
-MeansBehind now own (Some k) name rest words around = MeansOf now own k (parted_of k (halved k rest)) words around
+MeansBehind now own (Some k) name rest words around =
+    (lacks_value k (halved k rest) ≡ false) × MeansOf now own k (parted_of k (halved k rest)) words around
 
 abbrev pub MeansWhole : ℕ → List ℕ → List (List ℕ) → List (List ℕ) → Around → Type 0
 MeansWhole now own [] words around = (words ≡ []) × IsDefault around
@@ -138,6 +149,7 @@ abbrev pub MeansShort : ℕ → List ℕ → Option (List ℕ) → List (List �
 MeansShort now own None given words around = MeansWhole now own given words around
 MeansShort now own (Some word) given words around = (words ≡ word ∷ []) × IsDefault around
 
--- What words mean at that moment, with that nonce at hand: the words that the program reads, and what its adapters take.
+-- What words mean at that moment, with that nonce at hand: the words that the program reads, and what its adapters take. They
+-- are at most a hundred.
 abbrev pub Means : ℕ → List ℕ → List (List ℕ) → List (List ℕ) → Around → Type 0
-Means now own given words around = MeansShort now own (short_for given) given words around
+Means now own given words around = (length given ≤ 100) × MeansShort now own (short_for given) given words around

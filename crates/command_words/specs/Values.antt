@@ -1,5 +1,5 @@
 -- The values of options. (Own.)
-use Rattle.std.specs.Prelude.{◌≡◌, ◌<◌, ℕ, nat_lt, if◌then◌else◌, List, [], ◌∷◌, length, Option, None, Some}
+use Rattle.std.specs.Prelude.{◌≡◌, ◌<◌, ⊤, ℕ, nat_lt, if◌then◌else◌, List, [], ◌∷◌, length, Option, None, Some}
 use Rattle.std.specs.Str.{bytes_eq}
 use Rattle.wopi_text.specs.Decimals.{decimal_of}
 use Rattle.command_words.specs.declared.values.Values.{Values}
@@ -31,3 +31,9 @@ abbrev pub text_of : List ℕ → List (List ℕ) → Option (List ℕ)
 text_of default [] = Some default
 text_of default (word ∷ []) = Some word
 text_of default (word ∷ other ∷ words) = None
+
+-- no value stands there, or several
+abbrev pub IsNotOne : List (List ℕ) → Type 0
+IsNotOne [] = ⊤
+IsNotOne (word ∷ []) = ⊥
+IsNotOne (word ∷ other ∷ words) = ⊤

@@ -1,7 +1,8 @@
 //! What the adapters to the outside world take.
-ghost use Rattle.std.specs.Prelude.{◌≡◌, Some, IfOk, codes, map, string_bytes};
+ghost use Rattle.std.specs.Prelude.{◌≡◌, None, Some, IfErr, IfOk, codes, map, string_bytes};
 ghost use Rattle.command_words.specs.Values.{number_of, text_of, values_of};
 ghost use Rattle.command_words.specs.Meaning.{IsAround, IsDefault};
+ghost use Rattle.command_words.specs.Refusals.{IsFor};
 
 use crate::values::{seconds, text};
 use crate::wrong::{Refused, hidden};
@@ -37,7 +38,8 @@ const SECONDS: &str = "a number of seconds from 0 to 1000000, once, without lead
 
 /// The address that the options tell.
 fn listen_told(options: &[String]) -> Result<&str, Refused>
-    ensures { IfOk result (λ text. text_of (codes "127.0.0.1") (values_of (codes "--listen") (map string_bytes options.now)) ≡ Some text.now) }
+    ensures told { IfOk result (λ text. text_of (codes "127.0.0.1") (values_of (codes "--listen") (map string_bytes options.now)) ≡ Some text.now) }
+    ensures refused { IfErr result (λ _. text_of (codes "127.0.0.1") (values_of (codes "--listen") (map string_bytes options.now)) ≡ None) }
 {
     text(
         options,
@@ -49,14 +51,16 @@ fn listen_told(options: &[String]) -> Result<&str, Refused>
 
 /// The seconds of `--idle`.
 fn idle_told(options: &[String]) -> Result<u32, Refused>
-    ensures { IfOk result (λ number. number_of 60 (values_of (codes "--idle") (map string_bytes options.now)) ≡ Some number) }
+    ensures told { IfOk result (λ number. number_of 60 (values_of (codes "--idle") (map string_bytes options.now)) ≡ Some number) }
+    ensures refused { IfErr result (λ _. number_of 60 (values_of (codes "--idle") (map string_bytes options.now)) ≡ None) }
 {
     seconds(options, "--idle", IDLE, hidden("--idle S", SECONDS))
 }
 
 /// Those of `--patience`.
 fn patience_told(options: &[String]) -> Result<u32, Refused>
-    ensures { IfOk result (λ number. number_of 120 (values_of (codes "--patience") (map string_bytes options.now)) ≡ Some number) }
+    ensures told { IfOk result (λ number. number_of 120 (values_of (codes "--patience") (map string_bytes options.now)) ≡ Some number) }
+    ensures refused { IfErr result (λ _. number_of 120 (values_of (codes "--patience") (map string_bytes options.now)) ≡ None) }
 {
     seconds(
         options,
@@ -68,7 +72,8 @@ fn patience_told(options: &[String]) -> Result<u32, Refused>
 
 /// Those of `--grace`.
 fn grace_told(options: &[String]) -> Result<u32, Refused>
-    ensures { IfOk result (λ number. number_of 30 (values_of (codes "--grace") (map string_bytes options.now)) ≡ Some number) }
+    ensures told { IfOk result (λ number. number_of 30 (values_of (codes "--grace") (map string_bytes options.now)) ≡ Some number) }
+    ensures refused { IfErr result (λ _. number_of 30 (values_of (codes "--grace") (map string_bytes options.now)) ≡ None) }
 {
     seconds(options, "--grace", GRACE, hidden("--grace S", SECONDS))
 }
@@ -96,8 +101,10 @@ impl Around {
     }
 
     /// What these options tell.
+    #[tactic(auto, using(crate::proofs::RefusalLemmas::no_listen, crate::proofs::RefusalLemmas::no_idle, crate::proofs::RefusalLemmas::no_patience, crate::proofs::RefusalLemmas::no_grace, crate::proofs::RefusalLemmas::for_memory))]
     pub(crate) fn told(alloc: Global, options: &[String], verbose: bool) -> Result<Around, Refused>
-        ensures { IfOk result (IsAround (map string_bytes options.now) verbose) }
+        ensures told { IfOk result (IsAround (map string_bytes options.now) verbose) }
+        ensures refused { IfErr result (IsFor ((around : Around) → ¬ IsAround (map string_bytes options.now) verbose around)) }
     {
         let listen = listen_told(options)?;
         let idle = idle_told(options)?;

@@ -1,8 +1,9 @@
 //! Which of a command's words is wrong.
-ghost use Rattle.std.specs.Prelude.{◌≡◌, ◌<◌, ℕ, IfSome, length};
-ghost use Rattle.command_words.specs.Explaining.{Stands};
+ghost use Rattle.std.specs.Prelude.{◌≡◌, ◌<◌, ℕ, IfSome, length, map, string_bytes};
+ghost use Rattle.command_words.specs.Explaining.{HidesSecret, HidesSecretOf, Stands};
 
 use crate::rules::Rule;
+use crate::secret::place_of;
 use crate::wrong::{How, Wrong};
 
 /// The rule of the first word.
@@ -136,24 +137,36 @@ fn missing(rule: Rule) -> Wrong
     }
 }
 
-/// The word at that place, which breaks its rule.
-fn broken(rule: Rule, place: usize) -> Wrong
-    ensures { (count : ℕ) → place < count → Stands count result.how }
+/// How the word at that place of a command is told: the secret isn't shown.
+fn told_at(name: &str, place: usize) -> How
+    ensures secret { HidesSecret name.now result }
+    ensures stands { (count : ℕ) → place < count → Stands count result }
+{
+    let Some(secret) = place_of(name) else {
+        return How::Shown(place);
+    };
+    if secret == place {
+        return How::Hidden;
+    }
+    How::Shown(place)
+}
+
+/// The word at that place of a command, which breaks its rule.
+fn broken(name: &str, rule: Rule, place: usize) -> Wrong
+    ensures secret { HidesSecret name.now result.how }
+    ensures stands { (count : ℕ) → place < count → Stands count result.how }
 {
     Wrong {
         name: rule.name(),
         rule: rule.text(),
-        how: if rule.is_secret() {
-            How::Hidden
-        } else {
-            How::Shown(place)
-        },
+        how: told_at(name, place),
     }
 }
 
-/// What is wrong with the options of `serve`, of which the first stands at that place.
-fn wrong_option(words: &[String], first: usize) -> Option<Wrong>
-    ensures { IfSome result (λ wrong. Stands (length words.now) wrong.how) }
+/// What is wrong with the options of that command, which is `serve`. The first of them stands at that place.
+fn wrong_option(words: &[String], name: &str, first: usize) -> Option<Wrong>
+    ensures secret { IfSome result (λ wrong. HidesSecret name.now wrong.how) }
+    ensures stands { IfSome result (λ wrong. Stands (length words.now) wrong.how) }
 {
     let mut place = first;
     'options: while place < words.len() {
@@ -161,14 +174,14 @@ fn wrong_option(words: &[String], first: usize) -> Option<Wrong>
             return Some(Wrong {
                 name: "an option",
                 rule: "--journal, --each, --first, --links, --listen, --idle, --patience, --grace or --verbose",
-                how: How::Shown(place),
+                how: told_at(name, place),
             });
         };
         if place + 1 == words.len() {
             return Some(missing(rule));
         }
         if !rule.is_met(words[place + 1].as_str()) {
-            return Some(broken(rule, place + 1));
+            return Some(broken(name, rule, place + 1));
         }
         place += 2;
     }
@@ -177,10 +190,11 @@ fn wrong_option(words: &[String], first: usize) -> Option<Wrong>
 
 /// What is wrong behind the last word that has a rule.
 fn wrong_behind(words: &[String], name: &str, place: usize) -> Option<Wrong>
-    ensures { IfSome result (λ wrong. Stands (length words.now) wrong.how) }
+    ensures secret { IfSome result (λ wrong. HidesSecret name.now wrong.how) }
+    ensures stands { IfSome result (λ wrong. Stands (length words.now) wrong.how) }
 {
     if name == "serve" {
-        return match wrong_option(words, place) {
+        return match wrong_option(words, name, place) {
             Some(wrong) => Some(wrong),
             None => Some(Wrong {
                 name: "an option",
@@ -193,29 +207,23 @@ fn wrong_behind(words: &[String], name: &str, place: usize) -> Option<Wrong>
         return Some(Wrong {
             name: "the word",
             rule: "no word stands there",
-            how: How::Shown(place),
+            how: told_at(name, place),
         });
     }
     None
 }
 
-/// What is wrong with words that are no command: the first word that breaks its rule, or is missing.
-pub fn explain(words: &[String]) -> Option<Wrong>
-    ensures { IfSome result (λ wrong. Stands (length words.now) wrong.how) }
+/// What is wrong with the words of that name: the first word that breaks its rule, or is missing.
+fn explain_named(words: &[String], name: &str) -> Option<Wrong>
+    requires { 0 < length words.now }
+    ensures secret { IfSome result (λ wrong. HidesSecret name.now wrong.how) }
+    ensures stands { IfSome result (λ wrong. Stands (length words.now) wrong.how) }
 {
-    let Some(first) = words.first() else {
-        return Some(Wrong {
-            name: "a command",
-            rule: COMMANDS,
-            how: How::Missing,
-        });
-    };
-    let name = first.as_str();
     if !is_command(name) {
         return Some(Wrong {
             name: "a command",
             rule: COMMANDS,
-            how: How::Shown(0),
+            how: told_at(name, 0),
         });
     }
     'places: for place in 1..9 {
@@ -226,8 +234,26 @@ pub fn explain(words: &[String]) -> Option<Wrong>
             return Some(missing(rule));
         };
         if !rule.is_met(word.as_str()) {
-            return Some(broken(rule, place));
+            return Some(broken(name, rule, place));
         }
     }
     None
+}
+
+/// What is wrong with words that are no command: the first word that breaks its rule, or is missing.
+///
+/// A secret is never shown: not the word at the place of the command's KEY, nor that at the TOKEN of `edit`
+/// ([`crate::secret_place`]).
+pub fn explain(words: &[String]) -> Option<Wrong>
+    ensures secret { IfSome result (λ wrong. HidesSecretOf (map string_bytes words.now) wrong.how) }
+    ensures stands { IfSome result (λ wrong. Stands (length words.now) wrong.how) }
+{
+    match words {
+        [first, ..] => explain_named(words, first.as_str()),
+        [] => Some(Wrong {
+            name: "a command",
+            rule: COMMANDS,
+            how: How::Missing,
+        }),
+    }
 }

@@ -1,8 +1,9 @@
 //! What words mean, as people write them.
-ghost use Rattle.std.specs.Prelude.{◌≡◌, ◌++◌, ◌∷◌, [], IfOk, IfSome, IfNone, None, OnOk, Some, codes, map, string_bytes};
+ghost use Rattle.std.specs.Prelude.{◌≡◌, ◌++◌, ◌∷◌, [], ℕ, List, IfErr, IfOk, IfSome, IfNone, None, OnOk, Some, codes, false, map, string_bytes};
 ghost use Rattle.hex.specs.Hex.{encode_lower};
 ghost use Rattle.command_words.specs.Meaning.{IsDefault, Means, MeansCtoken, MeansEdit, MeansOf, MeansServe, kind_of, run_options_of, short_for};
-ghost use Rattle.command_words.specs.Parts.{halved, parted_of, parts_of};
+ghost use Rattle.command_words.specs.Parts.{halved, lacks_value, parted_of, parts_of};
+ghost use Rattle.command_words.specs.Refusals.{IsFor, MeansNothing};
 
 use crate::around::Around;
 use crate::options::{Kind, is_run_option};
@@ -86,8 +87,10 @@ fn push_run_options(
 }
 
 /// What the words of `serve` mean.
+#[tactic(auto, using(crate::proofs::RefusalLemmas::serve_no_around, crate::proofs::RefusalLemmas::for_memory))]
 fn serve_meant(alloc: Global, parted: &Parted) -> Result<Given, Refused>
-    ensures { IfOk result (λ given. MeansServe (parts_of parted.now) (map string_bytes given.words.items) given.around) }
+    ensures told { IfOk result (λ given. MeansServe (parts_of parted.now) (map string_bytes given.words.items) given.around) }
+    ensures refused { IfErr result (IsFor ((words : List (List ℕ)) (around : Around) → ¬ MeansServe (parts_of parted.now) words around)) }
 {
     let around = Around::told(alloc, &parted.options, !parted.flags.is_empty())?;
     let mut words = Vec::new(alloc);
@@ -98,8 +101,10 @@ fn serve_meant(alloc: Global, parted: &Parted) -> Result<Given, Refused>
 }
 
 /// What those of `edit` mean.
+#[tactic(auto, using(crate::proofs::RefusalLemmas::edit_no_around, crate::proofs::RefusalLemmas::edit_no_places, crate::proofs::RefusalLemmas::for_memory))]
 fn edit_meant(alloc: Global, parted: &Parted, chance: &Chance) -> Result<Given, Refused>
-    ensures { IfOk result (λ given. MeansEdit (encode_lower chance.now.random) (parts_of parted.now) (map string_bytes given.words.items) given.around) }
+    ensures told { IfOk result (λ given. MeansEdit (encode_lower chance.now.random) (parts_of parted.now) (map string_bytes given.words.items) given.around) }
+    ensures refused { IfErr result (IsFor ((words : List (List ℕ)) (around : Around) → ¬ MeansEdit (encode_lower chance.now.random) (parts_of parted.now) words around)) }
 {
     let Ok(own) = hex::encode(alloc, chance.random.as_slice()) else {
         return Err(Refused::Memory);
@@ -116,6 +121,7 @@ fn edit_meant(alloc: Global, parted: &Parted, chance: &Chance) -> Result<Given, 
 fn plain_meant(alloc: Global, name: &str, rest: &[String]) -> Result<Given, Refused>
     ensures words { IfOk result (λ given. map string_bytes given.words.items ≡ name.now ∷ map string_bytes rest.now) }
     ensures around { IfOk result (λ given. IsDefault given.around) }
+    ensures refused { IfErr result (λ refused. refused ≡ Refused.Memory) }
 {
     let mut words = Vec::new(alloc);
     push_word(alloc, &mut words, name)?;
@@ -125,8 +131,10 @@ fn plain_meant(alloc: Global, name: &str, rest: &[String]) -> Result<Given, Refu
 }
 
 /// What those of `token` mean.
+#[tactic(auto, using(crate::proofs::RefusalLemmas::no_token, crate::proofs::RefusalLemmas::for_memory))]
 fn token_meant(alloc: Global, parted: &Parted, now: u64) -> Result<Given, Refused>
-    ensures { IfOk result (λ given. MeansOf now [] Kind.Token (parts_of parted.now) (map string_bytes given.words.items) given.around) }
+    ensures told { IfOk result (λ given. MeansOf now [] Kind.Token (parts_of parted.now) (map string_bytes given.words.items) given.around) }
+    ensures refused { IfErr result (IsFor ((words : List (List ℕ)) (around : Around) → ¬ MeansOf now [] Kind.Token (parts_of parted.now) words around)) }
 {
     if parted.options.is_empty() && parted.flags.is_empty() {
         return plain_meant(alloc, "token", &parted.places);
@@ -137,8 +145,10 @@ fn token_meant(alloc: Global, parted: &Parted, now: u64) -> Result<Given, Refuse
 }
 
 /// What those of `ctoken` mean.
+#[tactic(auto, using(crate::proofs::RefusalLemmas::no_ctoken, crate::proofs::RefusalLemmas::for_memory))]
 fn ctoken_meant(alloc: Global, parted: &Parted, now: u64) -> Result<Given, Refused>
-    ensures { IfOk result (λ given. MeansOf now [] Kind.Ctoken (parts_of parted.now) (map string_bytes given.words.items) given.around) }
+    ensures told { IfOk result (λ given. MeansOf now [] Kind.Ctoken (parts_of parted.now) (map string_bytes given.words.items) given.around) }
+    ensures refused { IfErr result (IsFor ((words : List (List ℕ)) (around : Around) → ¬ MeansOf now [] Kind.Ctoken (parts_of parted.now) words around)) }
 {
     if parted.options.is_empty() && parted.flags.is_empty() {
         return plain_meant(alloc, "ctoken", &parted.places);
@@ -150,7 +160,10 @@ fn ctoken_meant(alloc: Global, parted: &Parted, now: u64) -> Result<Given, Refus
 
 /// What the words of a command with options mean.
 fn meant_of(alloc: Global, kind: Kind, rest: &[String], chance: &Chance) -> Result<Given, Refused>
-    ensures { IfOk result (λ given. MeansOf chance.now.moment (encode_lower chance.now.random) kind (parted_of kind (halved kind (map string_bytes rest.now))) (map string_bytes given.words.items) given.around) }
+    ensures told { IfOk result (λ given. MeansOf chance.now.moment (encode_lower chance.now.random) kind (parted_of kind (halved kind (map string_bytes rest.now))) (map string_bytes given.words.items) given.around) }
+    ensures whole { IfOk result (λ _. lacks_value kind (halved kind (map string_bytes rest.now)) ≡ false) }
+    ensures refused { IfErr result (IsFor ((words : List (List ℕ)) (around : Around) → lacks_value kind (halved kind (map string_bytes rest.now)) ≡ false
+        → ¬ MeansOf chance.now.moment (encode_lower chance.now.random) kind (parted_of kind (halved kind (map string_bytes rest.now))) words around)) }
 {
     let halves = halve(alloc, kind, rest)?;
     let parted = part(alloc, kind, &halves)?;
@@ -165,9 +178,10 @@ fn meant_of(alloc: Global, kind: Kind, rest: &[String], chance: &Chance) -> Resu
 /// The most words of a command line.
 const MOST_WORDS: usize = 100;
 
-/// What the words mean, at this moment and with these random bytes.
+/// What the words mean, at this moment and with these random bytes. Words are refused only where they mean nothing.
 pub fn meant(alloc: Global, words: &[String], chance: &Chance) -> Result<Given, Refused>
-    ensures { IfOk result (λ given. Means chance.now.moment (encode_lower chance.now.random) (map string_bytes words.now) (map string_bytes given.words.items) given.around) }
+    ensures refused { IfErr result (IsFor (MeansNothing chance.now.moment (encode_lower chance.now.random) (map string_bytes words.now))) }
+    ensures meant { IfOk result (λ given. Means chance.now.moment (encode_lower chance.now.random) (map string_bytes words.now) (map string_bytes given.words.items) given.around) }
 {
     if words.len() > MOST_WORDS {
         return Err(hidden("the words", "at most 100 of them"));

@@ -1,5 +1,5 @@
 //! Words, parted into those that have a place and those that are options.
-ghost use Rattle.std.specs.Prelude.{◌≡◌, ◌++◌, ◌∷◌, [], IfOk, OnOk, IfErr, IsTrue, map, string_bytes, length};
+ghost use Rattle.std.specs.Prelude.{◌≡◌, ◌++◌, ◌∷◌, [], IfOk, OnOk, IfErr, false, map, string_bytes, length};
 ghost use Rattle.command_words.specs.Parts.{IsUnfinished, halved, halves, lacks_value, parted_of, parts_of};
 
 use crate::options::{Kind, is_flag, takes};
@@ -57,6 +57,7 @@ pub(crate) fn halve(alloc: Global, kind: Kind, words: &[String]) -> Result<Vec<S
 /// Parts the words. An option that is the last of them lacks its value.
 pub(crate) fn part(alloc: Global, kind: Kind, words: &[String]) -> Result<Parted, Refused>
     ensures parts { IfOk result (λ parted. parts_of parted ≡ parted_of kind (map string_bytes words.now)) }
+    ensures whole { IfOk result (λ _. lacks_value kind (map string_bytes words.now) ≡ false) }
     ensures lacks { IfErr result (λ refused. IsUnfinished refused (lacks_value kind (map string_bytes words.now))) }
 {
     let mut places = Vec::new(alloc);

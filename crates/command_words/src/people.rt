@@ -1,14 +1,15 @@
 //! The commands whose words are made of options: tokens that are issued now, and an edit with a nonce of its own.
-ghost use Rattle.std.specs.Prelude.{◌≡◌, ◌++◌, ◌∷◌, [], ◌+◌, ◌<◌, ℕ, List, IfOk, OnOk, codes, decimal, map, string_bytes};
+ghost use Rattle.std.specs.Prelude.{◌≡◌, ◌++◌, ◌∷◌, [], ◌+◌, ◌<◌, ◌≤◌, ℕ, List, IfErr, IfOk, OnOk, true, false, codes, decimal, map, string_bytes};
 ghost use Rattle.std.specs.List.{list_any};
 ghost use Rattle.std.specs.Str.{bytes_eq};
 ghost use Rattle.wopi_text.specs.Moments.{moments_end};
 ghost use Rattle.wopi_text.specs.FileName.{IsFileName};
 ghost use Rattle.wopi_text.specs.Ids.{id_of};
-ghost use Rattle.command_words.specs.Meaning.{IsWithFile, IsWithNonce, MeansCtoken, MeansPlaces, MeansToken, rights_of, serial_and_life};
+ghost use Rattle.command_words.specs.Meaning.{IsWithFile, IsWithNonce, MeansCtoken, MeansPlaces, MeansToken, has_both, rights_of, serial_and_life};
 ghost use Rattle.command_words.specs.Parts.{parts_of};
+ghost use Rattle.command_words.specs.Refusals.{IsFor};
 ghost use Rattle.command_words.specs.Spans.{IsSpan};
-ghost use Rattle.command_words.specs.Values.{AreValues, values_of};
+ghost use Rattle.command_words.specs.Values.{AreValues, IsNotOne, values_of};
 
 use crate::parting::{Parted, push_word};
 use crate::span::span_of;
@@ -35,7 +36,8 @@ const KEY: &str = "it stands once beside the options: the keys of the tokens, or
 
 /// The one word that has a place beside the options.
 fn only_key(places: &[String]) -> Result<&str, Refused>
-    ensures { IfOk result (λ key. map string_bytes places.now ≡ key.now ∷ []) }
+    ensures told { IfOk result (λ key. map string_bytes places.now ≡ key.now ∷ []) }
+    ensures refused { IfErr result (λ _. IsNotOne (map string_bytes places.now)) }
 {
     match places {
         [key] => Ok(key.as_str()),
@@ -46,7 +48,8 @@ fn only_key(places: &[String]) -> Result<&str, Refused>
 
 /// The user that the options tell.
 fn user_told(options: &[String]) -> Result<&str, Refused>
-    ensures { IfOk result (λ text. values_of (codes "--user") (map string_bytes options.now) ≡ text.now ∷ []) }
+    ensures told { IfOk result (λ text. values_of (codes "--user") (map string_bytes options.now) ≡ text.now ∷ []) }
+    ensures refused { IfErr result (λ _. IsNotOne (values_of (codes "--user") (map string_bytes options.now))) }
 {
     told(
         options,
@@ -60,14 +63,16 @@ fn user_told(options: &[String]) -> Result<&str, Refused>
 
 /// The file that the options tell.
 fn file_told(options: &[String]) -> Result<&str, Refused>
-    ensures { IfOk result (λ text. values_of (codes "--file") (map string_bytes options.now) ≡ text.now ∷ []) }
+    ensures told { IfOk result (λ text. values_of (codes "--file") (map string_bytes options.now) ≡ text.now ∷ []) }
+    ensures refused { IfErr result (λ _. IsNotOne (values_of (codes "--file") (map string_bytes options.now))) }
 {
     told(options, "--file", hidden("--file NAME", FILE))
 }
 
 /// The length of time that the options tell.
 fn time_told(options: &[String]) -> Result<&str, Refused>
-    ensures { IfOk result (λ text. values_of (codes "--for") (map string_bytes options.now) ≡ text.now ∷ []) }
+    ensures told { IfOk result (λ text. values_of (codes "--for") (map string_bytes options.now) ≡ text.now ∷ []) }
+    ensures refused { IfErr result (λ _. IsNotOne (values_of (codes "--for") (map string_bytes options.now))) }
 {
     told(options, "--for", hidden("--for TIME", TIME))
 }
@@ -80,6 +85,7 @@ const TIME: &str =
 fn span_told(time: &str, now: u64) -> Result<u64, Refused>
     ensures span { IfOk result (IsSpan time.now) }
     ensures end { IfOk result (λ span. now + span < moments_end) }
+    ensures refused { IfErr result (λ _. (span : ℕ) → IsSpan time.now span → moments_end ≤ now + span) }
 {
     let Some(span) = span_of(time) else {
         return Err(hidden("--for TIME", TIME));
@@ -104,7 +110,9 @@ fn has(words: &[String], wanted: &str) -> bool
 
 /// How the rights are written. A token that may only read is the default; both flags together are refused.
 fn rights_told(flags: &[String]) -> Result<&'static str, Refused>
-    ensures { IfOk result (λ rights. rights.now ≡ rights_of (map string_bytes flags.now)) }
+    ensures told { IfOk result (λ rights. rights.now ≡ rights_of (map string_bytes flags.now)) }
+    ensures one { IfOk result (λ _. has_both (map string_bytes flags.now) ≡ false) }
+    ensures refused { IfErr result (λ _. has_both (map string_bytes flags.now) ≡ true) }
 {
     let write = has(flags, "--write");
     if write && has(flags, "--read") {
@@ -132,8 +140,10 @@ fn push_life(alloc: Global, words: &mut Vec<String>, now: u64, span: u64) -> Res
 }
 
 /// The words of a token that is issued now.
+#[tactic(auto, using(crate::proofs::RefusalLemmas::token_no_key, crate::proofs::RefusalLemmas::token_no_user, crate::proofs::RefusalLemmas::token_no_file, crate::proofs::RefusalLemmas::token_no_time, crate::proofs::RefusalLemmas::token_both, crate::proofs::RefusalLemmas::token_too_long, crate::proofs::RefusalLemmas::for_memory))]
 pub(crate) fn token_words(alloc: Global, parted: &Parted, now: u64) -> Result<Vec<String>, Refused>
-    ensures { IfOk result (λ words. MeansToken now (parts_of parted.now) (map string_bytes words.items)) }
+    ensures told { IfOk result (λ words. MeansToken now (parts_of parted.now) (map string_bytes words.items)) }
+    ensures refused { IfErr result (IsFor ((words : List (List ℕ)) → ¬ MeansToken now (parts_of parted.now) words)) }
 {
     let key = only_key(&parted.places)?;
     let user = user_told(&parted.options)?;
@@ -152,8 +162,10 @@ pub(crate) fn token_words(alloc: Global, parted: &Parted, now: u64) -> Result<Ve
 }
 
 /// The words of a token of the container that is issued now.
+#[tactic(auto, using(crate::proofs::RefusalLemmas::ctoken_no_key, crate::proofs::RefusalLemmas::ctoken_no_user, crate::proofs::RefusalLemmas::ctoken_no_time, crate::proofs::RefusalLemmas::ctoken_both, crate::proofs::RefusalLemmas::ctoken_too_long, crate::proofs::RefusalLemmas::for_memory))]
 pub(crate) fn ctoken_words(alloc: Global, parted: &Parted, now: u64) -> Result<Vec<String>, Refused>
-    ensures { IfOk result (λ words. MeansCtoken now (parts_of parted.now) (map string_bytes words.items)) }
+    ensures told { IfOk result (λ words. MeansCtoken now (parts_of parted.now) (map string_bytes words.items)) }
+    ensures refused { IfErr result (IsFor ((words : List (List ℕ)) → ¬ MeansCtoken now (parts_of parted.now) words)) }
 {
     let key = only_key(&parted.places)?;
     let user = user_told(&parted.options)?;
@@ -184,8 +196,10 @@ pub(crate) fn push_words(
 }
 
 /// Puts the id of a file of that name behind the words.
+#[tactic(auto, using(crate::proofs::RefusalLemmas::for_any, crate::proofs::RefusalLemmas::for_memory))]
 fn push_id(alloc: Global, words: &mut Vec<String>, file: &str) -> Result<(), Refused>
-    ensures { OnOk result (IsFileName file.now × (map string_bytes words.new.items ≡ map string_bytes words.old.items ++ id_of file.now ∷ [])) }
+    ensures put { OnOk result (IsFileName file.now × (map string_bytes words.new.items ≡ map string_bytes words.old.items ++ id_of file.now ∷ [])) }
+    ensures refused { IfErr result (IsFor (¬ IsFileName file.now)) }
 {
     let Ok(name) = FileName::read(file.as_bytes()) else {
         return Err(hidden("--file NAME", FILE));
@@ -198,8 +212,11 @@ fn push_id(alloc: Global, words: &mut Vec<String>, file: &str) -> Result<(), Ref
 }
 
 /// The places of `edit` with the id of the file that `--file` names behind the first.
+#[tactic(auto, using(crate::proofs::RefusalLemmas::many_files, crate::proofs::RefusalLemmas::no_authority, crate::proofs::RefusalLemmas::no_name, crate::proofs::RefusalLemmas::for_memory))]
 fn with_file(alloc: Global, places: &[String], file: Values<'_>) -> Result<Vec<String>, Refused>
-    ensures { (files : List (List ℕ)) → AreValues files file.entry → IfOk result (λ words. IsWithFile (map string_bytes places.now) files (map string_bytes words.items)) }
+    ensures put { (files : List (List ℕ)) → AreValues files file.entry → IfOk result (λ words. IsWithFile (map string_bytes places.now) files (map string_bytes words.items)) }
+    ensures refused { (files : List (List ℕ)) → AreValues files file.entry
+        → IfErr result (IsFor ((words : List (List ℕ)) → ¬ IsWithFile (map string_bytes places.now) files words)) }
 {
     let mut words = Vec::new(alloc);
     match file {
@@ -224,13 +241,16 @@ fn with_file(alloc: Global, places: &[String], file: Values<'_>) -> Result<Vec<S
 const NONCE: &str = "1 to 32 ASCII letters and digits, once";
 
 /// Puts the nonce behind the words, or one that was made where it alone is missing.
+#[tactic(auto, using(crate::proofs::RefusalLemmas::many_nonces, crate::proofs::RefusalLemmas::for_memory))]
 fn push_nonce(
     alloc: Global,
     words: &mut Vec<String>,
     nonce: Values<'_>,
     own: &str,
 ) -> Result<(), Refused>
-    ensures { (nonces : List (List ℕ)) → AreValues nonces nonce.entry → OnOk result (IsWithNonce (map string_bytes words.old.items) nonces own.now (map string_bytes words.new.items)) }
+    ensures put { (nonces : List (List ℕ)) → AreValues nonces nonce.entry → OnOk result (IsWithNonce (map string_bytes words.old.items) nonces own.now (map string_bytes words.new.items)) }
+    ensures refused { (nonces : List (List ℕ)) → AreValues nonces nonce.entry
+        → IfErr result (IsFor ((all : List (List ℕ)) → ¬ IsWithNonce (map string_bytes words.old.items) nonces own.now all)) }
 {
     match nonce {
         Values::One(nonce) => push_word(alloc, words, nonce)?,
@@ -246,7 +266,8 @@ fn push_nonce(
 
 /// The words of `edit` behind its name.
 pub(crate) fn edit_words(alloc: Global, parted: &Parted, own: &str) -> Result<Vec<String>, Refused>
-    ensures { IfOk result (λ words. MeansPlaces own.now (parts_of parted.now) (map string_bytes words.items)) }
+    ensures told { IfOk result (λ words. MeansPlaces own.now (parts_of parted.now) (map string_bytes words.items)) }
+    ensures refused { IfErr result (IsFor ((words : List (List ℕ)) → ¬ MeansPlaces own.now (parts_of parted.now) words)) }
 {
     let file = values_told(&parted.options, "--file");
     let nonce = values_told(&parted.options, "--nonce");

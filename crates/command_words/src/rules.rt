@@ -152,13 +152,4 @@ impl Rule {
             Rule::Links => "a number from 1 to 1024, without leading zeros",
         }
     }
-
-    /// Whether it is a secret, which isn't shown.
-    pub(crate) fn is_secret(self) -> bool {
-        match self {
-            Rule::Key => true,
-            Rule::Token => true,
-            _ => false,
-        }
-    }
 }

@@ -4,7 +4,7 @@ ghost use Rattle.command_words.specs.Secrets.{IsSecretAt, IsWithoutFeed, place_o
 
 /// Where the secret of a command stands among its words.
 #[tactic(auto, unfolding(crate::specs::Secrets::place_of))]
-fn place_of(name: &str) -> Option<usize>
+pub(crate) fn place_of(name: &str) -> Option<usize>
     ensures { result ≡ place_of name.now }
 {
     if name == "token" || name == "ctoken" {

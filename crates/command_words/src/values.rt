@@ -1,6 +1,6 @@
 //! The values of options.
-ghost use Rattle.std.specs.Prelude.{◌≡◌, ◌∷◌, [], IfOk, Some, map, string_bytes};
-ghost use Rattle.command_words.specs.Values.{AreValues, number_of, text_of, values_of};
+ghost use Rattle.std.specs.Prelude.{◌≡◌, ◌∷◌, [], IfErr, IfOk, None, Some, map, string_bytes};
+ghost use Rattle.command_words.specs.Values.{AreValues, IsNotOne, number_of, text_of, values_of};
 
 use crate::wrong::Refused;
 use wopi_text::decimal_read;
@@ -38,13 +38,15 @@ pub(crate) fn values_told<'a>(options: &'a [String], name: &str) -> Values<'a>
 const MOST_SECONDS: u64 = 1_000_000;
 
 /// The seconds that an option tells, or those that stand for it where it is missing.
+#[tactic(auto, using(crate::proofs::RefusalLemmas::many_no_number))]
 pub(crate) fn seconds(
     options: &[String],
     name: &str,
     default: u32,
     wrong: Refused,
 ) -> Result<u32, Refused>
-    ensures { IfOk result (λ number. number_of default (values_of name.now (map string_bytes options.now)) ≡ Some number) }
+    ensures told { IfOk result (λ number. number_of default (values_of name.now (map string_bytes options.now)) ≡ Some number) }
+    ensures refused { IfErr result (λ _. number_of default (values_of name.now (map string_bytes options.now)) ≡ None) }
 {
     match values_told(options, name) {
         Values::Missing => return Ok(default),
@@ -62,13 +64,15 @@ pub(crate) fn seconds(
 }
 
 /// The text of an option, or that which stands for it where it is missing.
+#[tactic(auto, using(crate::proofs::RefusalLemmas::many_no_text))]
 pub(crate) fn text<'a>(
     options: &'a [String],
     name: &str,
     default: &'a str,
     wrong: Refused,
 ) -> Result<&'a str, Refused>
-    ensures { IfOk result (λ text. text_of default.now (values_of name.now (map string_bytes options.now)) ≡ Some text.now) }
+    ensures told { IfOk result (λ text. text_of default.now (values_of name.now (map string_bytes options.now)) ≡ Some text.now) }
+    ensures refused { IfErr result (λ _. text_of default.now (values_of name.now (map string_bytes options.now)) ≡ None) }
 {
     match values_told(options, name) {
         Values::Missing => return Ok(default),
@@ -78,12 +82,14 @@ pub(crate) fn text<'a>(
 }
 
 /// The text of an option that has to stand there.
+#[tactic(auto, using(crate::proofs::RefusalLemmas::none_not_one, crate::proofs::RefusalLemmas::many_not_one))]
 pub(crate) fn told<'a>(
     options: &'a [String],
     name: &str,
     wrong: Refused,
 ) -> Result<&'a str, Refused>
-    ensures { IfOk result (λ text. values_of name.now (map string_bytes options.now) ≡ text.now ∷ []) }
+    ensures told { IfOk result (λ text. values_of name.now (map string_bytes options.now) ≡ text.now ∷ []) }
+    ensures refused { IfErr result (λ _. IsNotOne (values_of name.now (map string_bytes options.now))) }
 {
     match values_told(options, name) {
         Values::One(word) => return Ok(word),

@@ -1,8 +1,8 @@
 use Rattle.std.proofs.Common.{◌≡◌, map, string_bytes}
 use Rattle.command_words.proofs.people.edit_words.Goals as goal
 
-pub returns : goal.returns
-returns c =
+pub returns-clause-told : goal.returns-clause-told
+returns-clause-told c =
     let at_file : c.deref.result.now ≡ c.args.parted.now.options.items = c.deref.ensures.value in
     let at_nonce : c.deref-2.result.now ≡ c.args.parted.now.options.items = c.deref-2.ensures.value in
     let at_places : c.deref-3.result.now ≡ c.args.parted.now.places.items = c.deref-3.ensures.value in
