@@ -1,6 +1,5 @@
 -- Why words are refused.
-use Rattle.std.proofs.Common.{◌≡◌, ◌<◌, ◌≤◌, ◌+◌, ℕ, Bool, true, false, nat_lt, List, [], ◌∷◌, length, codes, Option, None, Some, refl, sym, ap, ◌∙◌, subst, arith, true≢false}
-use Rattle.wopi_text.specs.Decimals.{decimal_of}
+use Rattle.std.proofs.Common.{◌≡◌, ◌<◌, ◌≤◌, ◌+◌, ℕ, Bool, true, false, nat_lt, List, [], ◌∷◌, length, codes, Option, None, Some, Result, Ok, Err, IfErr, IsErrAnd, refl, sym, ◌∙◌, subst, arith, true≢false}
 use Rattle.wopi_text.specs.FileName.{IsFileName}
 use Rattle.wopi_text.specs.Moments.{moments_end}
 use Rattle.command_words.specs.declared.around.Around.{Around}
@@ -9,7 +8,7 @@ use Rattle.command_words.specs.declared.options.Kind.TheVariants as kind
 use Rattle.command_words.specs.declared.wrong.Refused.{Refused}
 use Rattle.command_words.specs.declared.wrong.Refused.TheVariants.{Words, Memory}
 use Rattle.command_words.specs.Meaning.{IsAround, IsWithFile, IsWithNonce, MeansCtoken, MeansEdit, MeansOf, MeansPlaces, MeansServe, MeansToken, has_both, is_bare}
-use Rattle.command_words.specs.Parts.{IsUnfinished, Parts, halved, lacks_value, parted_of}
+use Rattle.command_words.specs.Parts.{Parts, lacks_value, parted_of}
 use Rattle.command_words.specs.Refusals.{IsFor}
 use Rattle.command_words.specs.Spans.{IsSpan}
 use Rattle.command_words.specs.Values.{IsNotOne, number_of, text_of, values_of}
@@ -24,16 +23,21 @@ pub for_any : {P : Type 0} (refused : Refused) → P → IsFor P refused
 for_any (Words wrong) p = p
 for_any Memory p = tt
 
+-- what a `?` passes on is refused for the same reason
+pub passed_up : {T E : Type 0} (result : Result T E) (refused : E) (P : E → Type 0) → IsErrAnd result (λ other. other ≡ refused) → P refused → IfErr result P
+passed_up (Ok value) refused P same p = absurd same
+passed_up (Err other) refused P same p = subst P (sym same) p
+
 -- want of memory needs none
-pub for_memory : {P : Type 0} (refused : Refused) → refused ≡ Memory → IsFor P refused
-for_memory (Words wrong) is = absurd (cc is)
-for_memory Memory is = tt
+pub for_memory : (P : Type 0) (refused : Refused) → refused ≡ Memory → IsFor P refused
+for_memory P (Words wrong) is = absurd (cc is)
+for_memory P Memory is = tt
 
 apart : {A : Type 0} (o : Option A) (a : A) → o ≡ None → o ≡ Some a → ⊥
 apart o a none some = absurd (cc (none, some))
 
 not_one : (words : List (List ℕ)) (word : List ℕ) → IsNotOne words → words ≡ word ∷ [] → ⊥
-not_one words word no is = subst IsNotOne is no
+not_one words word lacking is = subst IsNotOne is lacking
 
 -- values that are none or several
 pub none_not_one : (words : List (List ℕ)) → words ≡ [] → IsNotOne words
@@ -84,16 +88,16 @@ same_time : (options : List (List ℕ)) (time other : List ℕ) → values_of (c
 same_time options time other here there = cc (here, there)
 
 pub token_no_key : (now : ℕ) (parts : Parts) (refused : Refused) → IsNotOne parts.places → IsFor (NoToken now parts) refused
-token_no_key now parts refused no = for_any refused (λ words means. not_one parts.places means.key no means.places_are)
+token_no_key now parts refused lacking = for_any refused (λ words means. not_one parts.places means.key lacking means.places_are)
 
 pub token_no_user : (now : ℕ) (parts : Parts) (refused : Refused) → IsNotOne (values_of (codes "--user") parts.options) → IsFor (NoToken now parts) refused
-token_no_user now parts refused no = for_any refused (λ words means. not_one _ means.user no means.user_is)
+token_no_user now parts refused lacking = for_any refused (λ words means. not_one _ means.user lacking means.user_is)
 
 pub token_no_file : (now : ℕ) (parts : Parts) (refused : Refused) → IsNotOne (values_of (codes "--file") parts.options) → IsFor (NoToken now parts) refused
-token_no_file now parts refused no = for_any refused (λ words means. not_one _ means.file no means.file_is)
+token_no_file now parts refused lacking = for_any refused (λ words means. not_one _ means.file lacking means.file_is)
 
 pub token_no_time : (now : ℕ) (parts : Parts) (refused : Refused) → IsNotOne (values_of (codes "--for") parts.options) → IsFor (NoToken now parts) refused
-token_no_time now parts refused no = for_any refused (λ words means. not_one _ means.time no means.time_is)
+token_no_time now parts refused lacking = for_any refused (λ words means. not_one _ means.time lacking means.time_is)
 
 pub token_both : (now : ℕ) (parts : Parts) (refused : Refused) → has_both parts.flags ≡ true → IsFor (NoToken now parts) refused
 token_both now parts refused both = for_any refused (λ words means. absurd (true≢false (sym both ∙ means.one)))
@@ -110,13 +114,13 @@ abbrev NoCtoken : ℕ → Parts → Type 0
 NoCtoken now parts = (words : List (List ℕ)) → Prim.¬◌ (MeansCtoken now parts words)
 
 pub ctoken_no_key : (now : ℕ) (parts : Parts) (refused : Refused) → IsNotOne parts.places → IsFor (NoCtoken now parts) refused
-ctoken_no_key now parts refused no = for_any refused (λ words means. not_one parts.places means.key no means.places_are)
+ctoken_no_key now parts refused lacking = for_any refused (λ words means. not_one parts.places means.key lacking means.places_are)
 
 pub ctoken_no_user : (now : ℕ) (parts : Parts) (refused : Refused) → IsNotOne (values_of (codes "--user") parts.options) → IsFor (NoCtoken now parts) refused
-ctoken_no_user now parts refused no = for_any refused (λ words means. not_one _ means.user no means.user_is)
+ctoken_no_user now parts refused lacking = for_any refused (λ words means. not_one _ means.user lacking means.user_is)
 
 pub ctoken_no_time : (now : ℕ) (parts : Parts) (refused : Refused) → IsNotOne (values_of (codes "--for") parts.options) → IsFor (NoCtoken now parts) refused
-ctoken_no_time now parts refused no = for_any refused (λ words means. not_one _ means.time no means.time_is)
+ctoken_no_time now parts refused lacking = for_any refused (λ words means. not_one _ means.time lacking means.time_is)
 
 pub ctoken_both : (now : ℕ) (parts : Parts) (refused : Refused) → has_both parts.flags ≡ true → IsFor (NoCtoken now parts) refused
 ctoken_both now parts refused both = for_any refused (λ words means. absurd (true≢false (sym both ∙ means.one)))
@@ -146,9 +150,9 @@ no_authority places files file refused none one =
 
 pub no_name : (places rest files : List (List ℕ)) (authority file : List ℕ) (refused : Refused) → places ≡ authority ∷ rest → files ≡ file ∷ []
     → IsFor (Prim.¬◌ (IsFileName file)) refused → IsFor (NoFile places files) refused
-no_name places rest files authority file refused begins one no =
+no_name places rest files authority file refused begins one lacking =
     subst (λ (p : List (List ℕ)). IsFor (NoFile p files) refused) (sym begins)
-    (subst (λ (f : List (List ℕ)). IsFor (NoFile (authority ∷ rest) f) refused) (sym one) (for_more refused (λ none words is. none is.0) no))
+    (subst (λ (f : List (List ℕ)). IsFor (NoFile (authority ∷ rest) f) refused) (sym one) (for_more refused (λ none words is. none is.0) lacking))
 
 abbrev NoNonce : List (List ℕ) → List (List ℕ) → List ℕ → Type 0
 NoNonce places nonces own = (words : List (List ℕ)) → Prim.¬◌ (IsWithNonce places nonces own words)
@@ -169,40 +173,50 @@ NoPlaces own parts = (words : List (List ℕ)) → Prim.¬◌ (MeansPlaces own p
 
 pub places_no_file : (own : List ℕ) (parts : Parts) (refused : Refused) → IsFor (NoFile parts.places (values_of (codes "--file") parts.options)) refused
     → IsFor (NoPlaces own parts) refused
-places_no_file own parts refused no = for_more refused (λ none words means. none means.named means.named_are) no
+places_no_file own parts refused lacking = for_more refused (λ none words means. none means.named means.named_are) lacking
 
 pub places_no_nonce : (own : List ℕ) (parts : Parts) (named : List (List ℕ)) (refused : Refused)
     → IsWithFile parts.places (values_of (codes "--file") parts.options) named
     → IsFor (NoNonce named (values_of (codes "--nonce") parts.options) own) refused → IsFor (NoPlaces own parts) refused
-places_no_nonce own parts named refused is no = for_more refused (λ none words means.
+places_no_nonce own parts named refused is lacking = for_more refused (λ none words means.
     none words (subst (λ (n : List (List ℕ)). IsWithNonce n (values_of (codes "--nonce") parts.options) own words)
-    (with_file_once parts.places (values_of (codes "--file") parts.options) named means.named is means.named_are) means.words_are)) no
+    (with_file_once parts.places (values_of (codes "--file") parts.options) named means.named is means.named_are) means.words_are)) lacking
 
 -- the words of a command mean nothing
 pub serve_no_around : (parts : Parts) (verbose : Bool) (refused : Refused) → verbose ≡ nat_lt 0 (length parts.flags) → IsFor (NoAround parts.options verbose) refused
     → IsFor ((words : List (List ℕ)) (around : Around) → Prim.¬◌ (MeansServe parts words around)) refused
-serve_no_around parts verbose refused is no =
-    for_more refused (λ none words around means. none around (subst (λ (v : Bool). IsAround parts.options v around) (sym is) means.around_is)) no
+serve_no_around parts verbose refused is lacking =
+    for_more refused (λ none words around means. none around (subst (λ (v : Bool). IsAround parts.options v around) (sym is) means.around_is)) lacking
 
 abbrev NoEdit : List ℕ → Parts → Type 0
 NoEdit own parts = (words : List (List ℕ)) (around : Around) → Prim.¬◌ (MeansEdit own parts words around)
 
 pub edit_no_around : (own : List ℕ) (parts : Parts) (refused : Refused) → IsFor (NoAround parts.options false) refused → IsFor (NoEdit own parts) refused
-edit_no_around own parts refused no = for_more refused (λ none words around means. none around means.around_is) no
+edit_no_around own parts refused lacking = for_more refused (λ none words around means. none around means.around_is) lacking
 
 pub edit_no_places : (own : List ℕ) (parts : Parts) (refused : Refused) → IsFor (NoPlaces own parts) refused → IsFor (NoEdit own parts) refused
-edit_no_places own parts refused no = for_more refused (λ none words around means. none means.places means.places_are) no
+edit_no_places own parts refused lacking = for_more refused (λ none words around means. none means.places means.places_are) lacking
 
 pub no_token : (now : ℕ) (parts : Parts) (refused : Refused) → is_bare parts ≡ false → IsFor (NoToken now parts) refused
     → IsFor ((words : List (List ℕ)) (around : Around) → Prim.¬◌ (MeansOf now [] kind.Token parts words around)) refused
-no_token now parts refused more no = for_more refused (λ none words around means. none words (means.1 more)) no
+no_token now parts refused more lacking = for_more refused (λ none words around means. none words (means.1 more)) lacking
 
 pub no_ctoken : (now : ℕ) (parts : Parts) (refused : Refused) → is_bare parts ≡ false → IsFor (NoCtoken now parts) refused
     → IsFor ((words : List (List ℕ)) (around : Around) → Prim.¬◌ (MeansOf now [] kind.Ctoken parts words around)) refused
-no_ctoken now parts refused more no = for_more refused (λ none words around means. none words (means.1 more)) no
+no_ctoken now parts refused more lacking = for_more refused (λ none words around means. none words (means.1 more)) lacking
 
--- the last option lacks its value
-pub unfinished : {P : List (List ℕ) → Around → Type 0} (lacks : Bool) (refused : Refused) → IsUnfinished refused lacks
-    → IsFor ((words : List (List ℕ)) (around : Around) → lacks ≡ false → Prim.¬◌ (P words around)) refused
-unfinished lacks (Words wrong) is = λ words around no means. true≢false (sym is ∙ no)
-unfinished lacks Memory is = tt
+-- the words behind a command's name mean nothing
+abbrev NothingBehind : ℕ → List ℕ → Kind → List (List ℕ) → Type 0
+NothingBehind now own k halves = (words : List (List ℕ)) (around : Around) → lacks_value k halves ≡ false → Prim.¬◌ (MeansOf now own k (parted_of k halves) words around)
+
+pub of_token : (now : ℕ) (own : List ℕ) (k : Kind) (halves : List (List ℕ)) (parts : Parts) (refused : Refused) → k ≡ kind.Token → parts ≡ parted_of k halves
+    → IsFor ((words : List (List ℕ)) (around : Around) → Prim.¬◌ (MeansOf now [] kind.Token parts words around)) refused → IsFor (NothingBehind now own k halves) refused
+of_token now own k halves parts refused is same lacking = for_more refused (λ none words around whole means.
+    none words around (subst (λ (p : Parts). MeansOf now own kind.Token p words around) (sym same)
+    (subst (λ (other : Kind). MeansOf now own other (parted_of k halves) words around) is means))) lacking
+
+pub of_ctoken : (now : ℕ) (own : List ℕ) (k : Kind) (halves : List (List ℕ)) (parts : Parts) (refused : Refused) → k ≡ kind.Ctoken → parts ≡ parted_of k halves
+    → IsFor ((words : List (List ℕ)) (around : Around) → Prim.¬◌ (MeansOf now [] kind.Ctoken parts words around)) refused → IsFor (NothingBehind now own k halves) refused
+of_ctoken now own k halves parts refused is same lacking = for_more refused (λ none words around whole means.
+    none words around (subst (λ (p : Parts). MeansOf now own kind.Ctoken p words around) (sym same)
+    (subst (λ (other : Kind). MeansOf now own other (parted_of k halves) words around) is means))) lacking
