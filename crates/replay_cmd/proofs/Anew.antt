@@ -23,19 +23,18 @@ use Rattle.host_core.specs.Opening.{IsOpening, IsTooLarge, MayKeep, opened_conte
 use Rattle.host_core.specs.Opening as host
 use Rattle.host_core.specs.Store.{is_store_call}
 use Rattle.host_core.specs.Value.{Book, Agrees, state_of, is_torn, torn_from, faults_in}
+use Rattle.access_tokens.specs.Addresses.{address_with}
 use Rattle.access_tokens.specs.Keys.{IsWordOf}
 use Rattle.access_tokens.specs.declared.keys.Keys.{Keys}
 use Rattle.host_server.specs.declared.desk.Desk.{Desk}
-use Rattle.host_server.specs.Copies.{address, address_text, token_for}
+use Rattle.host_server.specs.Copies.{address, token_for}
 use Rattle.host_server.specs.Telling.{told_of}
-use Rattle.wopi_text.specs.Ids.{id_of}
 use Rattle.wopi_headers.specs.declared.answer.Answer.{Answer}
 use Rattle.wopi_headers.specs.declared.answer.BodyKind.TheVariants.{Json}
 use Rattle.wopi_acts.specs.Answers.{ruling_told}
 use Rattle.wopi_model.specs.Act.{is_create}
 use Rattle.wopi_model.specs.declared.calls.Ruling.{Ruling}
 use Rattle.wopi_model.specs.declared.token.Token.{Token}
-use Rattle.access_tokens.specs.TokenText.{token_text}
 use Rattle.file_info.specs.Relative.{relative_text}
 use Rattle.wopi_world.specs.History.{Item, Restarted, restarted, IsNextFirst}
 use Rattle.wopi_world.specs.World as in_world
@@ -214,7 +213,7 @@ module _ {F : Type 0} (book : Book F) (names : HasFileNames book) (start now : F
 -- replies tell nothing of when the desk opened
 module _ (desk desk' : Desk) (same_keys : desk'.keys ≡ desk.keys) (same_base : desk'.base ≡ desk.base) where
   same_address : (name : List ℕ) (asking : Token) (moment : ℕ) → address desk name asking moment ≡ address desk' name asking moment
-  same_address name asking moment = λ i. address_text (sym same_base i) (id_of name) (token_text (sym same_keys i) (token_for name asking moment))
+  same_address name asking moment = λ i. address_with (sym same_base i) (sym same_keys i) (token_for name asking moment)
 
   same_told : (entry : Entry) (ruling : Ruling) → answer_told desk entry ruling ≡ answer_told desk' entry ruling
   same_told entry ruling =
