@@ -10,6 +10,4 @@ mod folders;
 #[cfg(test)]
 mod sockets;
 #[cfg(test)]
-mod stops;
-#[cfg(test)]
 mod timing;

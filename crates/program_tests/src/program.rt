@@ -2,7 +2,6 @@
 mod answers;
 mod audits;
 mod chunks;
-mod crowds;
 mod demos;
 mod edit_faults;
 mod edits;
