@@ -202,7 +202,8 @@ def listens(port):
 
 def is_told(status, notes, ends):
     must(status in ends, f"status {status}, {notes}")
-    must(notes in (LINES[status], b""), f"status {status}, but the notes say {notes}")
+    # a second line may tell the cause
+    must(notes.split(b"\n")[0] in (LINES[status].rstrip(b"\n"), b""), f"status {status}, but the notes say {notes}")
     must(notes or status in (0, 6), f"status {status}, and nothing on the notes")
 
 
