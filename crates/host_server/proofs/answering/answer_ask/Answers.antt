@@ -9,8 +9,8 @@ use Rattle.host_server.proofs.answering.answer_ask.Goals as goal
 pub returns-in_err-judged-clause-tells : goal.returns-in_err-judged-clause-tells
 returns-in_err-judged-clause-tells g c =
     let sight = g.C.Caller.sight c.args.caller.now in
-    tells_nothing g.C.Caller.always sight sight
-    (RuledTo c.args.editor c.args.desk.now (asked_with c.args.editor c.args.fields.now c.args.ask.now) c.args.body c.args.moment) _ (Does-nil g.C.Caller.always sight)
+    rw c.from_residual.ensures (tells_nothing g.C.Caller.always sight sight
+    (RuledTo c.args.editor c.args.desk.now (asked_with c.args.editor c.args.fields.now c.args.ask.now) c.args.body c.args.moment) _ (Does-nil g.C.Caller.always sight))
 
 pub returns-in_default-clause-tells : goal.returns-in_default-clause-tells
 returns-in_default-clause-tells g c =

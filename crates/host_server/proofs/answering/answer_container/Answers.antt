@@ -10,8 +10,8 @@ use Rattle.host_server.proofs.answering.answer_container.Goals as goal
 pub returns-in_err-judged-clause-tells : goal.returns-in_err-judged-clause-tells
 returns-in_err-judged-clause-tells g c =
     let sight = g.C.Caller.sight c.args.caller.now in
-    tells_nothing g.C.Caller.always sight sight (Contained c.args.desk.now (container_asked_with c.args.editor c.args.fields.now c.args.ask) c.args.moment) _
-    (Does-nil g.C.Caller.always sight)
+    rw c.from_residual.ensures (tells_nothing g.C.Caller.always sight sight (Contained c.args.desk.now (container_asked_with c.args.editor c.args.fields.now c.args.ask) c.args.moment) _
+    (Does-nil g.C.Caller.always sight))
 
 pub returns-clause-tells : goal.returns-clause-tells
 returns-clause-tells g c =
