@@ -1,7 +1,7 @@
 -- What a host that serves editors answers beyond what every host does. (MS-WOPI, CheckFileInfo, has the members that a body has beside the others, and says of each what it tells; that the token may stand in an Authorization field is RFC 6750, 2.1; which of them stand, and what an editor is told of a host's health, is own.)
 use Rattle.std.specs.Prelude.{ℕ, Bool, true, false, not, ◌&&◌, ◌==◌, if◌then◌else◌, List, [], ◌∷◌, length, codes, drop, Option, None, Some, option_and_then}
 use Rattle.std.specs.Str.{bytes_eq}
-use Rattle.serde_json.specs.Data.{Data, boolean, number, unsigned, string, object, member, no_members}
+use Rattle.serde_json.specs.Data.{Data, Members, boolean, number, unsigned, string, object, member, no_members, put}
 use Rattle.serde_json.specs.Written.{compact_text}
 use Rattle.wopi_http.specs.declared.message.Field.{Field}
 use Rattle.wopi_http.specs.declared.message.Method.{Method}
@@ -36,6 +36,29 @@ editor_json info =
     (member (codes "UserId") (string info.user)
     (member (codes "Version") (string info.version)
     no_members)))))))))))))))))
+
+-- members beside others, each at its place
+abbrev pub with_members : List (List ℕ × Data) → Members → Members
+with_members [] others = others
+with_members (m ∷ ms) others = with_members ms (put m.0 m.1 others)
+
+-- those of them that tell of the file itself
+abbrev pub file_members : Info → List (List ℕ × Data)
+file_members info =
+    (codes "BaseFileName", string info.name) ∷ (codes "FileExtension", string (ending_of info.name)) ∷ (codes "OwnerId", string info.owner)
+    ∷ (codes "Size", number (unsigned info.size)) ∷ (codes "Version", string info.version) ∷ []
+
+-- those that tell what the host supports
+abbrev pub supports_members : List (List ℕ × Data)
+supports_members =
+    (codes "SupportsDeleteFile", boolean true) ∷ (codes "SupportsExtendedLockLength", boolean true) ∷ (codes "SupportsGetLock", boolean true)
+    ∷ (codes "SupportsLocks", boolean true) ∷ (codes "SupportsRename", boolean false) ∷ (codes "SupportsUpdate", boolean true) ∷ []
+
+-- those that tell of the user who asks
+abbrev pub user_members : Info → List (List ℕ × Data)
+user_members info =
+    (codes "ReadOnly", boolean (not info.can_write)) ∷ (codes "UserCanNotWriteRelative", boolean (not info.can_write)) ∷ (codes "UserCanRename", boolean false)
+    ∷ (codes "UserCanWrite", boolean info.can_write) ∷ (codes "UserFriendlyName", string info.user) ∷ (codes "UserId", string info.user) ∷ []
 
 -- the body of that answer, written without spaces
 abbrev pub editor_text : Info → List ℕ

@@ -1,4 +1,5 @@
 use Rattle.std.proofs.Common.{◌≡◌, refl, sym, ap, ◌∙◌, subst, List, ℕ}
+use Rattle.std.proofs.lemmas.Result.{err_from_is_err_and}
 use Rattle.access_tokens.specs.TokenText.{IsSigned}
 use Rattle.host_server.specs.Answering.{RuledTo, asked_with}
 use Rattle.host_server.specs.Editing.{token_taken}
@@ -9,8 +10,9 @@ use Rattle.host_server.proofs.answering.answer_ask.Goals as goal
 pub returns-in_err-judged-clause-tells : goal.returns-in_err-judged-clause-tells
 returns-in_err-judged-clause-tells g c =
     let sight = g.C.Caller.sight c.args.caller.now in
-    rw c.from_residual.ensures (tells_nothing g.C.Caller.always sight sight
-    (RuledTo c.args.editor c.args.desk.now (asked_with c.args.editor c.args.fields.now c.args.ask.now) c.args.body c.args.moment) _ (Does-nil g.C.Caller.always sight))
+    let p = err_from_is_err_and c.from_residual.result c.from_residual.ensures.1 in
+    rw p.1 (tells_nothing g.C.Caller.always sight sight
+    (RuledTo c.args.editor c.args.desk.now (asked_with c.args.editor c.args.fields.now c.args.ask.now) c.args.body c.args.moment) p.0 (Does-nil g.C.Caller.always sight))
 
 pub returns-in_default-clause-tells : goal.returns-in_default-clause-tells
 returns-in_default-clause-tells g c =

@@ -1,4 +1,5 @@
 use Rattle.std.proofs.Common.{[], subst, arith}
+use Rattle.std.proofs.lemmas.Result.{err_from_is_err_and}
 use Rattle.wopi_headers.specs.declared.container.ContainerAsk.{ContainerAsk}
 use Rattle.host_server.specs.Answering.{Contained, container_asked_with}
 use Rattle.host_server.specs.Calls.{Tells}
@@ -10,7 +11,8 @@ use Rattle.host_server.proofs.answering.answer_container.Goals as goal
 pub returns-in_err-judged-clause-tells : goal.returns-in_err-judged-clause-tells
 returns-in_err-judged-clause-tells g c =
     let sight = g.C.Caller.sight c.args.caller.now in
-    rw c.from_residual.ensures (tells_nothing g.C.Caller.always sight sight (Contained c.args.desk.now (container_asked_with c.args.editor c.args.fields.now c.args.ask) c.args.moment) _
+    let p = err_from_is_err_and c.from_residual.result c.from_residual.ensures.1 in
+    rw p.1 (tells_nothing g.C.Caller.always sight sight (Contained c.args.desk.now (container_asked_with c.args.editor c.args.fields.now c.args.ask) c.args.moment) p.0
     (Does-nil g.C.Caller.always sight))
 
 pub returns-clause-tells : goal.returns-clause-tells
