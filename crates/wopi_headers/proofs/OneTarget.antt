@@ -3,7 +3,7 @@ use Rattle.std.proofs.Common.{◌≡◌, ℕ, Bool, true, false, cond, List, Opt
 use Rattle.std.specs.Str.{bytes_eq}
 use Rattle.wopi_http.specs.declared.message.Field.{Field}
 use Rattle.wopi_http.specs.declared.message.Method.{Method}
-use Rattle.wopi_http.specs.declared.message.Method.TheVariants.{Get, Post, Other}
+use Rattle.wopi_http.specs.declared.message.Method.TheVariants.{Get, Post, Head, Options, Other}
 use Rattle.wopi_headers.specs.declared.row.Row.{Row}
 use Rattle.wopi_headers.specs.declared.row.Row.TheVariants.{PutFile, PutRelativeFile}
 use Rattle.wopi_headers.specs.Readings.{override_name, value_named}
@@ -33,6 +33,8 @@ in_row Get false name two e = absurd (cc e)
 in_row Post contents None two e = absurd (cc e)
 in_row Post true (Some name) two e = absurd (put_or_none (bytes_eq name (codes "PUT")) e)
 in_row Post false (Some name) two e = by_name name two e
+in_row Head contents name two e = absurd (cc e)
+in_row Options contents name two e = absurd (cc e)
 in_row Other contents name two e = absurd (cc e)
 
 pub one_target : (method : Method) (contents : Bool) (fields : List Field) (row : Row) → row_asked method contents fields ≡ Some row → row ≡ PutRelativeFile → has_two_targets fields ≡ false

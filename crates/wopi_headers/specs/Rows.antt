@@ -3,7 +3,7 @@ use Rattle.std.specs.Prelude.{ℕ, Bool, true, false, ◌&&◌, nat_lt, List, Op
 use Rattle.std.specs.Str.{bytes_eq}
 use Rattle.wopi_http.specs.declared.message.Field.{Field}
 use Rattle.wopi_http.specs.declared.message.Method.{Method}
-use Rattle.wopi_http.specs.declared.message.Method.TheVariants.{Get, Post, Other}
+use Rattle.wopi_http.specs.declared.message.Method.TheVariants.{Get, Post, Head, Options, Other}
 use Rattle.wopi_http.specs.Fields.{count_named}
 use Rattle.wopi_headers.specs.declared.row.Row.{Row}
 use Rattle.wopi_headers.specs.declared.row.Row.TheVariants.{CheckFileInfo, GetFile, PutFile, Lock, GetLock, RefreshLock, Unlock, PutRelativeFile, DeleteFile}
@@ -31,6 +31,8 @@ row_of Get false name two_targets = Some CheckFileInfo
 row_of Post contents None two_targets = None
 row_of Post true (Some name) two_targets = if bytes_eq name (codes "PUT") then Some PutFile else None
 row_of Post false (Some name) two_targets = by_override name two_targets
+row_of Head contents name two_targets = None
+row_of Options contents name two_targets = None
 row_of Other contents name two_targets = None
 
 -- the row of a request to a file, or to its contents

@@ -71,7 +71,7 @@ fn row_of(
                 None
             }
         }
-        Method::Other => None,
+        Method::Head | Method::Options | Method::Other => None,
     }
 }
 
