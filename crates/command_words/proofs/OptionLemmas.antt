@@ -68,7 +68,8 @@ takes_hyphen kind.Ctoken word is =
 
 flag_hyphen : (k : Kind) (word : List ℕ) → is_flag k word ≡ true → HasHyphen word
 unfolding is_flag
-flag_hyphen kind.Serve word is = named_hyphen word (codes "--verbose") refl is
+flag_hyphen kind.Serve word is =
+    or_cases (bytes_eq word (codes "--verbose")) (bytes_eq word (codes "--editor")) (named_hyphen word (codes "--verbose") refl) (named_hyphen word (codes "--editor") refl) is
 flag_hyphen kind.Edit word is = absurd (true≢false (sym is))
 flag_hyphen kind.Token word is =
     or_cases (bytes_eq word (codes "--read")) (bytes_eq word (codes "--write")) (named_hyphen word (codes "--read") refl) (named_hyphen word (codes "--write") refl) is

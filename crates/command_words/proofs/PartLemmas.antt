@@ -61,7 +61,7 @@ plain_parted k (word ∷ places) options plain =
 
 pub run_no_flag : (name : List ℕ) → is_run_option name ≡ true → is_flag kind.Serve name ≡ false
 unfolding is_flag
-run_no_flag name is = of_run_name (λ word. bytes_eq word (codes "--verbose") ≡ false) refl refl refl refl name is
+run_no_flag name is = of_run_name (λ word. (bytes_eq word (codes "--verbose") || bytes_eq word (codes "--editor")) ≡ false) refl refl refl refl name is
 
 pub run_taken : (name : List ℕ) → is_run_option name ≡ true → takes kind.Serve name ≡ true
 unfolding takes

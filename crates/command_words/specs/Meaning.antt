@@ -31,10 +31,18 @@ run_options_of [] = []
 run_options_of (option ∷ []) = []
 run_options_of (option ∷ value ∷ options) = if is_run_option option then option ∷ value ∷ run_options_of options else run_options_of options
 
+-- an option that stands alone is there
+abbrev pub has_flag : List ℕ → List (List ℕ) → Bool
+has_flag wanted flags = list_any (λ flag. bytes_eq flag wanted) flags
+
+-- `--editor`, which the program reads itself, once where it stands
+abbrev pub editor_words : List (List ℕ) → List (List ℕ)
+editor_words flags = if has_flag (codes "--editor") flags then codes "--editor" ∷ [] else []
+
 -- `serve`: the words that have a place, and then the options that the program reads itself
 pub record MeansServe (parts : Parts) (words : List (List ℕ)) (around : Around) : Type 0 where
-  pub words_are : words ≡ codes "serve" ∷ (parts.places ++ run_options_of parts.options)
-  pub around_is : IsAround parts.options (nat_lt 0 (length parts.flags)) around
+  pub words_are : words ≡ codes "serve" ∷ (parts.places ++ (editor_words parts.flags ++ run_options_of parts.options))
+  pub around_is : IsAround parts.options (has_flag (codes "--verbose") parts.flags) around
 
 -- the id of a file that `--file` names stands behind AUTHORITY
 abbrev pub IsWithFile : List (List ℕ) → List (List ℕ) → List (List ℕ) → Type 0

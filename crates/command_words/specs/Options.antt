@@ -21,7 +21,7 @@ takes kind.Ctoken word = bytes_eq word (codes "--user") || bytes_eq word (codes 
 
 -- it stands alone
 unfoldable pub is_flag : Kind → List ℕ → Bool
-is_flag kind.Serve word = bytes_eq word (codes "--verbose")
+is_flag kind.Serve word = bytes_eq word (codes "--verbose") || bytes_eq word (codes "--editor")
 is_flag kind.Edit word = false
 is_flag kind.Token word = bytes_eq word (codes "--read") || bytes_eq word (codes "--write")
 is_flag kind.Ctoken word = bytes_eq word (codes "--read") || bytes_eq word (codes "--write")

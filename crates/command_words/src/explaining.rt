@@ -163,17 +163,30 @@ fn broken(name: &str, rule: Rule, place: usize) -> Wrong
     }
 }
 
+/// The place behind `--editor`, where that stands at this place.
+fn behind_editor(words: &[String], place: usize) -> usize {
+    match words.get(place) {
+        Some(word) => {
+            if word.as_str() == "--editor" {
+                return place + 1;
+            }
+            place
+        }
+        None => place,
+    }
+}
+
 /// What is wrong with the options of that command, which is `serve`. The first of them stands at that place.
 fn wrong_option(words: &[String], name: &str, first: usize) -> Option<Wrong>
     ensures secret { IfSome result (λ wrong. HidesSecret name.now wrong.how) }
     ensures stands { IfSome result (λ wrong. Stands (length words.now) wrong.how) }
 {
-    let mut place = first;
+    let mut place = behind_editor(words, first);
     'options: while place < words.len() {
         let Some(rule) = option_rule(words[place].as_str()) else {
             return Some(Wrong {
                 name: "an option",
-                rule: "--journal, --each, --first, --links, --listen, --idle, --patience, --grace or --verbose",
+                rule: "--journal, --each, --first, --links, --listen, --idle, --patience, --grace, --verbose or --editor",
                 how: told_at(name, place),
             });
         };
@@ -203,6 +216,11 @@ fn wrong_behind(words: &[String], name: &str, place: usize) -> Option<Wrong>
             }),
         };
     }
+    let place = if name == "once" {
+        behind_editor(words, place)
+    } else {
+        place
+    };
     if place < words.len() {
         return Some(Wrong {
             name: "the word",

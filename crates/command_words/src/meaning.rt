@@ -1,14 +1,14 @@
 //! What words mean, as people write them.
 ghost use Rattle.std.specs.Prelude.{◌≡◌, ◌++◌, ◌∷◌, [], ℕ, List, IfErr, IfOk, IfSome, IfNone, None, OnOk, Some, codes, false, map, string_bytes};
 ghost use Rattle.hex.specs.Hex.{encode_lower};
-ghost use Rattle.command_words.specs.Meaning.{IsDefault, Means, MeansCtoken, MeansEdit, MeansOf, MeansServe, kind_of, run_options_of, short_for};
+ghost use Rattle.command_words.specs.Meaning.{IsDefault, Means, MeansCtoken, MeansEdit, MeansOf, MeansServe, editor_words, kind_of, run_options_of, short_for};
 ghost use Rattle.command_words.specs.Parts.{halved, lacks_value, parted_of, parts_of};
 ghost use Rattle.command_words.specs.Refusals.{IsFor, MeansNothing};
 
 use crate::around::Around;
 use crate::options::{Kind, is_run_option};
 use crate::parting::{Parted, halve, part, push_word};
-use crate::people::{Chance, ctoken_words, edit_words, push_words, token_words};
+use crate::people::{Chance, ctoken_words, edit_words, has, push_words, token_words};
 use crate::wrong::{Refused, hidden};
 use std::alloc::Global;
 use wopi_text::Memory;
@@ -86,16 +86,27 @@ fn push_run_options(
     }
 }
 
+/// Puts `--editor` behind the words that the program reads itself, where it stands among those that stand alone.
+fn push_editor(alloc: Global, words: &mut Vec<String>, flags: &[String]) -> Result<(), Memory>
+    ensures { OnOk result (map string_bytes words.new.items ≡ map string_bytes words.old.items ++ editor_words (map string_bytes flags.now)) }
+{
+    if has(flags, "--editor") {
+        return push_word(alloc, words, "--editor");
+    }
+    Ok(())
+}
+
 /// What the words of `serve` mean.
 #[tactic(auto, using(crate::proofs::RefusalLemmas::serve_no_around, crate::proofs::RefusalLemmas::for_memory))]
 fn serve_meant(alloc: Global, parted: &Parted) -> Result<Given, Refused>
     ensures told { IfOk result (λ given. MeansServe (parts_of parted.now) (map string_bytes given.words.items) given.around) }
     ensures refused { IfErr result (IsFor ((words : List (List ℕ)) (around : Around) → ¬ MeansServe (parts_of parted.now) words around)) }
 {
-    let around = Around::told(alloc, &parted.options, !parted.flags.is_empty())?;
+    let around = Around::told(alloc, &parted.options, has(&parted.flags, "--verbose"))?;
     let mut words = Vec::new(alloc);
     push_word(alloc, &mut words, "serve")?;
     push_words(alloc, &mut words, &parted.places)?;
+    push_editor(alloc, &mut words, &parted.flags)?;
     push_run_options(alloc, &mut words, &parted.options)?;
     Ok(Given { words, around })
 }

@@ -46,7 +46,7 @@ pub(crate) fn is_flag(kind: Kind, word: &str) -> bool
     ensures { result ≡ is_flag kind word.now }
 {
     match kind {
-        Kind::Serve => word == "--verbose",
+        Kind::Serve => word == "--verbose" || word == "--editor",
         Kind::Edit => false,
         Kind::Token => word == "--read" || word == "--write",
         Kind::Ctoken => word == "--read" || word == "--write",

@@ -97,7 +97,7 @@ fn span_told(time: &str, now: u64) -> Result<u64, Refused>
 }
 
 /// Whether one of the words is this one.
-fn has(words: &[String], wanted: &str) -> bool
+pub(crate) fn has(words: &[String], wanted: &str) -> bool
     ensures { result ≡ list_any (λ word. bytes_eq word wanted.now) (map string_bytes words.now) }
 {
     for word in words {

@@ -1,5 +1,5 @@
 -- From a call to an answer.
-use Rattle.std.proofs.Common.{◌≡◌, ℕ, true, false, List, [], ◌∷◌, ◌++◌, Result, Ok, Err, refl, sym, ap, ◌∙◌, subst, inl, inr, append-nil}
+use Rattle.std.proofs.Common.{◌≡◌, ℕ, Bool, true, false, List, [], ◌∷◌, ◌++◌, Result, Ok, Err, refl, sym, ap, ◌∙◌, subst, inl, inr, append-nil}
 use Rattle.std.specs.Prelude.{IfOk, IfSome, IsSome, if◌then◌else◌, Option, None, Some}
 use Rattle.wopi_text.specs.declared.faults.Memory.{Memory}
 use Rattle.wopi_model.specs.declared.token.Token.{Token}
@@ -22,23 +22,24 @@ use Rattle.host_server.specs.declared.desk.Desk.{Desk}
 use Rattle.host_server.specs.declared.calling.Called.TheVariants.{Ruled as RuledCall, Full}
 use Rattle.host_server.specs.Deeds.{Deed, Made, Blocked, Does}
 use Rattle.host_server.specs.Answering as answering
-use Rattle.host_server.specs.Answering.{call_of, copying_of, Ruled, Contained, Answered}
-use Rattle.host_server.specs.Telling.{journal_full, is_info, info_told, told_of, told}
+use Rattle.host_server.specs.Answering.{call_of, copying_of, asked_with, container_asked_with, RuledTo, Contained, AnsweredTo}
+use Rattle.host_server.specs.Editing.{refused_status}
+use Rattle.host_server.specs.Telling.{journal_full, is_info, info_told_to, told_of_to, told_to}
 use Rattle.host_server.specs.Copies.{Copied}
 use Rattle.host_server.specs.Calls as calls
 use Rattle.host_server.specs.Calls.{Calls, TellsCall, IsBegun, Tells}
-use Rattle.host_server.specs.Turns.{Answers}
+use Rattle.host_server.specs.Turns.{AnswersTo}
 use Rattle.host_server.proofs.DeedLemmas.{Does-nil}
 
 -- what is told of CheckFileInfo's ruling, and of another one
-pub info_of_call : (call : Call) (ruling : Ruling) (name : List ℕ) (token : Token) → name ≡ call.name → token ≡ call.token → is_info call.act ≡ true
-    → info_told name token ruling ≡ told_of call ruling
-info_of_call call ruling name token named held is =
-    ap (λ n. info_told n token ruling) named ∙ ap (λ t. info_told call.name t ruling) held
-    ∙ sym (ap (λ info. if info then info_told call.name call.token ruling else ruling_told ruling) is)
+pub info_of_call : (editor : Bool) (call : Call) (ruling : Ruling) (name : List ℕ) (token : Token) → name ≡ call.name → token ≡ call.token → is_info call.act ≡ true
+    → info_told_to editor name token ruling ≡ told_of_to editor call ruling
+info_of_call editor call ruling name token named held is =
+    ap (λ n. info_told_to editor n token ruling) named ∙ ap (λ t. info_told_to editor call.name t ruling) held
+    ∙ sym (ap (λ info. if info then info_told_to editor call.name call.token ruling else ruling_told ruling) is)
 
-pub ruling_of_call : (call : Call) (ruling : Ruling) → is_info call.act ≡ false → ruling_told ruling ≡ told_of call ruling
-ruling_of_call call ruling is = sym (ap (λ info. if info then info_told call.name call.token ruling else ruling_told ruling) is)
+pub ruling_of_call : (editor : Bool) (call : Call) (ruling : Ruling) → is_info call.act ≡ false → ruling_told ruling ≡ told_of_to editor call ruling
+ruling_of_call editor call ruling is = sym (ap (λ info. if info then info_told_to editor call.name call.token ruling else ruling_told ruling) is)
 
 -- what is told in one relation is told in a wider one
 begun_wider : (P Q : List Deed → Answer → Type 0) → ((deeds : List Deed) (a : Answer) → P deeds a → Q deeds a) → (deeds : List Deed) → IsBegun P deeds → IsBegun Q deeds
@@ -61,64 +62,64 @@ module _ (always : Sight → Type 0) (old new : Sight) where
   pub tells_nothing : (P : List Deed → Answer → Type 0) (fault : Memory) → Does always old new [] → Tells P always old new (Err fault)
   tells_nothing P fault does = ([], does, inl refl)
 
-  module _ (call : Call) (moment : ℕ) where
-    pub ruled_tells : (ruling : Ruling) (back : Option (List ℕ)) (r : Result Answer Memory) → Calls always old new call moment (RuledCall ruling back) → IfOk r (λ a. a ≡ told_of call ruling)
-        → Tells (TellsCall call moment) always old new r
+  module _ (editor : Bool) (call : Call) (moment : ℕ) where
+    pub ruled_tells : (ruling : Ruling) (back : Option (List ℕ)) (r : Result Answer Memory) → Calls always old new call moment (RuledCall ruling back) → IfOk r (λ a. a ≡ told_of_to editor call ruling)
+        → Tells (TellsCall editor call moment) always old new r
     ruled_tells ruling back r (entry, of, is, returned, does) said =
-        let same : told entry ≡ told_of call ruling = ap (λ c. told_of c entry.ruling) of.0 ∙ ap (told_of call) is in
-        tells_whole (TellsCall call moment) (Made entry ∷ []) (told_of call ruling) r does (calls.ruled entry of refl (sym same)) said
+        let same : told_to editor entry ≡ told_of_to editor call ruling = ap (λ c. told_of_to editor c entry.ruling) of.0 ∙ ap (told_of_to editor call) is in
+        tells_whole (TellsCall editor call moment) (Made entry ∷ []) (told_of_to editor call ruling) r does (calls.ruled entry of refl (sym same)) said
 
-    pub full_tells : (r : Result Answer Memory) → Calls always old new call moment Full → IfOk r (λ a. a ≡ journal_full) → Tells (TellsCall call moment) always old new r
+    pub full_tells : (r : Result Answer Memory) → Calls always old new call moment Full → IfOk r (λ a. a ≡ journal_full) → Tells (TellsCall editor call moment) always old new r
     full_tells r (full, does) said =
-        tells_whole (TellsCall call moment) (Blocked call moment old new ∷ []) journal_full r does (calls.full old new full refl refl) said
+        tells_whole (TellsCall editor call moment) (Blocked call moment old new ∷ []) journal_full r does (calls.full old new full refl refl) said
 
-module _ (desk : Desk) (ask : Ask) (body : List ℕ) (moment : ℕ) (always : Sight → Type 0) where
+module _ (editor : Bool) (desk : Desk) (ask : Ask) (body : List ℕ) (moment : ℕ) (always : Sight → Type 0) where
   pub dead_tells : (s : Sight) (a : Answer) → ((token : Token) → ¬ (IsSigned desk.keys ask.token token)) → a ≡ status_only 401
-      → Tells (Ruled desk ask body moment) always s s (Ok a)
+      → Tells (RuledTo editor desk ask body moment) always s s (Ok a)
   dead_tells s a none said = ([], Does-nil always s, answering.unauthorized none refl said)
 
   pub call_tells : (token : Token) (asked : Act) → IsSigned desk.keys ask.token token → act_of ask.op body ≡ Some asked → (old new : Sight) (r : Result Answer Memory)
-      → Tells (TellsCall (call_of ask token asked) moment) always old new r → Tells (Ruled desk ask body moment) always old new r
+      → Tells (TellsCall editor (call_of ask token asked) moment) always old new r → Tells (RuledTo editor desk ask body moment) always old new r
   call_tells token asked signed act old new r =
-      tells_wider always old new (TellsCall (call_of ask token asked) moment) (Ruled desk ask body moment) is_ruled r
+      tells_wider always old new (TellsCall editor (call_of ask token asked) moment) (RuledTo editor desk ask body moment) is_ruled r
     where
-      is_ruled : (deeds : List Deed) (a : Answer) → TellsCall (call_of ask token asked) moment deeds a → Ruled desk ask body moment deeds a
+      is_ruled : (deeds : List Deed) (a : Answer) → TellsCall editor (call_of ask token asked) moment deeds a → RuledTo editor desk ask body moment deeds a
       is_ruled deeds a (calls.ruled entry of is said) = answering.ruled token asked entry signed act of is said
       is_ruled deeds a (calls.full before after full is said) = answering.full token asked before after signed act full is said
 
   pub copy_tells : (token : Token) (target : Target) → IsSigned desk.keys ask.token token → ask.op ≡ op.PutRelative target → (contents : List ℕ) → contents ≡ body
       → (old new : Sight) (r : Result Answer Memory) → Tells (Copied desk (copying_of ask token target contents moment)) always old new r
-      → Tells (Ruled desk ask body moment) always old new r
+      → Tells (RuledTo editor desk ask body moment) always old new r
   copy_tells token target signed is contents same old new r told =
-      tells_wider always old new (Copied desk (copying_of ask token target body moment)) (Ruled desk ask body moment)
+      tells_wider always old new (Copied desk (copying_of ask token target body moment)) (RuledTo editor desk ask body moment)
       (λ deeds a copied. answering.copied token target signed is copied) r
       (subst (λ (text : List ℕ). Tells (Copied desk (copying_of ask token target text moment)) always old new r) same told)
 
-module _ (desk : Desk) (q : Request) (moment : ℕ) (always : Sight → Type 0) where
-  begun_asked : (ask : Ask) → AsksFor q ask → (deeds : List Deed) → IsBegun (Ruled desk ask q.body moment) deeds → IsBegun (Answered desk q moment) deeds
-  begun_asked ask asks deeds begun = begun_wider (Ruled desk ask q.body moment) (Answered desk q moment) (λ ds a is. answering.asked ask asks is) deeds begun
+module _ (editor : Bool) (desk : Desk) (q : Request) (moment : ℕ) (always : Sight → Type 0) where
+  begun_asked : (ask : Ask) → AsksFor q ask → (deeds : List Deed) → IsBegun (RuledTo editor desk (asked_with editor q.fields ask) q.body moment) deeds → IsBegun (AnsweredTo editor desk q moment) deeds
+  begun_asked ask asks deeds begun = begun_wider (RuledTo editor desk (asked_with editor q.fields ask) q.body moment) (AnsweredTo editor desk q moment) (λ ds a is. answering.asked ask asks is) deeds begun
 
-  pub asked_answers : (ask : Ask) → AsksFor q ask → (old new : Sight) (r : Result Answer Memory) → Tells (Ruled desk ask q.body moment) always old new r
-      → Answers desk q moment always old new r
+  pub asked_answers : (ask : Ask) → AsksFor q ask → (old new : Sight) (r : Result Answer Memory) → Tells (RuledTo editor desk (asked_with editor q.fields ask) q.body moment) always old new r
+      → AnswersTo editor desk q moment always old new r
   asked_answers ask asks old new (Ok a) (deeds, does, is) = (deeds, does, answering.asked ask asks is)
   asked_answers ask asks old new (Err fault) (deeds, does, begun) = (deeds, does, begun_asked ask asks deeds begun)
 
-  begun_contained : (ask : ContainerAsk) → IsAtContainers q → AsksContainer q ask → (deeds : List Deed) → IsBegun (Contained desk ask moment) deeds → IsBegun (Answered desk q moment) deeds
-  begun_contained ask at asks deeds begun = begun_wider (Contained desk ask moment) (Answered desk q moment) (λ ds a is. answering.contained ask at asks is) deeds begun
+  begun_contained : (ask : ContainerAsk) → IsAtContainers q → AsksContainer q ask → (deeds : List Deed) → IsBegun (Contained desk (container_asked_with editor q.fields ask) moment) deeds → IsBegun (AnsweredTo editor desk q moment) deeds
+  begun_contained ask at asks deeds begun = begun_wider (Contained desk (container_asked_with editor q.fields ask) moment) (AnsweredTo editor desk q moment) (λ ds a is. answering.contained ask at asks is) deeds begun
 
-  pub contained_answers : (ask : ContainerAsk) → IsAtContainers q → AsksContainer q ask → (old new : Sight) (r : Result Answer Memory) → Tells (Contained desk ask moment) always old new r
-      → Answers desk q moment always old new r
+  pub contained_answers : (ask : ContainerAsk) → IsAtContainers q → AsksContainer q ask → (old new : Sight) (r : Result Answer Memory) → Tells (Contained desk (container_asked_with editor q.fields ask) moment) always old new r
+      → AnswersTo editor desk q moment always old new r
   contained_answers ask at asks old new (Ok a) (deeds, does, is) = (deeds, does, answering.contained ask at asks is)
   contained_answers ask at asks old new (Err fault) (deeds, does, begun) = (deeds, does, begun_contained ask at asks deeds begun)
 
   -- by the ask that stands in its place
   pub kept_answers : (place : Option Ask) → IsPlaceIn q (Ok None) place → (old new : Sight) (r : Result Answer Memory)
-      → IfSome place (λ ask. Tells (Ruled desk ask q.body moment) always old new r) → Answers desk q moment always old new r
+      → IfSome place (λ ask. Tells (RuledTo editor desk (asked_with editor q.fields ask) q.body moment) always old new r) → AnswersTo editor desk q moment always old new r
   kept_answers None asks old new r told = absurd asks
   kept_answers (Some ask) asks old new r told = asked_answers ask asks.1 old new r told
 
-  pub refused_answers : (s : ℕ) (sight : Sight) (a : Answer) → IsPlaceRefusal q s → a ≡ status_only s
-      → (deeds : List Deed) × Does always sight sight deeds × Answered desk q moment deeds a
+  pub refused_answers : (s : ℕ) (sight : Sight) (a : Answer) → IsPlaceRefusal q s → a ≡ status_only (refused_status editor q s)
+      → (deeds : List Deed) × Does always sight sight deeds × AnsweredTo editor desk q moment deeds a
   refused_answers s sight a is said = ([], Does-nil always sight, answering.refused s is refl said)
 
 -- what was asked stands in its place

@@ -1,9 +1,10 @@
 -- What a request is answered, and what is done for it (MS-WOPI; that an unreadable token is 401 and a full shard 500 is own).
-use Rattle.std.specs.Prelude.{ℕ, ◌≡◌, ◌<◌, List, [], ◌∷◌, Some}
+use Rattle.std.specs.Prelude.{ℕ, ◌≡◌, ◌<◌, Bool, false, List, [], ◌∷◌, Some}
 use Rattle.wopi_model.specs.declared.token.Token.{Token}
 use Rattle.wopi_model.specs.declared.calls.Act.{Act}
 use Rattle.wopi_model.specs.declared.calls.Call.{Call}
 use Rattle.wopi_model.specs.Shard.{Entry}
+use Rattle.wopi_http.specs.declared.message.Field.{Field}
 use Rattle.wopi_http.specs.declared.message.Request.{Request}
 use Rattle.wopi_headers.specs.declared.answer.Answer.{Answer}
 use Rattle.wopi_headers.specs.declared.ask.Ask.{Ask}
@@ -21,7 +22,8 @@ use Rattle.containers.specs.Answers.{ContainerAnswered}
 use Rattle.host_server.specs.declared.desk.Desk.{Desk}
 use Rattle.host_server.specs.declared.copying.Copying.{Copying}
 use Rattle.host_server.specs.Deeds.{Deed, Made, Blocked, Listed, IsFull, IsOf}
-use Rattle.host_server.specs.Telling.{journal_full, told}
+use Rattle.host_server.specs.Editing.{refused_status, token_taken}
+use Rattle.host_server.specs.Telling.{journal_full, told_to}
 use Rattle.host_server.specs.Copies.{Copied}
 
 abbrev pub call_of : Ask → Token → Act → Call
@@ -31,16 +33,20 @@ abbrev pub copying_of : Ask → Token → Target → List ℕ → ℕ → Copyin
 copying_of ask token target body moment =
     record { source = ask.file; token = token; target = target; contents = body; moment = moment }
 
--- What an ask with this body is answered at this moment, and what is done for it.
-pub data Ruled (desk : Desk) (ask : Ask) (body : List ℕ) (moment : ℕ) (deeds : List Deed) (a : Answer) : Type 0 where
-  unauthorized : ((token : Token) → ¬ (IsSigned desk.keys ask.token token)) → deeds ≡ [] → a ≡ status_only 401 → Ruled desk ask body moment deeds a
+-- What an ask with this body is answered at this moment, and what is done for it, by whether the host serves editors.
+pub data RuledTo (editor : Bool) (desk : Desk) (ask : Ask) (body : List ℕ) (moment : ℕ) (deeds : List Deed) (a : Answer) : Type 0 where
+  unauthorized : ((token : Token) → ¬ (IsSigned desk.keys ask.token token)) → deeds ≡ [] → a ≡ status_only 401 → RuledTo editor desk ask body moment deeds a
   ruled : (token : Token) (asked : Act) (entry : Entry) → IsSigned desk.keys ask.token token → act_of ask.op body ≡ Some asked
-      → IsOf (call_of ask token asked) moment entry → deeds ≡ Made entry ∷ [] → a ≡ told entry → Ruled desk ask body moment deeds a
+      → IsOf (call_of ask token asked) moment entry → deeds ≡ Made entry ∷ [] → a ≡ told_to editor entry → RuledTo editor desk ask body moment deeds a
   full : (token : Token) (asked : Act) (before after : Sight) → IsSigned desk.keys ask.token token → act_of ask.op body ≡ Some asked
       → IsFull (call_of ask token asked) moment before after
-      → deeds ≡ Blocked (call_of ask token asked) moment before after ∷ [] → a ≡ journal_full → Ruled desk ask body moment deeds a
+      → deeds ≡ Blocked (call_of ask token asked) moment before after ∷ [] → a ≡ journal_full → RuledTo editor desk ask body moment deeds a
   copied : (token : Token) (target : Target) → IsSigned desk.keys ask.token token → ask.op ≡ op.PutRelative target
-      → Copied desk (copying_of ask token target body moment) deeds a → Ruled desk ask body moment deeds a
+      → Copied desk (copying_of ask token target body moment) deeds a → RuledTo editor desk ask body moment deeds a
+
+-- the same of a host that serves no editors
+abbrev pub Ruled : Desk → Ask → List ℕ → ℕ → List Deed → Answer → Type 0
+Ruled = RuledTo false
 
 -- the deed of listing, where there are listings
 abbrev pub listed_by : List Listing → List Deed
@@ -56,8 +62,20 @@ pub record Contained (desk : Desk) (ask : ContainerAsk) (moment : ℕ) (deeds : 
   pub answered : ContainerAnswered shards desk.keys desk.base desk.opened ask moment listings a
   pub deeds_are : deeds ≡ listed_by listings
 
--- What a request is answered at this moment, and what is done for it.
-pub data Answered (desk : Desk) (q : Request) (moment : ℕ) (deeds : List Deed) (a : Answer) : Type 0 where
-  refused : (s : ℕ) → IsPlaceRefusal q s → deeds ≡ [] → a ≡ status_only s → Answered desk q moment deeds a
-  asked : (ask : Ask) → AsksFor q ask → Ruled desk ask q.body moment deeds a → Answered desk q moment deeds a
-  contained : (ask : ContainerAsk) → IsAtContainers q → AsksContainer q ask → Contained desk ask moment deeds a → Answered desk q moment deeds a
+-- what is asked by a request with these fields, under the token that it is judged by
+abbrev pub asked_with : Bool → List Field → Ask → Ask
+asked_with editor fields ask = record ask { token = token_taken editor fields ask.token }
+
+abbrev pub container_asked_with : Bool → List Field → ContainerAsk → ContainerAsk
+container_asked_with editor fields ask = record ask { token = token_taken editor fields ask.token }
+
+-- What a request is answered at this moment, and what is done for it, by whether the host serves editors.
+pub data AnsweredTo (editor : Bool) (desk : Desk) (q : Request) (moment : ℕ) (deeds : List Deed) (a : Answer) : Type 0 where
+  refused : (s : ℕ) → IsPlaceRefusal q s → deeds ≡ [] → a ≡ status_only (refused_status editor q s) → AnsweredTo editor desk q moment deeds a
+  asked : (ask : Ask) → AsksFor q ask → RuledTo editor desk (asked_with editor q.fields ask) q.body moment deeds a → AnsweredTo editor desk q moment deeds a
+  contained : (ask : ContainerAsk) → IsAtContainers q → AsksContainer q ask → Contained desk (container_asked_with editor q.fields ask) moment deeds a
+      → AnsweredTo editor desk q moment deeds a
+
+-- the same of a host that serves no editors
+abbrev pub Answered : Desk → Request → ℕ → List Deed → Answer → Type 0
+Answered = AnsweredTo false

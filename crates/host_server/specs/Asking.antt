@@ -26,9 +26,9 @@ is_copy (op.PutRelative target) = true
 is_copy _ = false
 
 -- the call of the one act that was asked for is told
-abbrev pub TellsAct : Ask → Token → List ℕ → ℕ → (Sight → Type 0) → Sight → Sight → Result Answer Memory → Type 0
-TellsAct ask token body moment always old new result =
-    (asked : Act) × (act_of ask.op body ≡ Some asked) × Tells (TellsCall (call_of ask token asked) moment) always old new result
+abbrev pub TellsAct : Bool → Ask → Token → List ℕ → ℕ → (Sight → Type 0) → Sight → Sight → Result Answer Memory → Type 0
+TellsAct editor ask token body moment always old new result =
+    (asked : Act) × (act_of ask.op body ≡ Some asked) × Tells (TellsCall editor (call_of ask token asked) moment) always old new result
 
 -- a PutRelativeFile was asked for, and is told
 abbrev pub TellsCopy : Desk → Ask → Token → List ℕ → ℕ → (Sight → Type 0) → Sight → Sight → Result Answer Memory → Type 0

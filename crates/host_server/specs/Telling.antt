@@ -11,7 +11,7 @@ use Rattle.wopi_headers.specs.declared.answer.BodyKind.TheVariants.{Json, Plain}
 use Rattle.wopi_headers.specs.Replies.{version_text}
 use Rattle.wopi_acts.specs.Answers.{status_only, ruling_told}
 use Rattle.file_info.specs.declared.info.Info.{Info}
-use Rattle.file_info.specs.Info.{info_text}
+use Rattle.host_server.specs.Editing.{info_body}
 
 -- the answer where a shard takes no more
 abbrev pub journal_full : Answer
@@ -32,17 +32,28 @@ abbrev pub is_info : Act → Bool
 is_info act.Info = true
 is_info _ = false
 
--- the answer that tells CheckFileInfo's ruling: where it is accepted the body has the version, and no field of the reply has it
-abbrev pub info_told : List ℕ → Token → Ruling → Answer
-info_told name token ruling =
+-- The answer that tells CheckFileInfo's ruling, by whether the host serves editors: where it is accepted the body has the version, and no field
+-- of the reply has it.
+abbrev pub info_told_to : Bool → List ℕ → Token → Ruling → Answer
+info_told_to editor name token ruling =
     if ruling.status == 200
-    then record (ruling_told ruling) { version = None; kind = Json; body = info_text (info_of name token (unwrap_or ruling.version 0) ruling.size) }
+    then record (ruling_told ruling) { version = None; kind = Json; body = info_body editor (info_of name token (unwrap_or ruling.version 0) ruling.size) }
     else ruling_told ruling
 
 -- the answer that tells what a call was ruled
-abbrev pub told_of : Call → Ruling → Answer
-told_of call ruling = if is_info call.act then info_told call.name call.token ruling else ruling_told ruling
+abbrev pub told_of_to : Bool → Call → Ruling → Answer
+told_of_to editor call ruling = if is_info call.act then info_told_to editor call.name call.token ruling else ruling_told ruling
 
 -- the answer that tells an entry
+abbrev pub told_to : Bool → Entry → Answer
+told_to editor entry = told_of_to editor entry.call entry.ruling
+
+-- the same of a host that serves no editors
+abbrev pub info_told : List ℕ → Token → Ruling → Answer
+info_told = info_told_to false
+
+abbrev pub told_of : Call → Ruling → Answer
+told_of = told_of_to false
+
 abbrev pub told : Entry → Answer
-told entry = told_of entry.call entry.ruling
+told = told_to false

@@ -11,7 +11,7 @@ use Rattle.wopi_headers.specs.declared.answer.Answer.{Answer}
 use Rattle.host_core.specs.Caller.{Sight}
 use Rattle.host_server.specs.declared.desk.Desk.{Desk}
 use Rattle.host_server.specs.Deeds.{Deed, Does}
-use Rattle.host_server.specs.Answering.{Answered}
+use Rattle.host_server.specs.Answering.{AnsweredTo}
 use Rattle.host_server.specs.Calls.{IsBegun}
 use Rattle.host_server.specs.Texts.{answer_text, bare_reply}
 
@@ -25,14 +25,22 @@ said_text (answer a) close = answer_text a close
 said_text no_memory close = bare_reply 503 close
 
 -- Where memory ran out, nothing was done, or the first deeds of some answer.
-abbrev pub IsSaid : Desk → Request → ℕ → List Deed → Said → Type 0
-IsSaid desk q m part (answer a) = Answered desk q m part a
-IsSaid desk q m part no_memory = IsBegun (Answered desk q m) part
+abbrev pub IsSaidTo : Bool → Desk → Request → ℕ → List Deed → Said → Type 0
+IsSaidTo editor desk q m part (answer a) = AnsweredTo editor desk q m part a
+IsSaidTo editor desk q m part no_memory = IsBegun (AnsweredTo editor desk q m) part
 
--- What the answering of one request does.
+-- on a connection of that desk's host
+abbrev pub IsSaid : Desk → Request → ℕ → List Deed → Said → Type 0
+IsSaid desk = IsSaidTo desk.editor desk
+
+-- What the answering of one request does, by whether the host serves editors.
+abbrev pub AnswersTo : Bool → Desk → Request → ℕ → (Sight → Type 0) → Sight → Sight → Result Answer Memory → Type 0
+AnswersTo editor desk q m always old new (Ok a) = (part : List Deed) × Does always old new part × IsSaidTo editor desk q m part (answer a)
+AnswersTo editor desk q m always old new (Err fault) = (part : List Deed) × Does always old new part × IsSaidTo editor desk q m part no_memory
+
+-- the same of a host that serves no editors
 abbrev pub Answers : Desk → Request → ℕ → (Sight → Type 0) → Sight → Sight → Result Answer Memory → Type 0
-Answers desk q m always old new (Ok a) = (part : List Deed) × Does always old new part × IsSaid desk q m part (answer a)
-Answers desk q m always old new (Err fault) = (part : List Deed) × Does always old new part × IsSaid desk q m part no_memory
+Answers = AnswersTo false
 
 -- a message, whether it asked for the 100 line, the moment at which it was answered, what was done for it, and what was said
 pub record Turn : Type 0 where

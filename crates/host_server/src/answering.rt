@@ -1,17 +1,18 @@
 //! Requests answered by calls on files, and by listings of them.
-ghost use Rattle.std.specs.Prelude.{◌≡◌, IfSome, IsSome, Some, true, false};
+ghost use Rattle.std.specs.Prelude.{◌≡◌, Bool, IfOk, IfSome, IsSome, Some, true, false};
 ghost use Rattle.wopi_model.specs.Moment.{IsMoment};
 ghost use Rattle.access_tokens.specs.Remembering.{Remembers};
 ghost use Rattle.access_tokens.specs.TokenText.{IsWritable};
 ghost use Rattle.wopi_acts.specs.Acts.{act_of};
-ghost use Rattle.host_server.specs.Answering.{Ruled, Contained};
+ghost use Rattle.host_server.specs.Answering.{RuledTo, Contained, asked_with, container_asked_with};
 ghost use Rattle.host_server.specs.Asking.{asks_info, is_copy, TellsAct, TellsCopy};
 ghost use Rattle.host_server.specs.Calls.{Tells};
-ghost use Rattle.host_server.specs.Turns.{Answers};
+ghost use Rattle.host_server.specs.Turns.{Answers, AnswersTo};
 
 use crate::calling::{Called, make};
 use crate::copying::{Copying, put_beside};
 use crate::desk::Desk;
+use crate::editing::{refused_status, token_taken};
 use crate::kept::Kept;
 use crate::telling::{info_told, journal_full, ruling_told, status_only};
 use access_tokens::{RecentTokens, Token};
@@ -20,7 +21,7 @@ use host_core::{Act, Call, CallFault, Caller, Lister};
 use std::alloc::Global;
 use std::mem;
 use wopi_headers::{Answer, Ask, AskFault, ContainerAsk, Op, Target, place_into};
-use wopi_http::Request;
+use wopi_http::{Field, Request};
 use wopi_text::{Bytes, LockId, Memory};
 
 fn is_info(op: &Op) -> bool
@@ -81,7 +82,7 @@ fn make_and_tell<C: Caller>(
     requires moment { IsMoment moment }
     requires alone { is_copy ask.now.op ≡ false }
     requires other { asks_info ask.now.op ≡ false }
-    ensures tells { TellsAct ask.now token body moment C.always (C.sight caller.old) (C.sight caller.new) result }
+    ensures tells { (editor : Bool) → TellsAct editor ask.now token body moment C.always (C.sight caller.old) (C.sight caller.new) result }
     ensures basis { C.basis caller.new ≡ C.basis caller.old }
     ensures references { C.references caller.new ≡ C.references caller.old }
 {
@@ -98,6 +99,7 @@ fn make_and_tell<C: Caller>(
 fn check_file_info<C: Caller>(
     alloc: Global,
     caller: &mut C,
+    editor: bool,
     ask: &Ask,
     token: Token,
     body: Bytes,
@@ -105,7 +107,7 @@ fn check_file_info<C: Caller>(
 ) -> Result<Answer, Memory>
     requires moment { IsMoment moment }
     requires info { asks_info ask.now.op ≡ true }
-    ensures tells { TellsAct ask.now token body moment C.always (C.sight caller.old) (C.sight caller.new) result }
+    ensures tells { TellsAct editor ask.now token body moment C.always (C.sight caller.old) (C.sight caller.new) result }
     ensures basis { C.basis caller.new ≡ C.basis caller.old }
     ensures references { C.references caller.new ≡ C.references caller.old }
 {
@@ -117,7 +119,7 @@ fn check_file_info<C: Caller>(
         act: Act::Info,
     };
     match make(caller, call, moment) {
-        Called::Ruled { ruling, back: _ } => info_told(alloc, &ask.file, &token, ruling),
+        Called::Ruled { ruling, back: _ } => info_told(alloc, editor, &ask.file, &token, ruling),
         Called::Full => journal_full(alloc),
         Called::Memory => Err(Memory),
     }
@@ -155,32 +157,36 @@ fn copy_asked<C: Caller>(
     put_beside(alloc, caller, desk, copying)
 }
 
-/// Answers what was asked, with the request's body: its token is read under the desk's keys, and then the call is made.
+/// Answers what was asked, with the request's fields and body: its token is read under the desk's keys, and then
+/// the call is made.
 fn answer_ask<C: Caller>(
     alloc: Global,
     caller: &mut C,
     desk: &Desk,
+    editor: bool,
     recent: &mut RecentTokens,
+    fields: &[Field],
     ask: &mut Ask,
     body: Bytes,
     moment: u64,
 ) -> Result<Answer, Memory>
     requires moment { IsMoment moment }
     requires remembers { Remembers desk.now.keys recent.old }
-    ensures tells { Tells (Ruled desk.now ask.old body moment) C.always (C.sight caller.old) (C.sight caller.new) result }
+    ensures tells { Tells (RuledTo editor desk.now (asked_with editor fields.now ask.old) body moment) C.always (C.sight caller.old) (C.sight caller.new) result }
     ensures basis { C.basis caller.new ≡ C.basis caller.old }
     ensures references { C.references caller.new ≡ C.references caller.old }
     ensures remembers { Remembers desk.now.keys recent.new }
 {
     let text = mem::replace(&mut ask.token, Bytes::from_vec(Vec::new(alloc)));
-    let Some(token) = recent.read(&desk.keys, text) else {
+    let judged = token_taken(alloc, editor, fields, text)?;
+    let Some(token) = recent.read(&desk.keys, judged) else {
         return Ok(status_only(alloc, 401));
     };
     if is_copy(&ask.op) {
         return copy_asked(alloc, caller, desk, ask, token, body, moment);
     }
     if is_info(&ask.op) {
-        return check_file_info(alloc, caller, ask, token, body, moment);
+        return check_file_info(alloc, caller, editor, ask, token, body, moment);
     }
     make_and_tell(alloc, caller, ask, token, body, moment)
 }
@@ -190,14 +196,16 @@ fn answer_kept<C: Caller>(
     alloc: Global,
     caller: &mut C,
     desk: &Desk,
+    editor: bool,
     kept: &mut Kept,
+    fields: &[Field],
     body: Bytes,
     moment: u64,
 ) -> Result<Answer, Memory>
     requires moment { IsMoment moment }
     requires asked { IsSome kept.old.ask }
     requires remembers { Remembers desk.now.keys kept.old.recent }
-    ensures tells { IfSome kept.old.ask (λ ask. Tells (Ruled desk.now ask body moment) C.always (C.sight caller.old) (C.sight caller.new) result) }
+    ensures tells { IfSome kept.old.ask (λ ask. Tells (RuledTo editor desk.now (asked_with editor fields.now ask) body moment) C.always (C.sight caller.old) (C.sight caller.new) result) }
     ensures basis { C.basis caller.new ≡ C.basis caller.old }
     ensures references { C.references caller.new ≡ C.references caller.old }
     ensures remembers { Remembers desk.now.keys kept.new.recent }
@@ -205,7 +213,31 @@ fn answer_kept<C: Caller>(
     let Some(ask) = &mut kept.ask else {
         unreachable!()
     };
-    answer_ask(alloc, caller, desk, &mut kept.recent, ask, body, moment)
+    answer_ask(
+        alloc,
+        caller,
+        desk,
+        editor,
+        &mut kept.recent,
+        fields,
+        ask,
+        body,
+        moment,
+    )
+}
+
+/// What is asked of the container, with the token that the request is judged by.
+fn container_judged(
+    alloc: Global,
+    editor: bool,
+    fields: &[Field],
+    ask: ContainerAsk,
+) -> Result<ContainerAsk, Memory>
+    ensures { IfOk result (λ judged. judged ≡ container_asked_with editor fields.now ask) }
+{
+    let ContainerAsk { token, op } = ask;
+    let token = token_taken(alloc, editor, fields, token)?;
+    Ok(ContainerAsk { token, op })
 }
 
 /// Answers what was asked of the container: its token is read under the desk's keys, and its files are listed.
@@ -213,52 +245,82 @@ fn answer_container<C: Lister>(
     alloc: Global,
     caller: &mut C,
     desk: &Desk,
-    ask: &ContainerAsk,
+    editor: bool,
+    fields: &[Field],
+    ask: ContainerAsk,
     moment: u64,
 ) -> Result<Answer, Memory>
     requires { IsMoment moment }
-    ensures tells { Tells (Contained desk.now ask.now moment) C.always (C.sight caller.old) (C.sight caller.new) result }
+    ensures tells { Tells (Contained desk.now (container_asked_with editor fields.now ask) moment) C.always (C.sight caller.old) (C.sight caller.new) result }
     ensures basis { C.basis caller.new ≡ C.basis caller.old }
     ensures references { C.references caller.new ≡ C.references caller.old }
 {
+    let judged = container_judged(alloc, editor, fields, ask)?;
     container_answer(
         alloc,
         caller,
         &desk.keys,
         &desk.base,
         desk.opened,
-        ask,
+        &judged,
         moment,
     )
 }
 
-/// Answers a request as [`answer`] does. A token with a text that is remembered isn't read anew, and what is
+/// Answers a request, by whether the host serves editors. A token with a text that is remembered isn't read anew, and what is
 /// asked stands where the last one stood.
 pub(crate) fn answer_again<C: Lister>(
     alloc: Global,
     caller: &mut C,
     desk: &Desk,
+    editor: bool,
     kept: &mut Kept,
     request: Request,
     moment: u64,
 ) -> Result<Answer, Memory>
     requires moment { IsMoment moment }
     requires remembers { Remembers desk.now.keys kept.old.recent }
-    ensures answers { Answers desk.now request moment C.always (C.sight caller.old) (C.sight caller.new) result }
+    ensures answers { AnswersTo editor desk.now request moment C.always (C.sight caller.old) (C.sight caller.new) result }
     ensures basis { C.basis caller.new ≡ C.basis caller.old }
     ensures references { C.references caller.new ≡ C.references caller.old }
     ensures remembers { Remembers desk.now.keys kept.new.recent }
 {
     match place_into(alloc, &request, &mut kept.ask) {
-        Ok(None) => answer_kept(alloc, caller, desk, kept, request.body, moment),
-        Ok(Some(ask)) => answer_container(alloc, caller, desk, &ask, moment),
-        Err(AskFault::Refused { status }) => Ok(status_only(alloc, status)),
+        Ok(None) => {
+            let Request { fields, body, .. } = request;
+            answer_kept(
+                alloc,
+                caller,
+                desk,
+                editor,
+                kept,
+                fields.as_slice(),
+                body,
+                moment,
+            )
+        }
+        Ok(Some(ask)) => {
+            answer_container(
+                alloc,
+                caller,
+                desk,
+                editor,
+                request.fields.as_slice(),
+                ask,
+                moment,
+            )
+        }
+        Err(AskFault::Refused { status }) => {
+            let status = refused_status(editor, &request, status);
+            Ok(status_only(alloc, status))
+        }
         Err(AskFault::Memory) => Err(Memory),
     }
 }
 
 /// Answers a request: what it asks for is read from its head, its token is read under the desk's keys,
 /// and then the call is made, or the shards are listed. Contents go from the request into the call without a copy.
+/// It answers as a host that serves no editors.
 pub fn answer<C: Lister>(
     alloc: Global,
     caller: &mut C,
@@ -271,5 +333,13 @@ pub fn answer<C: Lister>(
     ensures basis { C.basis caller.new ≡ C.basis caller.old }
     ensures references { C.references caller.new ≡ C.references caller.old }
 {
-    answer_again(alloc, caller, desk, &mut Kept::new(alloc), request, moment)
+    answer_again(
+        alloc,
+        caller,
+        desk,
+        false,
+        &mut Kept::new(alloc),
+        request,
+        moment,
+    )
 }

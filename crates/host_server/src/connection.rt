@@ -65,7 +65,7 @@ fn reply_to<C: Lister>(
     ensures makes { Prepares desk.now C.always request moment close (C.sight caller.old) (C.sight caller.new) result }
     ensures remembers { Remembers desk.now.keys kept.new.recent }
 {
-    let mut told = answer_again(alloc, caller, desk, kept, request, moment);
+    let mut told = answer_again(alloc, caller, desk, desk.editor, kept, request, moment);
     match &mut told {
         Ok(answer) => match take_reply(alloc, answer, close) {
             Ok(reply) => Some(reply),

@@ -1,31 +1,52 @@
 //! What a host knows beside its files.
-ghost use Rattle.std.specs.Prelude.{◌≡◌, true};
+ghost use Rattle.std.specs.Prelude.{◌≡◌, false, true};
 ghost use Rattle.wopi_model.specs.Moment.{IsMoment};
 ghost use Rattle.access_tokens.specs.Addresses.{is_base};
 
 use access_tokens::Keys;
 use wopi_text::Bytes;
 
-/// What a host knows beside its files: the keys of its tokens, the beginning of its addresses, and
-/// the moment at which it was opened, in milliseconds.
+/// What a host knows beside its files: the keys of its tokens, the beginning of its addresses, the
+/// moment at which it was opened, in milliseconds, and whether it serves editors with what they want
+/// beyond what every host answers.
 #[derive(Drop)]
 pub struct Desk {
     pub keys: Keys,
     pub base: Bytes,
     pub opened: u64,
+    pub editor: bool,
     pub ghost form: { is_base base ≡ true },
     pub ghost moment: { IsMoment opened },
 }
 
 impl Desk {
-    /// The base is 1 to 200 bytes of 0x21 to 0x7E without a closing slash.
+    /// That of a host which serves editors or doesn't. The base is 1 to 200 bytes of 0x21 to 0x7E without a
+    /// closing slash.
+    pub fn serving(keys: Keys, base: Bytes, opened: u64, editor: bool) -> Desk
+        requires form { is_base base ≡ true }
+        requires moment { IsMoment opened }
+        ensures keys { result.keys ≡ keys }
+        ensures base { result.base ≡ base }
+        ensures opened { result.opened ≡ opened }
+        ensures editor { result.editor ≡ editor }
+    {
+        Desk {
+            keys,
+            base,
+            opened,
+            editor,
+        }
+    }
+
+    /// That of a host which serves no editors.
     pub fn new(keys: Keys, base: Bytes, opened: u64) -> Desk
         requires form { is_base base ≡ true }
         requires moment { IsMoment opened }
         ensures keys { result.keys ≡ keys }
         ensures base { result.base ≡ base }
         ensures opened { result.opened ≡ opened }
+        ensures editor { result.editor ≡ false }
     {
-        Desk { keys, base, opened }
+        Desk::serving(keys, base, opened, false)
     }
 }

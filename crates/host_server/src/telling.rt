@@ -3,10 +3,11 @@ ghost use Rattle.std.specs.Prelude.{◌≡◌, ◌==◌, [], IfOk, codes, unwrap
 ghost use Rattle.wopi_headers.specs.declared.answer.BodyKind.TheVariants.{Plain};
 ghost use Rattle.file_info.specs.Info.{HasTexts};
 ghost use Rattle.wopi_acts.specs.Answers.{status_only, kind_of_contents, ruling_told};
-ghost use Rattle.host_server.specs.Telling.{journal_full, info_of, info_told};
+ghost use Rattle.host_server.specs.Telling.{journal_full, info_of, info_told_to};
 
+use crate::editing::info_body;
 use access_tokens::Token;
-use file_info::{Info, info_text};
+use file_info::Info;
 use host_core::Ruling;
 use std::alloc::Global;
 use wopi_headers::{Answer, BodyKind, version_text};
@@ -106,14 +107,16 @@ fn info_of(
     })
 }
 
-/// The answer that tells CheckFileInfo's ruling. Its body has the version, and no field has it.
+/// The answer that tells CheckFileInfo's ruling, by whether the host serves editors. Its body has the
+/// version, and no field has it.
 pub fn info_told(
     alloc: Global,
+    editor: bool,
     name: &FileName,
     token: &Token,
     ruling: Ruling,
 ) -> Result<Answer, Memory>
-    ensures { IfOk result (λ a. a ≡ info_told name.now token.now ruling) }
+    ensures { IfOk result (λ a. a ≡ info_told_to editor name.now token.now ruling) }
 {
     let accepted = ruling.status == 200;
     let version = ruling.version.unwrap_or(0);
@@ -123,7 +126,7 @@ pub fn info_told(
         let info = info_of(alloc, name, token, version, size)?;
         answer.version = None;
         answer.kind = BodyKind::Json;
-        answer.body = info_text(alloc, &info)?;
+        answer.body = info_body(alloc, editor, &info)?;
     }
     Ok(answer)
 }

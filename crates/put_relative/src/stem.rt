@@ -1,6 +1,6 @@
-//! The stem of a name.
+//! The stem of a name, and its ending.
 ghost use Rattle.std.specs.Prelude.{◌≡◌, ◌≤◌, ◌<◌, length, take, slice_index, true};
-ghost use Rattle.put_relative.specs.CopyNames.{is_period, stem_of};
+ghost use Rattle.put_relative.specs.CopyNames.{ending_of, is_period, stem_of};
 
 /// The length of what stands before the last period, or of all where there is none.
 pub(crate) fn stem_len(name: &[u8]) -> usize
@@ -16,4 +16,12 @@ pub(crate) fn stem_len(name: &[u8]) -> usize
         }
     }
     name.len()
+}
+
+/// The last period of a name and what stands after it, or nothing where the name has none.
+pub fn ending(name: &str) -> &str
+    ensures { result.now ≡ ending_of name.now }
+{
+    let stem = stem_len(name.as_bytes());
+    &name[stem..]
 }

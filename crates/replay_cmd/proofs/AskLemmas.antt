@@ -11,7 +11,7 @@ use Rattle.host_core.specs.Single.{sight_of, SeesItsOwn}
 use Rattle.host_server.specs.declared.desk.Desk.{Desk}
 use Rattle.host_server.specs.Deeds.{Deed, made, Does}
 use Rattle.host_server.specs.Answering.{Ruled, Answered}
-use Rattle.host_server.specs.Answering.Answered.{refused, asked, contained}
+use Rattle.host_server.specs.Answering.AnsweredTo.{refused, asked, contained}
 use Rattle.wopi_http.specs.declared.message.Request.{Request}
 use Rattle.wopi_headers.specs.Containers.{IsAtContainers}
 use Rattle.wopi_headers.specs.Operations.{AsksFor, IsRefusal}

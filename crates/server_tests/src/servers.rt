@@ -12,6 +12,7 @@ use wopi_headers::{Answer, BodyKind};
 use wopi_http::{Field, Fields, Method, Request};
 use wopi_text::{Bytes, FileName, LockField, LockId, Reason};
 
+mod editors;
 mod reads;
 
 /// A token for `a.csv` that may write, under the desk's keys.

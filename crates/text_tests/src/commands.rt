@@ -31,7 +31,7 @@ fn line_of(alloc: Global, given: &Given) -> Result<String, Memory> {
 }
 
 /// Lines, and the words that the program reads.
-const MEANT: [[&str; 2]; 16] = [
+const MEANT: [[&str; 2]; 18] = [
     ["once . 4a http://localhost", "once . 4a http://localhost"],
     [
         "serve . 8880 4a http://localhost 2 --first 7 --each 3",
@@ -44,6 +44,14 @@ const MEANT: [[&str; 2]; 16] = [
     [
         "serve . 8880 4a http://localhost 2 --idle=5 --patience 6 --grace 7",
         "serve . 8880 4a http://localhost 2",
+    ],
+    [
+        "serve --editor . 8880 --each 3 4a http://localhost --editor 2",
+        "serve . 8880 4a http://localhost 2 --editor --each 3",
+    ],
+    [
+        "once . 4a http://localhost --editor",
+        "once . 4a http://localhost --editor",
     ],
     [
         "edit localhost:8880 612e637376 t n1",

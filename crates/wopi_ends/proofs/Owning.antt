@@ -1,12 +1,14 @@
 -- What a host makes of a session's request.
-use Rattle.std.proofs.Common.{◌≡◌, ◌≢◌, ◌⊎◌, ◌==◌, ℕ, List, [], ◌∷◌, ◌++◌, Option, Some, None, unwrap_or, refl, sym, ap, subst, ◌∙◌, inl, inr, arith}
-use Rattle.std.proofs.lemmas.Bool.{cond_both}
+use Rattle.std.proofs.Common.{◌≡◌, ◌≢◌, ◌⊎◌, ◌==◌, ℕ, Bool, true, false, if◌then◌else◌, length, List, [], ◌∷◌, ◌++◌, Option, Some, None, unwrap_or, refl, sym, ap, subst, ◌∙◌, inl, inr, arith}
+use Rattle.std.proofs.lemmas.Bool.{cond_both, eqb-true}
+use Rattle.std.specs.Str.{bytes_eq}
 use Rattle.wopi_model.specs.declared.token.Token.{Token}
 use Rattle.wopi_model.specs.declared.calls.Act.{Act}
 use Rattle.wopi_model.specs.declared.calls.Act.TheVariants as act
 use Rattle.wopi_model.specs.declared.calls.Call.{Call}
 use Rattle.wopi_model.specs.declared.calls.Ruling.{Ruling}
 use Rattle.wopi_model.specs.Shard.{Entry}
+use Rattle.wopi_http.specs.declared.message.Field.{Field}
 use Rattle.wopi_http.specs.declared.message.Request.{Request}
 use Rattle.wopi_headers.specs.declared.answer.Answer.{Answer}
 use Rattle.wopi_headers.specs.declared.ask.Ask.{Ask}
@@ -14,71 +16,103 @@ use Rattle.wopi_headers.specs.declared.ask.Op.TheVariants as op
 use Rattle.wopi_headers.specs.declared.ask.Target.{Target}
 use Rattle.wopi_headers.specs.Containers.{IsAtContainers}
 use Rattle.wopi_headers.specs.Operations.{AsksFor, IsRefusal}
-use Rattle.access_tokens.specs.TokenText.{IsSigned}
+use Rattle.access_tokens.specs.TokenText.{IsSigned, period, signed_text, mac_of}
+use Rattle.access_tokens.specs.declared.keys.Keys.{Keys}
 use Rattle.wopi_acts.specs.Acts.{act_of}
 use Rattle.wopi_acts.specs.Answers.{ruling_told}
 use Rattle.save_session.specs.Session.{op_of}
 use Rattle.wopi_client.specs.declared.desktop.Desktop.{Desktop}
 use Rattle.host_server.specs.declared.desk.Desk.{Desk}
 use Rattle.host_server.specs.Deeds.{Deed, Made, Blocked, made}
-use Rattle.host_server.specs.Answering.{Ruled, Answered, unauthorized, ruled, full, copied, refused, asked, contained}
+use Rattle.host_server.specs.Answering.{RuledTo, AnsweredTo, asked_with, unauthorized, ruled, full, copied, refused, asked, contained}
+use Rattle.host_server.specs.Editing.{bearer_in, joined, token_taken}
 use Rattle.host_server.specs.Answering as host
-use Rattle.host_server.specs.Telling.{is_info, told_of, info_told, told}
+use Rattle.host_server.specs.Telling.{is_info, told_of_to, info_told_to, told_to}
 use Rattle.host_server.specs.Turns.{Turn, Said, answer, no_memory, IsSaid}
 use Rattle.wopi_world.specs.Requests.{Client, Sent, Info, TakeLock, Get, Put, Relock, RefreshLock, Unlock, operation, body, act_sent, call_of}
 use Rattle.wopi_world.specs.Talks.{LooksSame, id_in}
 use Rattle.wopi_world.proofs.Seeing.{looks_itself}
 use Rattle.wopi_ends.specs.Messages.{IsAt, ask_of, TellsNone, TellsEntry, IsOwnTurn, unmade, makes}
 
+-- no token has an empty text
+
+no_text : (front rest : List ℕ) (byte : ℕ) → [] ≡ front ++ byte ∷ rest → ⊥
+no_text [] rest byte e = cc e
+no_text (b ∷ front) rest byte e = cc e
+
+nothing_signed : (keys : Keys) (token : Token) → IsSigned keys [] token → ⊥
+nothing_signed keys token signed =
+    no_text (signed_text signed.0 token) (mac_of signed.1 (signed_text signed.0 token)) period signed.3.fields
+
+-- the token that a request is judged by is its query's or none, where its query has one
+
+empty_is : (text : List ℕ) → (length text == 0) ≡ true → text ≡ []
+empty_is [] e = refl
+empty_is (b ∷ text) e = let none = eqb-true (length (b ∷ text)) 0 e in absurd (omega (arith, none))
+
+joined_right : (text : List ℕ) (borne : Option (List ℕ)) → (text ≡ [] → ⊥) → (joined text borne ≡ text) ⊎ (joined text borne ≡ [])
+joined_right text None some = inl refl
+joined_right text (Some borne) some = by_tests (length text == 0) refl (bytes_eq text borne)
+  where
+    by_tests : (none : Bool) → (length text == 0) ≡ none → (same : Bool)
+        → ((if none then borne else if same then text else []) ≡ text) ⊎ ((if none then borne else if same then text else []) ≡ [])
+    by_tests true e same = absurd (some (empty_is text e))
+    by_tests false e true = inl refl
+    by_tests false e false = inr refl
+
+taken_right : (editor : Bool) (fields : List Field) (text : List ℕ) → (text ≡ [] → ⊥) → (token_taken editor fields text ≡ text) ⊎ (token_taken editor fields text ≡ [])
+taken_right false fields text some = inl refl
+taken_right true fields text some = joined_right text (bearer_in fields) some
+
 -- what is told of a call
 
-module _ (call : Call) (ruling : Ruling) where
-  told_status : (told_of call ruling).status ≡ ruling.status
+module _ (editor : Bool) (call : Call) (ruling : Ruling) where
+  told_status : (told_of_to editor call ruling).status ≡ ruling.status
   told_status =
       let P = λ (a : Answer). a.status ≡ ruling.status in
-      let info = info_told call.name call.token ruling in
+      let info = info_told_to editor call.name call.token ruling in
       cond_both (is_info call.act) info (ruling_told ruling) P (λ e. info_keeps P (λ k b. refl) refl) (λ e. refl)
     where
       info_keeps : (P : Answer → Type 0) → ((k : Rattle.wopi_headers.specs.declared.answer.BodyKind.BodyKind) (b : List ℕ) → P (record (ruling_told ruling) { version = None; kind = k; body = b })) → P (ruling_told ruling) →
-          P (info_told call.name call.token ruling)
+          P (info_told_to editor call.name call.token ruling)
       info_keeps P f g = cond_both (ruling.status == 200) _ (ruling_told ruling) P (λ e. f _ _) (λ e. g)
 
-  told_lock : (told_of call ruling).lock ≡ ruling.lock
+  told_lock : (told_of_to editor call ruling).lock ≡ ruling.lock
   told_lock =
       let P = λ (a : Answer). a.lock ≡ ruling.lock in
-      let info = info_told call.name call.token ruling in
+      let info = info_told_to editor call.name call.token ruling in
       cond_both (is_info call.act) info (ruling_told ruling) P (λ e. info_keeps P (λ k b. refl) refl) (λ e. refl)
     where
       info_keeps : (P : Answer → Type 0) → ((k : Rattle.wopi_headers.specs.declared.answer.BodyKind.BodyKind) (b : List ℕ) → P (record (ruling_told ruling) { version = None; kind = k; body = b })) → P (ruling_told ruling) →
-          P (info_told call.name call.token ruling)
+          P (info_told_to editor call.name call.token ruling)
       info_keeps P f g = cond_both (ruling.status == 200) _ (ruling_told ruling) P (λ e. f _ _) (λ e. g)
 
-  told_reason : (told_of call ruling).reason ≡ ruling.reason
+  told_reason : (told_of_to editor call ruling).reason ≡ ruling.reason
   told_reason =
       let P = λ (a : Answer). a.reason ≡ ruling.reason in
-      let info = info_told call.name call.token ruling in
+      let info = info_told_to editor call.name call.token ruling in
       cond_both (is_info call.act) info (ruling_told ruling) P (λ e. info_keeps P (λ k b. refl) refl) (λ e. refl)
     where
       info_keeps : (P : Answer → Type 0) → ((k : Rattle.wopi_headers.specs.declared.answer.BodyKind.BodyKind) (b : List ℕ) → P (record (ruling_told ruling) { version = None; kind = k; body = b })) → P (ruling_told ruling) →
-          P (info_told call.name call.token ruling)
+          P (info_told_to editor call.name call.token ruling)
       info_keeps P f g = cond_both (ruling.status == 200) _ (ruling_told ruling) P (λ e. f _ _) (λ e. g)
 
 -- a session sees in the answer what the ruling tells
-sees : (client : Client) (sent : Sent) (ruling : Ruling) → LooksSame (operation sent) (told_of (call_of client sent) ruling) (ruling_told ruling)
-sees client Info ruling =
+sees : (editor : Bool) (client : Client) (sent : Sent) (ruling : Ruling) → LooksSame (operation sent) (told_of_to editor (call_of client sent) ruling) (ruling_told ruling)
+sees editor client Info ruling =
     let call = call_of client Info in
     record {
-      status = told_status call ruling;
-      lock = λ conflict. ap id_in (told_lock call ruling);
-      reason = λ conflict. told_reason call ruling;
+      status = told_status editor call ruling;
+      lock = λ conflict. ap id_in (told_lock editor call ruling);
+      reason = λ conflict. told_reason editor call ruling;
       text = λ ok. tt;
     }
-sees client TakeLock ruling = looks_itself (operation TakeLock) (ruling_told ruling)
-sees client Get ruling = looks_itself (operation Get) (ruling_told ruling)
-sees client (Put number contents) ruling = looks_itself (operation (Put number contents)) (ruling_told ruling)
-sees client (Relock number) ruling = looks_itself (operation (Relock number)) (ruling_told ruling)
-sees client (RefreshLock number) ruling = looks_itself (operation (RefreshLock number)) (ruling_told ruling)
-sees client (Unlock number) ruling = looks_itself (operation (Unlock number)) (ruling_told ruling)
+sees editor client TakeLock ruling = looks_itself (operation TakeLock) (ruling_told ruling)
+sees editor client Get ruling = looks_itself (operation Get) (ruling_told ruling)
+sees editor client (Put number contents) ruling = looks_itself (operation (Put number contents)) (ruling_told ruling)
+sees editor client (Relock number) ruling = looks_itself (operation (Relock number)) (ruling_told ruling)
+sees editor client (RefreshLock number) ruling = looks_itself (operation (RefreshLock number)) (ruling_told ruling)
+sees editor client (Unlock number) ruling = looks_itself (operation (Unlock number)) (ruling_told ruling)
 
 no_copy : (nonce : List ℕ) (sent : Sent) (target : Target) → op_of nonce (operation sent) ≡ op.PutRelative target → ⊥
 no_copy nonce Info target e = cc
@@ -120,28 +154,47 @@ module _ (desk : Desk) (desktop : Desktop) (client : Client) (sent : Sent) (at :
       let files : desktop.file ≡ client.token.file = at.file in
       λ i. record { name = files i; token = tokens i; act = sym acts i }
 
-  by_ruled : (contents : List ℕ) (moment : ℕ) (deeds : List Deed) (a : Answer) → contents ≡ body sent → Ruled desk own_ask contents moment deeds a → Did client sent moment deeds a
-  by_ruled contents moment deeds a is (unauthorized unsigned none told_is) = absurd (unsigned client.token at.token)
-  by_ruled contents moment deeds a is (ruled token wanted entry signed e of one told_is) =
-      let call : entry.call ≡ call_of client sent = of.0 ∙ own_call contents token wanted is signed e in
-      let looks : LooksSame (operation sent) (told entry) (ruling_told entry.ruling) =
-      subst (λ (c : Call). LooksSame (operation sent) (told_of c entry.ruling) (ruling_told entry.ruling)) (sym call) (sees client sent entry.ruling) in
+  -- a text by which a request of the session may be judged: its own, or none where a field bears another
+  abbrev IsJudgedBy : List ℕ → Type 0
+  IsJudgedBy text = (text ≡ desktop.token) ⊎ (text ≡ [])
+
+  own_signed : (text : List ℕ) → IsJudgedBy text → (token : Token) → IsSigned desk.keys text token → IsSigned desk.keys desktop.token token
+  own_signed text right token signed = elim right [
+    | inl same ↦ subst (λ (t : List ℕ). IsSigned desk.keys t token) same signed
+    | inr none ↦ absurd (nothing_signed desk.keys token (subst (λ (t : List ℕ). IsSigned desk.keys t token) none signed))
+  ]
+
+  by_ruled : (text contents : List ℕ) (moment : ℕ) (deeds : List Deed) (a : Answer) → IsJudgedBy text → contents ≡ body sent →
+      RuledTo desk.editor desk (record own_ask { token = text }) contents moment deeds a → Did client sent moment deeds a
+  by_ruled text contents moment deeds a right is (unauthorized unsigned none told_is) =
+      let status : a.status ≡ 401 = ap (λ (x : Answer). x.status) told_is in
+      subst (λ (d : List Deed). Did client sent moment d a) (sym none) (nothing a (λ e. omega (arith, status, e)) (λ e. omega (arith, status, e)))
+  by_ruled text contents moment deeds a right is (ruled token wanted entry signed e of one told_is) =
+      let call : entry.call ≡ call_of client sent = of.0 ∙ own_call contents token wanted is (own_signed text right token signed) e in
+      let looks : LooksSame (operation sent) (told_to desk.editor entry) (ruling_told entry.ruling) =
+      subst (λ (c : Call). LooksSame (operation sent) (told_of_to desk.editor c entry.ruling) (ruling_told entry.ruling)) (sym call) (sees desk.editor client sent entry.ruling) in
       subst (λ (d : List Deed). Did client sent moment d a) (sym one)
       (entered entry a call of.1 (subst (λ (x : Answer). LooksSame (operation sent) x (ruling_told entry.ruling)) (sym told_is) looks))
-  by_ruled contents moment deeds a is (full token wanted before later signed e is_full one told_is) =
+  by_ruled text contents moment deeds a right is (full token wanted before later signed e is_full one told_is) =
       let status : a.status ≡ 500 = ap (λ (x : Answer). x.status) told_is in
       subst (λ (d : List Deed). Did client sent moment d a) (sym one)
       (blocked (host.call_of own_ask token wanted) moment before later a (fault_ok a.status status) (fault_conflict a.status status))
-  by_ruled contents moment deeds a is (copied token target signed e copies) = absurd (no_copy client.nonce sent target e)
+  by_ruled text contents moment deeds a right is (copied token target signed e copies) = absurd (no_copy client.nonce sent target e)
+
+  own_judged : (fields : List Field) → IsJudgedBy (token_taken desk.editor fields desktop.token)
+  own_judged fields =
+      taken_right desk.editor fields desktop.token
+      (λ none. nothing_signed desk.keys client.token (subst (λ (t : List ℕ). IsSigned desk.keys t client.token) none at.token))
 
   by_answered : (q : Request) (moment : ℕ) (deeds : List Deed) (a : Answer) → AsksFor q own_ask → q.body ≡ body sent →
       ((other : Ask) → AsksFor q other → other ≡ own_ask) → ((s : ℕ) → IsRefusal q s → ⊥) → (IsAtContainers q → ⊥) →
-      Answered desk q moment deeds a → Did client sent moment deeds a
+      AnsweredTo desk.editor desk q moment deeds a → Did client sent moment deeds a
   by_answered q moment deeds a asks is one never away (refused s (inl at) none told_is) = absurd (away at.0)
   by_answered q moment deeds a asks is one never away (refused s (inr refusal) none told_is) = absurd (never s refusal.1)
   by_answered q moment deeds a asks is one never away (contained other at asks_other rules) = absurd (away at)
   by_answered q moment deeds a asks is one never away (asked other asks_other rules) =
-      by_ruled q.body moment deeds a is (subst (λ (x : Ask). Ruled desk x q.body moment deeds a) (one other asks_other) rules)
+      by_ruled (token_taken desk.editor q.fields desktop.token) q.body moment deeds a (own_judged q.fields) is
+      (subst (λ (x : Ask). RuledTo desk.editor desk (asked_with desk.editor q.fields x) q.body moment deeds a) (one other asks_other) rules)
 
   by_did : (t : Turn) (deeds : List Deed) (a : Answer) → Did client sent t.moment deeds a → t.part ≡ deeds → t.said ≡ answer a → IsOwnTurn client sent t
   by_did t deeds a (nothing _ ok conflict) part said = unmade (ap made part) (subst TellsNone (sym said) (ok, conflict))

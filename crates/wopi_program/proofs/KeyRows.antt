@@ -1,16 +1,16 @@
 -- Words whose keys, or whose token, are out of form.
-use Rattle.std.proofs.Common.{◌≡◌, ◌≢◌, List, [], ◌∷◌, ℕ, drop, codes, sym, ap, ◌∙◌, subst}
+use Rattle.std.proofs.Common.{◌≡◌, ◌≢◌, false, List, [], ◌∷◌, ℕ, drop, codes, sym, ap, ◌∙◌, subst}
 use Rattle.wopi_model.specs.declared.token.Token as model
 use Rattle.access_tokens.specs.Keys.{IsWordOf}
 use Rattle.access_tokens.specs.TokenText.{IsWritable}
 use Rattle.access_tokens.specs.declared.keys.Keys.{Keys}
-use Rattle.wopi_program.specs.declared.command.Command.TheVariants.{Once, Token}
-use Rattle.wopi_program.specs.Words.{IsRow, words_of}
+use Rattle.wopi_program.specs.declared.command.Command.TheVariants.{Token}
+use Rattle.wopi_program.specs.Words.{IsOnceRow, IsRow, words_of}
 
--- words are no row of `once` where its third word writes no keys
+-- words are no row of `once` without `--editor` where its third word writes no keys
 pub once_refused : (words : List (List ℕ)) (word folder key_word base : List ℕ) → words ≡ word ∷ folder ∷ key_word ∷ base ∷ []
-    → ((keys : Keys) → ¬ IsWordOf keys key_word) → ¬ IsRow words Once
-once_refused words word folder key_word base are denied (keys, base', row) =
+    → ((keys : Keys) → ¬ IsWordOf keys key_word) → (keys : Keys) (base : List ℕ) → ¬ IsOnceRow words keys base false
+once_refused words word folder key_word base are denied keys base' row =
     let same : word ∷ folder ∷ key_word ∷ base ∷ [] ≡ codes "once" ∷ row.folder ∷ row.key_word ∷ base' ∷ [] = sym are ∙ row.words_are in
     let third : row.key_word ≡ key_word = cc same in
     denied keys (subst (IsWordOf keys) third row.keys_are)

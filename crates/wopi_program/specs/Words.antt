@@ -1,5 +1,5 @@
 -- The words of the command line, and the commands whose rows they are. (Own.)
-use Rattle.std.specs.Prelude.{◌≡◌, ◌<◌, ℕ, true, List, [], ◌∷◌, length, codes, decimal}
+use Rattle.std.specs.Prelude.{◌≡◌, ◌<◌, ℕ, Bool, true, if◌then◌else◌, List, [], ◌∷◌, length, codes, decimal}
 use Rattle.access_tokens.specs.Keys.{IsWordOf}
 use Rattle.access_tokens.specs.TokenText.{IsWritable, rights_of}
 use Rattle.access_tokens.specs.Addresses.{is_base}
@@ -13,11 +13,15 @@ use Rattle.wopi_program.specs.ReplayWords.{IsReplay}
 use Rattle.wopi_program.specs.ServeWords.{IsServe}
 use Rattle.access_tokens.specs.declared.keys.Keys.{Keys}
 
--- once FOLDER KEY BASE
-pub record IsOnceRow (words : List (List ℕ)) (keys : Keys) (base : List ℕ) : Type 0 where
+-- the word behind BASE of a host that serves editors
+abbrev pub editor_words : Bool → List (List ℕ)
+editor_words editor = if editor then codes "--editor" ∷ [] else []
+
+-- once FOLDER KEY BASE, and `--editor` where the host serves editors
+pub record IsOnceRow (words : List (List ℕ)) (keys : Keys) (base : List ℕ) (editor : Bool) : Type 0 where
   pub folder : List ℕ
   pub key_word : List ℕ
-  pub words_are : words ≡ codes "once" ∷ folder ∷ key_word ∷ base ∷ []
+  pub words_are : words ≡ codes "once" ∷ folder ∷ key_word ∷ base ∷ editor_words editor
   pub folder_is : 0 < length folder
   pub keys_are : IsWordOf keys key_word
   pub base_is : is_base base ≡ true
@@ -38,7 +42,7 @@ pub record IsTokenRow (words : List (List ℕ)) (keys : Keys) (token : Token) : 
 abbrev pub IsRow : List (List ℕ) → Command → Type 0
 IsRow words command.Help = words ≡ codes "--help" ∷ []
 IsRow words command.Version = words ≡ codes "--version" ∷ []
-IsRow words command.Once = (keys : Keys) × (base : List ℕ) × IsOnceRow words keys base
+IsRow words command.Once = (keys : Keys) × (base : List ℕ) × (editor : Bool) × IsOnceRow words keys base editor
 IsRow words command.Serve = IsServe words
 IsRow words command.Edit = IsEdit words
 IsRow words command.Replay = IsReplay words

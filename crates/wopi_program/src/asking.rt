@@ -34,7 +34,7 @@ fn second(words: &[String]) -> &str
 
 /// What the words ask for.
 pub fn asked_by(words: &[String]) -> Asked<'_>
-    ensures once { (keys : Keys) (base : List ℕ) (row : IsOnceRow (map string_bytes words.now) keys base) → IsOnceOver row.folder result }
+    ensures once { (keys : Keys) (base : List ℕ) (editor : Bool) (row : IsOnceRow (map string_bytes words.now) keys base editor) → IsOnceOver row.folder result }
     ensures serve { (keys : Keys) (base : List ℕ) (ask : ServeAsk) (row : IsServeRow (map string_bytes words.now) keys base ask) → IsServeOver row.folder ask result }
     ensures edit { (authority : List ℕ) (file : List ℕ) (token : List ℕ) (nonce : List ℕ) → IsEditRow (map string_bytes words.now) authority file token nonce
         → IsEditAt authority result }

@@ -1,6 +1,6 @@
 //! What holds of two commands together, as contracts of functions that do nothing.
 ghost use Rattle.std.specs.List.{AllByRecursion};
-ghost use Rattle.std.specs.Prelude.{◌≡◌, ◌⊎◌, ◌∷◌, ◌++◌, ℕ, List, Some, length};
+ghost use Rattle.std.specs.Prelude.{◌≡◌, ◌⊎◌, ◌∷◌, ◌++◌, ℕ, Bool, List, Some, length};
 ghost use Rattle.access_tokens.specs.declared.keys.Keys.{Keys};
 ghost use Rattle.save_session.specs.declared.input.Input.{Input};
 ghost use Rattle.wopi_client.specs.declared.desktop.Desktop.{Desktop};
@@ -83,8 +83,8 @@ pub fn exchanges_over_restarts_are_safe<S, K, F, N, D, C, L>()
 
 /// The same of a client's exchanges with a `once`.
 pub fn exchanges_with_a_once_are_safe<S, K, F, N, D, C, L>()
-    ensures { (m : Meanings S K F N D C L) (keys : Keys) (base : List ℕ) (end : ConnEnd) (folder folder' : F) (clock clock' : C) (old new : Outside S K F N D C)
-        (desktop : Desktop) (client : Client) (ending : Ending) (spoken : List Spoken) (heard : List Input) (served : OpensAndServes m keys base end folder folder' clock clock' old new) →
+    ensures { (m : Meanings S K F N D C L) (keys : Keys) (base : List ℕ) (editor : Bool) (end : ConnEnd) (folder folder' : F) (clock clock' : C) (old new : Outside S K F N D C)
+        (desktop : Desktop) (client : Client) (ending : Ending) (spoken : List Spoken) (heard : List Input) (served : OpensAndServes m keys base editor end folder folder' clock clock' old new) →
         Hears desktop client ending first_speaker spoken heard →
         AreExchangedOver desktop client spoken (history_by served.serves.serves.deeds) →
         IsSafeFor client (told_by client heard) (opened_shard served.first.opening served.desk.opened 1) (history_by served.serves.serves.deeds) }

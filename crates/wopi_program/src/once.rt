@@ -101,12 +101,13 @@ fn once_over<S: Source, K: Sink, F: Folder, N: Listener, D: Dialer, C: Clock>(
     alloc: Global,
     keys: Keys,
     base: Bytes,
+    editor: bool,
     folder: F,
     clock: &mut C,
     outside: &mut Outside<S, K, F, N, D, C>,
 ) -> (F, OnceEnd)
     requires { is_base base ≡ true }
-    ensures runs { OnceRuns ⟦<Outside<S, K, F, N, D, C> as Meant<S, K, F, N, D, C, N::Link>>⟧.meanings keys base result.1 folder result.0 clock.old clock.new outside.old outside.new }
+    ensures runs { OnceRuns ⟦<Outside<S, K, F, N, D, C> as Meant<S, K, F, N, D, C, N::Link>>⟧.meanings keys base editor result.1 folder result.0 clock.old clock.new outside.old outside.new }
     ensures others { outside.new ≡ record outside.old { input = outside.new.input; output = outside.new.output } }
     ensures untouched { Untouched result.1 outside.old outside.new }
     ensures fine { result.1 ≢ OnceEnd.Served ConnEnd.ReadFault → S.read_faults outside.new.input ≡ S.read_faults outside.old.input }
@@ -115,7 +116,7 @@ fn once_over<S: Source, K: Sink, F: Folder, N: Listener, D: Dialer, C: Clock>(
     ensures nothing_read { result.1 ≡ OnceEnd.Served ConnEnd.Memory → S.left outside.new.input ≡ S.left outside.old.input }
 {
     let opened = clock.now();
-    let desk = Desk::new(keys, base, opened);
+    let desk = Desk::serving(keys, base, opened, editor);
     let store = Kept::new(alloc, folder);
     match Shard::start(alloc, store, None, CAPACITY, opened, 1) {
         Ok(shard) => {
@@ -134,12 +135,13 @@ fn once_in<S: Source, K: Sink, F: Folder, N: Listener, D: Dialer, C: Clock>(
     alloc: Global,
     keys: Keys,
     base: Bytes,
+    editor: bool,
     outside: &mut Outside<S, K, F, N, D, C>,
 ) -> OnceEnd
     requires base { is_base base ≡ true }
     requires folders { length outside.old.folders.items ≡ 1 }
     requires clocks { length outside.old.clocks.items ≡ 1 }
-    ensures runs { OnceRunsIn ⟦<Outside<S, K, F, N, D, C> as Meant<S, K, F, N, D, C, N::Link>>⟧.meanings keys base result outside.old outside.new }
+    ensures runs { OnceRunsIn ⟦<Outside<S, K, F, N, D, C> as Meant<S, K, F, N, D, C, N::Link>>⟧.meanings keys base editor result outside.old outside.new }
     ensures others { outside.new
         ≡ record outside.old { input = outside.new.input; output = outside.new.output; folders = outside.new.folders; clocks = outside.new.clocks } }
     ensures untouched { Untouched result outside.old outside.new }
@@ -154,7 +156,7 @@ fn once_in<S: Source, K: Sink, F: Folder, N: Listener, D: Dialer, C: Clock>(
     let Some(mut clock) = outside.clocks.pop() else {
         unreachable!()
     };
-    let (folder, end) = once_over(alloc, keys, base, folder, &mut clock, outside);
+    let (folder, end) = once_over(alloc, keys, base, editor, folder, &mut clock, outside);
     outside.folders.push_reserved(folder);
     outside.clocks.push_reserved(clock);
     end
@@ -242,12 +244,12 @@ pub fn run_once<S: Source, K: Sink, F: Folder, N: Listener, D: Dialer, C: Clock>
 
     ensures { OnceEnds ⟦<Outside<S, K, F, N, D, C> as Meant<S, K, F, N, D, C, N::Link>>⟧.meanings (map string_bytes words.now) result outside.old outside.new }
 {
-    let Some((keys, base)) = once_words(words) else {
+    let Some((keys, base, editor)) = once_words(words) else {
         unreachable!()
     };
     let Ok(base) = Bytes::from_slice(alloc, base.as_bytes()) else {
         return want(outside);
     };
-    let end = once_in(alloc, keys, base, outside);
+    let end = once_in(alloc, keys, base, editor, outside);
     finish(alloc, &mut outside.notes, &end)
 }

@@ -1,6 +1,6 @@
 //! The words of the command `serve`.
 ghost use Rattle.std.specs.Prelude.{◌≡◌, ◌≤◌, ◌^◌, ◌↔◌, ℕ, List, map, string_bytes, IfSome, IfNone, Some};
-ghost use Rattle.wopi_program.specs.ServeWords.{AreBounded, IsServe, IsServeRow, asked, asked_of, number_in, option_before, options_of, unless_told, with_each, with_first, with_journal, with_links};
+ghost use Rattle.wopi_program.specs.ServeWords.{AreBounded, IsServe, IsServeRow, asked, asked_of, behind_editor, number_in, serves_editors, option_before, options_of, unless_told, with_each, with_first, with_journal, with_links};
 ghost use Rattle.access_tokens.specs.declared.keys.Keys.{Keys};
 ghost use Rattle.host_core.specs.Opening.{most_first};
 
@@ -39,6 +39,8 @@ pub struct ServeAsk {
     pub each: u32,
     /// The version of each file that stands in the folder at the opening.
     pub first: u64,
+    /// Whether editors are served with what they want beyond what every host answers.
+    pub editor: bool,
 }
 
 /// The numbers of the options, each where its option stands there.
@@ -190,10 +192,15 @@ fn options(words: &[String]) -> Option<ServeOptions>
 }
 
 /// The numbers together, each option's own or that which stands for it where it is missing.
-fn asked(port: Option<u32>, workers: Option<u32>, options: Option<ServeOptions>) -> Option<ServeAsk>
+fn asked(
+    port: Option<u32>,
+    workers: Option<u32>,
+    editor: bool,
+    options: Option<ServeOptions>,
+) -> Option<ServeAsk>
     requires workers { IfSome workers (λ number. (1 ≤ number) × (number ≤ 16)) }
     requires options { IfSome options AreBounded }
-    ensures value { result ≡ asked port workers options }
+    ensures value { result ≡ asked port workers editor options }
     ensures workers { IfSome result (λ ask. (1 ≤ ask.workers) × (ask.workers ≤ 1024)) }
     ensures capacity { IfSome result (λ ask. (1 ≤ ask.capacity) × (ask.capacity ≤ 32768)) }
     ensures first { IfSome result (λ ask. (1 ≤ ask.first) × (ask.first ≤ most_first)) }
@@ -210,9 +217,35 @@ fn asked(port: Option<u32>, workers: Option<u32>, options: Option<ServeOptions>)
                     capacity: options.journal.unwrap_or(ENTRIES),
                     each: options.each.unwrap_or(LINKS),
                     first: options.first.unwrap_or(FIRST),
+                    editor,
                 }),
             },
         },
+    }
+}
+
+/// Whether `--editor` stands in front of these words.
+fn serves_editors(words: &[String]) -> bool
+    ensures { result ≡ serves_editors (map string_bytes words.now) }
+{
+    match words {
+        [] => false,
+        [word, ..] => word.as_str() == "--editor",
+    }
+}
+
+/// The words behind it, or all of them where it doesn't stand there.
+fn behind_editor(words: &[String]) -> &[String]
+    ensures { map string_bytes result.now ≡ behind_editor (map string_bytes words.now) }
+{
+    match words {
+        [] => words,
+        [word, rest @ ..] => {
+            if word.as_str() == "--editor" {
+                return rest;
+            }
+            words
+        }
     }
 }
 
@@ -226,7 +259,8 @@ fn asked_of(port: &str, workers: &str, rest: &[String]) -> Option<ServeAsk>
     asked(
         small_in(port, 65535),
         small_in(workers, WORKERS),
-        options(rest),
+        serves_editors(rest),
+        options(behind_editor(rest)),
     )
 }
 

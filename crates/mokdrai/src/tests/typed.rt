@@ -79,6 +79,7 @@ fn the_address_of_the_words_is_listened_at(rt: HostRuntime) -> Result<(), Fail> 
         capacity: 1,
         each: 1,
         first: 1,
+        editor: false,
     };
     let mut unbound = None;
     let listeners = listen(alloc, &rt, around, ask, None, None, None, &mut unbound)?;

@@ -3,7 +3,7 @@ use Rattle.wopi_program.specs.Asking.{second_of}
 use Rattle.wopi_program.proofs.asking.asked_by.Goals as goal
 
 pub returns-in-Some-clause-once : goal.returns-in-Some-clause-once
-returns-in-Some-clause-once c = λ keys base row. cc (sym (c.is_once.ensures.1 (keys, base, row)) ∙ c.if-is_once.false)
+returns-in-Some-clause-once c = λ keys base editor row. cc (sym (c.is_once.ensures.1 (keys, base, editor, row)) ∙ c.if-is_once.false)
 
 pub returns-in-Some-clause-serve : goal.returns-in-Some-clause-serve
 returns-in-Some-clause-serve c = λ keys base ask row.
@@ -16,7 +16,7 @@ returns-in-Some-clause-nothing c = λ no_once no_serve no_edit.
     let found = (c.in-Some.ensures c.in-Some.numbers).0 refl in absurd (no_serve (found.0, found.1, c.in-Some.numbers, found.2))
 
 pub returns-in-None-clause-once : goal.returns-in-None-clause-once
-returns-in-None-clause-once c = λ keys base row. cc (sym (c.is_once.ensures.1 (keys, base, row)) ∙ c.if-is_once.false)
+returns-in-None-clause-once c = λ keys base editor row. cc (sym (c.is_once.ensures.1 (keys, base, editor, row)) ∙ c.if-is_once.false)
 
 pub returns-in-None-clause-serve : goal.returns-in-None-clause-serve
 returns-in-None-clause-serve c = λ keys base ask row. let is = (c.in-None.ensures ask).1 (keys, base, row) in absurd (cc is)

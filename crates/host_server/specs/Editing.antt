@@ -1,0 +1,99 @@
+-- What a host that serves editors answers beyond what every host does. (MS-WOPI, CheckFileInfo, has the members that a body has beside the others, and says of each what it tells; that the token may stand in an Authorization field is RFC 6750, 2.1; which of them stand, and what an editor is told of a host's health, is own.)
+use Rattle.std.specs.Prelude.{ℕ, Bool, true, false, not, ◌&&◌, ◌==◌, if◌then◌else◌, List, [], ◌∷◌, length, codes, drop, Option, None, Some, option_and_then}
+use Rattle.std.specs.Str.{bytes_eq}
+use Rattle.serde_json.specs.Data.{Data, Members, boolean, number, unsigned, string, object, member, no_members, put}
+use Rattle.serde_json.specs.Written.{compact_text}
+use Rattle.wopi_http.specs.declared.message.Field.{Field}
+use Rattle.wopi_http.specs.declared.message.Method.{Method}
+use Rattle.wopi_http.specs.declared.message.Method.TheVariants.{Get, Post, Other}
+use Rattle.wopi_http.specs.declared.message.Request.{Request}
+use Rattle.wopi_headers.specs.Readings.{value_named}
+use Rattle.wopi_headers.specs.Targets.{begins_with}
+use Rattle.put_relative.specs.CopyNames.{ending_of}
+use Rattle.file_info.specs.declared.info.Info.{Info}
+use Rattle.file_info.specs.Info.{info_text}
+
+-- the members of a file's answer to an editor: those of every answer, and what kind of file it is, that it can't be renamed, and whether and
+-- under which name the user may change it
+abbrev pub editor_json : Info → Data
+editor_json info =
+    object
+    (member (codes "BaseFileName") (string info.name)
+    (member (codes "FileExtension") (string (ending_of info.name))
+    (member (codes "OwnerId") (string info.owner)
+    (member (codes "ReadOnly") (boolean (not info.can_write))
+    (member (codes "Size") (number (unsigned info.size))
+    (member (codes "SupportsDeleteFile") (boolean true)
+    (member (codes "SupportsExtendedLockLength") (boolean true)
+    (member (codes "SupportsGetLock") (boolean true)
+    (member (codes "SupportsLocks") (boolean true)
+    (member (codes "SupportsRename") (boolean false)
+    (member (codes "SupportsUpdate") (boolean true)
+    (member (codes "UserCanNotWriteRelative") (boolean (not info.can_write))
+    (member (codes "UserCanRename") (boolean false)
+    (member (codes "UserCanWrite") (boolean info.can_write)
+    (member (codes "UserFriendlyName") (string info.user)
+    (member (codes "UserId") (string info.user)
+    (member (codes "Version") (string info.version)
+    no_members)))))))))))))))))
+
+-- members beside others, each at its place
+abbrev pub with_members : List (List ℕ × Data) → Members → Members
+with_members [] others = others
+with_members (m ∷ ms) others = with_members ms (put m.0 m.1 others)
+
+-- those of them that tell of the file itself
+abbrev pub file_members : Info → List (List ℕ × Data)
+file_members info =
+    (codes "BaseFileName", string info.name) ∷ (codes "FileExtension", string (ending_of info.name)) ∷ (codes "OwnerId", string info.owner)
+    ∷ (codes "Size", number (unsigned info.size)) ∷ (codes "Version", string info.version) ∷ []
+
+-- those that tell what the host supports
+abbrev pub supports_members : List (List ℕ × Data)
+supports_members =
+    (codes "SupportsDeleteFile", boolean true) ∷ (codes "SupportsExtendedLockLength", boolean true) ∷ (codes "SupportsGetLock", boolean true)
+    ∷ (codes "SupportsLocks", boolean true) ∷ (codes "SupportsRename", boolean false) ∷ (codes "SupportsUpdate", boolean true) ∷ []
+
+-- those that tell of the user who asks
+abbrev pub user_members : Info → List (List ℕ × Data)
+user_members info =
+    (codes "ReadOnly", boolean (not info.can_write)) ∷ (codes "UserCanNotWriteRelative", boolean (not info.can_write)) ∷ (codes "UserCanRename", boolean false)
+    ∷ (codes "UserCanWrite", boolean info.can_write) ∷ (codes "UserFriendlyName", string info.user) ∷ (codes "UserId", string info.user) ∷ []
+
+-- the body of that answer, written without spaces
+abbrev pub editor_text : Info → List ℕ
+editor_text info = compact_text (editor_json info)
+
+-- the body of CheckFileInfo's answer, by whether the host serves editors
+abbrev pub info_body : Bool → Info → List ℕ
+info_body editor info = if editor then editor_text info else info_text info
+
+-- what a value bears behind the scheme, which is compared without regard to ASCII case
+abbrev pub behind_scheme : List ℕ → Option (List ℕ)
+behind_scheme value = if begins_with (codes "Bearer ") value then Some (drop 7 value) else None
+
+-- the token that the first Authorization field bears
+abbrev pub bearer_in : List Field → Option (List ℕ)
+bearer_in fields = option_and_then behind_scheme (value_named (codes "Authorization") fields)
+
+-- the token of the query, or where that is empty the one that a field bears; two that differ are none
+abbrev pub joined : List ℕ → Option (List ℕ) → List ℕ
+joined token None = token
+joined token (Some borne) = if length token == 0 then borne else if bytes_eq token borne then token else []
+
+-- the token that a request with this one in its query is judged by
+abbrev pub token_taken : Bool → List Field → List ℕ → List ℕ
+token_taken editor fields token = if editor then joined token (bearer_in fields) else token
+
+abbrev pub is_get : Method → Bool
+is_get Get = true
+is_get Post = false
+is_get Other = false
+
+-- `GET /healthz`, by which a proxy asks whether the host is there
+abbrev pub asks_health : Request → Bool
+asks_health q = is_get q.method && bytes_eq q.target (codes "/healthz")
+
+-- the status of a request that asks for nothing, which else has this one
+abbrev pub refused_status : Bool → Request → ℕ → ℕ
+refused_status editor q status = if editor && asks_health q then 200 else status
