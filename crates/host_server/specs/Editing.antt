@@ -5,7 +5,7 @@ use Rattle.serde_json.specs.Data.{Data, Members, boolean, number, unsigned, stri
 use Rattle.serde_json.specs.Written.{compact_text}
 use Rattle.wopi_http.specs.declared.message.Field.{Field}
 use Rattle.wopi_http.specs.declared.message.Method.{Method}
-use Rattle.wopi_http.specs.declared.message.Method.TheVariants.{Get, Post, Other}
+use Rattle.wopi_http.specs.declared.message.Method.TheVariants.{Get, Post, Head, Options, Other}
 use Rattle.wopi_http.specs.declared.message.Request.{Request}
 use Rattle.wopi_headers.specs.Readings.{value_named}
 use Rattle.wopi_headers.specs.Targets.{begins_with}
@@ -88,6 +88,8 @@ token_taken editor fields token = if editor then joined token (bearer_in fields)
 abbrev pub is_get : Method → Bool
 is_get Get = true
 is_get Post = false
+is_get Head = false
+is_get Options = false
 is_get Other = false
 
 -- `GET /healthz`, by which a proxy asks whether the host is there
