@@ -1,5 +1,5 @@
 -- PutRelativeFile: what it is answered, and what is done for it. (MS-WOPI, PutRelativeFile; that a suggestion gets 100 tries at most, and which names, is own.)
-use Rattle.std.specs.Prelude.{ℕ, ◌≡◌, ◌≢◌, ◌<◌, ◌+◌, ◌⊎◌, ⊤, Bool, false, List, [], ◌∷◌, ◌++◌, length, map, codes, None, Some, ◌==◌, if◌then◌else◌}
+use Rattle.std.specs.Prelude.{ℕ, ◌≡◌, ◌≢◌, ◌<◌, ◌+◌, ◌⊎◌, ⊤, Bool, false, List, [], ◌∷◌, ◌++◌, length, map, None, Some, ◌==◌, if◌then◌else◌}
 use Rattle.std.specs.Str.{IsUtf8}
 use Rattle.wopi_text.specs.FileName.{IsFileName}
 use Rattle.wopi_text.specs.declared.reason.Reason.TheVariants.{Taken}
