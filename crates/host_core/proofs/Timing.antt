@@ -1,12 +1,12 @@
 -- A history with its ticks and without.
-use Rattle.std.proofs.Common.{◌≡◌, ◌⊎◌, ℕ, ◌+◌, ◌-◌, ◌^◌, ◌<◌, max, ◌==◌, Bool, true, false, if◌then◌else◌, List, [], ◌∷◌, ◌++◌, length, sum_by, refl, sym, ap, subst, ◌∙◌, arith}
+use Rattle.std.proofs.Common.{◌≡◌, ◌⊎◌, ℕ, suc, ◌+◌, ◌-◌, ◌^◌, ◌<◌, max, ◌==◌, Bool, true, false, if◌then◌else◌, List, [], ◌∷◌, ◌++◌, length, sum_by, refl, sym, ap, subst, ◌∙◌, arith}
 use Rattle.std.proofs.lemmas.List.{append-nil}
 use Rattle.wopi_model.specs.declared.calls.Call.{Call}
 use Rattle.wopi_model.specs.Settle.{settled}
 use Rattle.wopi_model.specs.Step.{Accept, decision, IsOutcome}
 use Rattle.wopi_model.specs.Shard as model
 use Rattle.wopi_model.specs.Shard.{Opening, Item, Tick, Step, Entry, Legal, IsAllowed, Along, opened_shard, at_moment, happens, after, entries, stamps, last_from}
-use Rattle.wopi_model.specs.Host.{FullAt, new_bytes, brings_contents, most_kept}
+use Rattle.wopi_model.specs.Host.{FullAt, kept, new_bytes, brings_contents, most_kept}
 use Rattle.wopi_model.proofs.Histories.{after-append, at_moment-at_moment}
 use Rattle.host_core.specs.Entries.{Made, items_of, history_of}
 use Rattle.host_core.specs.Times.{steps_of, untimed, last_time, IsTimely, GoesByEntries, happened_of}
@@ -22,6 +22,19 @@ entries-items (one ∷ made) rest = ap (λ (es : List Entry). one.step ∷ es) (
 
 pub entries-history : (made : List Made) (time : ℕ) → entries (history_of made time) ≡ steps_of made
 entries-history made time = entries-items made (Tick time ∷ []) ∙ append-nil (steps_of made)
+
+-- the bytes that are kept don't depend on ticks
+pub kept-untimed : (opening : Opening) (made : List Made) → kept opening (items_of made) ≡ kept opening (untimed made)
+kept-untimed opening made =
+    let same : entries (items_of made) ≡ entries (untimed made) =
+    ap entries (sym (append-nil (items_of made))) ∙ entries-items made [] ∙ append-nil (steps_of made) ∙ sym (entries-untimed made)
+    in
+    ap (λ (es : List Entry). sum_by (λ (file : List ℕ × List ℕ). length file.1) opening + sum_by (λ (entry : Entry). if entry.ruling.status == 200 then new_bytes entry.call.act else 0) es) same
+
+-- how many entries there are neither
+pub length-untimed : (made : List Made) → length (entries (untimed made)) ≡ length made
+length-untimed [] = refl
+length-untimed (one ∷ made) = ap suc (length-untimed made)
 
 -- a shard at a moment depends on the later of its time and the moment
 at_later : (shard : model.Shard) (m n : ℕ) → max shard.now m ≡ max shard.now n → at_moment shard m ≡ at_moment shard n

@@ -1,7 +1,9 @@
 //! A store that keeps all entries in memory, with the contents that were accepted.
 ghost use Rattle.std.specs.Prelude.{◌≡◌, ◌≤◌, ◌++◌, ◌∷◌, [], length, option_map, slice_get, IfOk, OnOk, OnErr};
+ghost use Rattle.wopi_model.specs.Host.{kept};
 ghost use Rattle.host_core.specs.Notes.{opening_listed};
 ghost use Rattle.host_core.specs.ShardView.{files_listed};
+ghost use Rattle.host_core.specs.Times.{untimed};
 ghost use Rattle.host_core.specs.Value.{IsLawful};
 
 use crate::contents::{Contents, share_between, widen};
@@ -77,9 +79,25 @@ impl<F: Folder> Kept<F> {
         self.entries.get(place)
     }
 
-    /// Gives the folder, and what was noted by a shard that began with that store. It needs no memory. Room that
-    /// nothing took is given up, and where the allocator refuses a smaller piece it stays with what is left.
-    pub fn end(self, start: Snapshot<Kept<F>>) -> (F, Past<F>)
+    /// Gives the folder. It needs no memory.
+    pub fn into_folder(self) -> F
+        ensures { result ≡ self.folder }
+    {
+        let Kept {
+            folder,
+            opening: _opening,
+            entries: _entries,
+            saved: _saved,
+            room: _room,
+        } = self;
+        folder
+    }
+
+    /// Gives the folder, and what was noted by a shard that began with that store and keeps so many bytes. It needs no
+    /// memory. Room that nothing took is given up, and where the allocator refuses a smaller piece it stays with what is
+    /// left.
+    pub fn end(self, start: Snapshot<Kept<F>>, bytes: u64) -> (F, Past<F>)
+        requires { bytes ≡ kept self.notes.opening (untimed self.notes.made) }
         ensures folder { result.0 ≡ self.folder }
         ensures past { result.1 ≡ record { opening = self.notes.opening; made = self.notes.made; start = start.value.folder } }
     {
@@ -94,6 +112,7 @@ impl<F: Folder> Kept<F> {
         let past = Past {
             opening,
             entries: entries.into_vec(),
+            bytes,
             start,
         };
         (folder, past)
@@ -106,8 +125,9 @@ pub fn leave<F: Folder>(shard: Shard<Kept<F>>) -> (F, Past<F>)
     ensures past { result.1 ≡ record { opening = shard.opening; made = shard.made; start = shard.start.folder } }
     ensures lawful { IsLawful shard (F.files shard.start.folder) (F.files shard.folder.folder) (F.faults shard.start.folder) (F.faults shard.folder.folder) }
 {
+    let bytes = shard.bytes();
     let (store, start) = shard.end();
-    store.end(start)
+    store.end(start, bytes)
 }
 
 /// The contents alone.

@@ -1,9 +1,9 @@
 //! A shard of the host over a folder.
-ghost use Rattle.std.specs.Prelude.{◌≡◌, ◌≢◌, ◌≤◌, ◌<◌, ◌+◌, ◌^◌, ◌++◌, ◌∷◌, [], length, vec_capacity, max, IfOk, IfErr, IfSome, IsSome, OnOk, OnErr, true, false, ◌↔◌, option_map, slice_get, sum_by, List, ℕ};
+ghost use Rattle.std.specs.Prelude.{◌≡◌, ◌≢◌, ◌≤◌, ◌<◌, ◌+◌, ◌^◌, ◌++◌, ◌∷◌, [], length, vec_capacity, max, IfOk, IfErr, IfSome, IsSome, OnOk, OnErr, IsTrue, true, false, ◌↔◌, option_map, slice_get, sum_by, List, ℕ};
 ghost use Rattle.outside.specs.Folder.{Keeps};
 ghost use Rattle.outside.specs.Faults.{Rose};
 ghost use Rattle.wopi_model.specs.Moment.{IsMoment};
-ghost use Rattle.wopi_model.specs.Host.{FullAt};
+ghost use Rattle.wopi_model.specs.Host.{FullAt, kept};
 ghost use Rattle.wopi_model.specs.Shard.{last_from, stamps, entries, opening_file, AreNames};
 ghost use Rattle.host_core.specs.Whole.{standing_at};
 ghost use Rattle.kept_locks.specs.Locks.{unlocked};
@@ -13,13 +13,16 @@ ghost use Rattle.host_core.specs.Effects.{begun};
 ghost use Rattle.host_core.specs.Entries.{history_of, back_of};
 ghost use Rattle.host_core.specs.Files.{files_of, torn_in};
 ghost use Rattle.host_core.specs.Ledger.{IsFullFault, handed_back};
+ghost use Rattle.host_core.specs.Fullness.{IsNearlyFull};
 ghost use Rattle.host_core.specs.LockActs.{is_lock_act};
+ghost use Rattle.host_core.specs.Times.{untimed};
 ghost use Rattle.host_core.specs.Turns.{AreAsOf};
 ghost use Rattle.host_core.specs.Opening.{IsFirstVersion, IsOfShard, IsOpening, Fits, IsTooLarge, IfTooLarge};
 
 use crate::accept::{Carried, begin};
 use crate::children::{Children, children_of};
 use crate::files::Rack;
+use crate::fullness::are_nine_tenths;
 use crate::ledger::{Ledger, StepFault, take_step};
 use crate::names::{NameList, names_of};
 use crate::noting::Store;
@@ -258,6 +261,21 @@ impl<F: Store> Shard<F> {
         ensures lawful { IsLawful self.now (F.files self.now.start) (F.files self.now.folder) (F.faults self.now.start) (F.faults self.now.folder) }
     {
         self.folder.count()
+    }
+
+    /// How many bytes the opening files had, and all contents that were accepted since.
+    pub fn bytes(&self) -> u64
+        ensures { result ≡ kept self.now.opening (untimed self.now.made) }
+    {
+        self.ledger.bytes
+    }
+
+    /// Whether it has used nine tenths of its room: of its entries, or of its bytes.
+    pub fn is_nearly_full(&self) -> bool
+        ensures value { IsTrue result ↔ IsNearlyFull self.now.capacity self.now.opening (untimed self.now.made) }
+        ensures lawful { IsLawful self.now (F.files self.now.start) (F.files self.now.folder) (F.faults self.now.start) (F.faults self.now.folder) }
+    {
+        are_nine_tenths(self.ledger.capacity, self.len(), self.bytes())
     }
 
     /// A file as it stands, where its name was met: where it has a version from `first` on.

@@ -1,5 +1,5 @@
 -- A pass after a call of one of its seats.
-use Rattle.std.proofs.Common.{◌≡◌, ℕ, zero, suc, ◌+◌, ◌<◌, max, Option, Some, Result, IfOk, IfErr, OnErr, List, [], ◌∷◌, ◌++◌, map, length, set, get_or, slice_get, refl, ap, sym, ◌∙◌, subst, arith, length-set, append_assoc}
+use Rattle.std.proofs.Common.{◌≡◌, ◌↔◌, ℕ, zero, suc, ◌+◌, ◌<◌, max, Bool, IsTrue, Option, Some, Result, IfOk, IfErr, OnErr, List, [], ◌∷◌, ◌++◌, map, length, set, get_or, slice_get, refl, ap, sym, ◌∙◌, subst, arith, length-set, append_assoc}
 use mathlib.Core.List.{IsPrefix, map-append}
 use Rattle.std.specs.List.{AllByRecursion}
 use Rattle.std.specs.Prelude as Prelude
@@ -14,6 +14,7 @@ use Rattle.host_core.specs.Entries.{Made}
 use Rattle.host_core.specs.declared.listing.Listing.{Listing}
 use Rattle.host_core.specs.Opening.{MayKeep}
 use Rattle.host_core.specs.Caller.{entry_of, Extends, Makes, Refuses, Frames, FramesAt, IsFullCall}
+use Rattle.host_core.specs.Fullness.{IsNearlyFull, IsNearlyFullAt}
 use Rattle.host_core.specs.Listing.{IsListing, Lists, LooksAt}
 use Rattle.host_core.specs.Value.{Book}
 use Rattle.host_core.specs.Times.{steps_of, untimed}
@@ -186,6 +187,25 @@ module _ {F : Type 0} (p : PassView F) (k : ℕ) (v w : Place F) (inside : IsPas
           homes = children_home k base w.seen listing (ap (λ (b : Book F). b.only) one ∙ seat.is_base.only) (subst (λ (b : Book F). AllByRecursion (λ file. MayKeep b.only file.0) b.opening) (sym one) seat.is_base.names)
               (seen_by glances.base glances.based seen_all).named here_shows.children_are;
         }
+
+    -- what is told of the history that the seat has seen, is told of what the pass has seen
+    pub weighed_glanced : (answer : Bool) → Prelude.IsSomeAnd v.base (λ base. IsTrue answer ↔ IsNearlyFull base.capacity base.opening (untimed w.seen)) → IsTrue answer ↔ IsNearlyFullAt (sight_of after_glance) k
+    weighed_glanced answer tells =
+        let base = glances.base in
+        let seat = seat_is in
+        let one : base ≡ seat.base = some_same base seat.base v.base glances.based seat.based in
+        let here_tells : IsTrue answer ↔ IsNearlyFull base.capacity base.opening (untimed w.seen) =
+        subst (λ (o : Option (Book F)). Prelude.IsSomeAnd o (λ b. IsTrue answer ↔ IsNearlyFull b.capacity b.opening (untimed w.seen))) glances.based tells in
+        let opening : base.opening ≡ opening_at (slice_get (set p.seats k w) k) = sym (ap opening_at (get_set p.seats k w here) ∙ ap opening_seen (base_stays ∙ glances.based)) in
+        let capacity : base.capacity ≡ p.capacity = ap (λ (b : Book F). b.capacity) one ∙ seat.is_base.capacity_is in
+        let now : untimed w.seen ≡ seen_at (slice_get (set p.seats k w) k) = sym (ap seen_at (get_set p.seats k w here)) in
+        let P : Opening × (ℕ × List Item) → Type 0 = λ z. IsTrue answer ↔ IsNearlyFull z.1.0 z.0 z.1.1 in
+        let all : (base.opening, (base.capacity, untimed w.seen)) ≡ (opening_at (slice_get (set p.seats k w) k), (p.capacity, seen_at (slice_get (set p.seats k w) k))) = λ i. (opening i, (capacity i, now i)) in
+        subst P all here_tells
+
+    pub weighed_then : (shard : ℕ) → k ≡ shard → (answer : Bool) → Prelude.IsSomeAnd v.base (λ base. IsTrue answer ↔ IsNearlyFull base.capacity base.opening (untimed w.seen))
+        → IsTrue answer ↔ IsNearlyFullAt (sight_of after_glance) shard
+    weighed_then shard is answer tells = let P : ℕ → Type 0 = λ n. IsTrue answer ↔ IsNearlyFullAt (sight_of after_glance) n in subst P is (weighed_glanced answer tells)
 
     -- by the number that was asked for
     pub looks_then : (shard : ℕ) → k ≡ shard → LooksAt (sight_of p) (sight_of after_glance) shard

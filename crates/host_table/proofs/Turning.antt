@@ -1,5 +1,5 @@
 -- A call in its turn, as the seat sees it.
-use Rattle.std.proofs.Common.{◌≡◌, ℕ, ◌-◌, Option, None, Some, IsSomeAnd, Result, Ok, Err, IfOk, IfErr, OnErr, List, [], ◌∷◌, ◌++◌, length, sym, ap, subst, ◌∙◌, arith, length-append}
+use Rattle.std.proofs.Common.{◌≡◌, ◌↔◌, ℕ, ◌-◌, Bool, IsTrue, Option, None, Some, IsSomeAnd, Result, Ok, Err, IfOk, IfErr, OnErr, List, [], ◌∷◌, ◌++◌, length, sym, ap, subst, ◌∙◌, arith, length-append}
 use Rattle.std.proofs.lemmas.List.{append-nil}
 use mathlib.Core.List.{IsPrefix}
 use Rattle.turn_lock.specs.Places.{places_from, places_behind}
@@ -10,6 +10,7 @@ use Rattle.host_core.specs.declared.caller.Receipt.{Receipt}
 use Rattle.host_core.specs.declared.caller.CallFault.{CallFault}
 use Rattle.host_core.specs.Caller.{entry_of, IsFullCall, next_stamp}
 use Rattle.host_core.specs.declared.listing.Listing.{Listing}
+use Rattle.host_core.specs.Fullness.{IsNearlyFull}
 use Rattle.host_core.specs.Listing.{IsListing}
 use Rattle.host_core.specs.Entries.{Made}
 use Rattle.host_core.specs.Value.{Book}
@@ -107,6 +108,17 @@ shows_seen v w book number listing based is shows =
     let P : Option (Book _) → Type 0 = λ o. IsSomeAnd o (λ base. IsListing number base.opening base.opened base.first (untimed w.seen) listing) in
     let Q : List Made → Type 0 = λ made. IsListing number book.opening book.opened book.first (untimed made) listing in
     let here : IsListing number book.opening book.opened book.first (untimed w.seen) listing = subst Q (sym (ap (λ (p : Place _). p.seen) is)) shows in
+    subst P (sym based) here
+
+-- and so of how full the shard is
+pub weighed_seen : {F : Type 0} (v w : Place F) (book : Book F) (answer : Bool) → v.base ≡ Some (as_opened book)
+    → w ≡ record { lock = v.lock; seen = book.made; own = v.own ++ added_places (Some book.made) book.made; weight = v.weight; base = v.base; taken = None }
+    → (IsTrue answer ↔ IsNearlyFull book.capacity book.opening (untimed book.made))
+    → IsSomeAnd v.base (λ base. IsTrue answer ↔ IsNearlyFull base.capacity base.opening (untimed w.seen))
+weighed_seen v w book answer based is tells =
+    let P : Option (Book _) → Type 0 = λ o. IsSomeAnd o (λ base. IsTrue answer ↔ IsNearlyFull base.capacity base.opening (untimed w.seen)) in
+    let Q : List Made → Type 0 = λ made. IsTrue answer ↔ IsNearlyFull book.capacity book.opening (untimed made) in
+    let here : IsTrue answer ↔ IsNearlyFull book.capacity book.opening (untimed w.seen) = subst Q (sym (ap (λ (p : Place _). p.seen) is)) tells in
     subst P (sym based) here
 
 pub err_map : {A E : Type 0} (r : Result A E) (P Q : E → Type 0) → ((e : E) → P e → Q e) → IfErr r P → IfErr r Q

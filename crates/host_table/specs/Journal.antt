@@ -4,6 +4,8 @@ use Rattle.std.specs.List.{AllByRecursion}
 use Rattle.wopi_model.specs.Shard.{Opening}
 use Rattle.wopi_model.specs.Host.{shard_of_entry}
 use Rattle.host_core.specs.Entries.{Made}
+use Rattle.host_core.specs.Fullness.{IsNearlyFull}
+use Rattle.host_core.specs.Times.{untimed}
 use Rattle.host_core.specs.Value.{Left}
 use Rattle.host_table.specs.declared.journal.Spot.{Spot}
 
@@ -61,6 +63,11 @@ module _ {F : Type 0} where
   abbrev pub opening_in : Option (Left F) → ℕ → Option (List ℕ × List ℕ)
   opening_in None place = None
   opening_in (Some part) place = slice_get part.opening place
+
+  -- what a shard leaves shows that it was nearly full
+  abbrev pub IsNearlyFullIn : ℕ → Option (Left F) → Type 0
+  IsNearlyFullIn capacity None = ⊥
+  IsNearlyFullIn capacity (Some part) = IsNearlyFull capacity part.opening (untimed part.made)
 
   -- each shard's entries are those of the merge that stand in it
   abbrev pub AreParts : List Made → ℕ → List (Left F) → Type 0

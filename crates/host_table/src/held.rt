@@ -1,8 +1,9 @@
 //! A shard as it lies under its lock.
-ghost use Rattle.std.specs.Prelude.{◌≡◌, ◌≤◌, ◌<◌, Some, [], false, true, IfOk, IfErr};
+ghost use Rattle.std.specs.Prelude.{◌≡◌, ◌≤◌, ◌<◌, Some, [], false, true, ◌↔◌, IfOk, IfErr, IsTrue};
 ghost use Rattle.outside.specs.Faults.{Rose};
 ghost use Rattle.outside.specs.Folder.{Keeps};
 ghost use Rattle.wopi_model.specs.Moment.{IsMoment};
+ghost use Rattle.host_core.specs.Fullness.{IsNearlyFull};
 ghost use Rattle.host_core.specs.Listing.{IsListing};
 ghost use Rattle.host_core.specs.Opening.{IsFirstVersion, IsOpening, Fits, IsTooLarge, IfTooLarge};
 ghost use Rattle.host_core.specs.Times.{untimed};
@@ -142,6 +143,14 @@ impl<F: Store> Held<F> {
             }
             Err(memory) => return Err(memory),
         }
+    }
+
+    /// Whether the shard has used nine tenths of its room.
+    pub fn is_nearly_full(&self) -> bool
+        ensures seen { IsSeen (as_opened self.now) self.now.made }
+        ensures value { IsTrue result ↔ IsNearlyFull self.now.capacity self.now.opening (untimed self.now.made) }
+    {
+        self.shard.is_nearly_full()
     }
 
     /// The last stamp, or 0.

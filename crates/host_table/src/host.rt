@@ -5,6 +5,7 @@ ghost use Rattle.wopi_model.specs.Moment.{IsMoment};
 ghost use Rattle.host_core.specs.Opening.{IsFirstVersion};
 ghost use Rattle.wopi_text.specs.FileName.{shard_of};
 ghost use Rattle.host_core.specs.Caller.{Makes, Refuses, Frames, entry_of};
+ghost use Rattle.host_core.specs.Fullness.{IsNearlyFull, IsNearlyFullAt};
 ghost use Rattle.host_core.specs.Listing.{IsListing, Lists, LooksAt};
 ghost use Rattle.host_core.specs.Times.{untimed};
 ghost use Rattle.host_table.specs.Histories.{last_stamp, as_opened, IsSeen};
@@ -112,6 +113,27 @@ fn list_in_turn<F: Store, R: Wait>(
 {
     let held = lock.take(rt, seat);
     let answer = held.list(number);
+    *last = held.last().max(*last);
+    lock.give_back(seat, held);
+    answer
+}
+
+/// Whether the shard is nearly full, in its turn. `last` is the greatest stamp that was seen in any shard.
+fn weigh_in_turn<F: Store, R: Wait>(
+    rt: &R,
+    lock: &TurnLock<Held<F>>,
+    seat: &mut Seat<Held<F>>,
+    last: &mut u64,
+) -> bool
+    requires lock { seat.old.lock ≡ lock.now }
+    requires free { seat.old.taken ≡ None }
+    ensures last { last.new ≡ max last.old (last_stamp seat.new.seen) }
+    ensures seen { IsSomeAnd seat.old.base (λ base. IsSeen base seat.new.seen) }
+    ensures glances { Glances seat.old seat.new }
+    ensures tells { IsSomeAnd seat.old.base (λ base. IsTrue result ↔ IsNearlyFull base.capacity base.opening (untimed seat.new.seen)) }
+{
+    let held = lock.take(rt, seat);
+    let answer = held.is_nearly_full();
     *last = held.last().max(*last);
     lock.give_back(seat, held);
     answer
@@ -291,6 +313,23 @@ impl<F: Store> Host<F> {
         let lock = &self.locks[place];
         let seat = &mut pass.seats[place];
         list_in_turn(rt, lock, seat, shard, &mut pass.last)
+    }
+
+    /// Whether a shard has used nine tenths of its room, in a turn that the pass waits for. No entry is made, and no memory
+    /// is taken. The pass has then seen what the shard's history was.
+    pub fn is_nearly_full<R: Wait>(&self, rt: &R, pass: &mut Pass<F>, shard: u8) -> bool
+        requires host { locks_of pass.old ≡ self.now.locks }
+        requires shard { shard < 16 }
+        ensures value { IsTrue result ↔ IsNearlyFullAt (sight_of pass.new) shard }
+        ensures looks { LooksAt (sight_of pass.old) (sight_of pass.new) shard }
+        ensures own { own_of pass.new ≡ own_of pass.old }
+        ensures same { IsSamePass pass.old pass.new }
+        ensures seen { HasSeen pass.new }
+    {
+        let place = usize::from(shard);
+        let lock = &self.locks[place];
+        let seat = &mut pass.seats[place];
+        weigh_in_turn(rt, lock, seat, &mut pass.last)
     }
 
     /// These are all passes of the host: their numbers are those below how many were made, each once, and their

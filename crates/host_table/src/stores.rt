@@ -5,15 +5,12 @@ ghost use Rattle.host_table.specs.Start.{folder_in};
 use host_core::Kept;
 use outside::Folder;
 use std::alloc::Global;
-use std::snapshot::Snapshot;
 
 /// The folder of a store. It needs no memory.
 pub fn free<F: Folder>(store: Kept<F>) -> F
     ensures { result ≡ store.folder }
 {
-    let start = Snapshot::of(&store);
-    let (folder, _past) = store.end(start);
-    folder
+    store.into_folder()
 }
 
 /// A store over each folder. Where there is no memory the folders come back.

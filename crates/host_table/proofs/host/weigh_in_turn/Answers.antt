@@ -1,0 +1,31 @@
+use Rattle.std.proofs.Common.{[], refl, sym, ap, subst, Option, List, IsSomeAnd}
+use Rattle.std.proofs.lemmas.List.{append-nil}
+use mathlib.Core.List.{IsPrefix}
+use Rattle.host_core.specs.Entries.{Made}
+use Rattle.host_table.specs.Passes.{Place}
+use Rattle.host_table.proofs.Turning.{given_back, seen_call, glanced, weighed_seen}
+use Rattle.host_table.proofs.host.weigh_in_turn.Goals as goal
+
+pub give_back-requires-clause-turn : goal.give_back-requires-clause-turn
+give_back-requires-clause-turn g c =
+    let held = c.take-held.result in
+    let P : Option (List Made) → Type 0 = λ o. IsSomeAnd o (λ taken. IsPrefix taken held.made) in
+    subst P (sym (ap (λ (p : Place g.row.F.Denot). p.taken) c.take-held.ensures.seat)) ([], append-nil held.made)
+
+pub returns-clause-seen : goal.returns-clause-seen
+returns-clause-seen g c =
+    let v = c.args.seat.now in let w = c.give_back.new.seat in let held = c.take-held.result in
+    let after = given_back v c.take-held.new.seat w held held c.take-held.ensures.seat c.give_back.ensures in
+    seen_call v w held held c.take-held.ensures.base refl after c.is_nearly_full-answer.ensures.seen
+
+pub returns-clause-glances : goal.returns-clause-glances
+returns-clause-glances g c =
+    let v = c.args.seat.now in let w = c.give_back.new.seat in let held = c.take-held.result in
+    let after = given_back v c.take-held.new.seat w held held c.take-held.ensures.seat c.give_back.ensures in
+    glanced v w held held c.requires.free c.take-held.ensures.base c.take-held.ensures.prefix after refl
+
+pub returns-clause-tells : goal.returns-clause-tells
+returns-clause-tells g c =
+    let v = c.args.seat.now in let w = c.give_back.new.seat in let held = c.take-held.result in
+    let after = given_back v c.take-held.new.seat w held held c.take-held.ensures.seat c.give_back.ensures in
+    weighed_seen v w held c.is_nearly_full-answer.result c.take-held.ensures.base after c.is_nearly_full-answer.ensures.value
