@@ -1,4 +1,4 @@
--- What a host that serves editors answers beyond what every host does. (MS-WOPI, CheckFileInfo, has the members that a body has beside the others, and says of each what it tells; that the token may stand in an Authorization field is RFC 6750, 2.1; which of them stand, and what an editor is told of a host's health, is own.)
+-- What a host that serves editors answers beyond what every host does. (MS-WOPI, CheckFileInfo, has the members that a body has beside the others, and says of each what it tells; that the token may stand in an Authorization field is RFC 6750, 2.1; what HEAD and OPTIONS are told is RFC 9110, 9.3.2 and 9.3.7; which of them stand, what an editor is told of a host's health, and that OPTIONS tells the same of each target, is own.)
 use Rattle.std.specs.Prelude.{ℕ, Bool, true, false, not, ◌&&◌, ◌==◌, if◌then◌else◌, List, [], ◌∷◌, length, codes, drop, Option, None, Some, option_and_then}
 use Rattle.std.specs.Str.{bytes_eq}
 use Rattle.serde_json.specs.Data.{Data, Members, boolean, number, unsigned, string, object, member, no_members, put}
@@ -99,3 +99,33 @@ asks_health q = is_get q.method && bytes_eq q.target (codes "/healthz")
 -- the status of a request that asks for nothing, which else has this one
 abbrev pub refused_status : Bool → Request → ℕ → ℕ
 refused_status editor q status = if editor && asks_health q then 200 else status
+
+-- a HEAD, which asks for the reply to a GET without its body
+abbrev pub is_head : Method → Bool
+is_head Get = false
+is_head Post = false
+is_head Head = true
+is_head Options = false
+is_head Other = false
+
+abbrev pub asks_head : Bool → Request → Bool
+asks_head editor q = editor && is_head q.method
+
+-- an OPTIONS, which asks for the methods
+abbrev pub is_options : Method → Bool
+is_options Get = false
+is_options Post = false
+is_options Head = false
+is_options Options = true
+is_options Other = false
+
+abbrev pub asks_options : Bool → Request → Bool
+asks_options editor q = editor && is_options q.method
+
+-- the request as a GET
+abbrev pub as_get : Request → Request
+as_get q = record q { method = Get }
+
+-- the request that this one is answered as
+abbrev pub judged_as : Bool → Request → Request
+judged_as editor q = if asks_head editor q then as_get q else q

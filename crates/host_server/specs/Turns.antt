@@ -1,5 +1,5 @@
 -- A message and what was answered.
-use Rattle.std.specs.Prelude.{◌≡◌, ℕ, Bool, false, List, [], ◌∷◌, ◌++◌, map, Result, Ok, Err, ⊤}
+use Rattle.std.specs.Prelude.{◌≡◌, ℕ, Bool, false, true, List, [], ◌∷◌, ◌++◌, map, Result, Ok, Err, ⊤}
 use Rattle.std.specs.List.{flat_map}
 use Rattle.wopi_text.specs.declared.faults.Memory.{Memory}
 use Rattle.wopi_http.specs.declared.message.Request.{Request}
@@ -13,21 +13,29 @@ use Rattle.host_server.specs.declared.desk.Desk.{Desk}
 use Rattle.host_server.specs.Deeds.{Deed, Does}
 use Rattle.host_server.specs.Answering.{AnsweredTo}
 use Rattle.host_server.specs.Calls.{IsBegun}
-use Rattle.host_server.specs.Texts.{answer_text, bare_reply}
+use Rattle.host_server.specs.Editing.{as_get, asks_head, asks_options, judged_as}
+use Rattle.host_server.specs.Texts.{answer_text, bare_reply, head_text, options_text}
 
--- what was said to a message: an answer, or that there was no memory for one
+-- what was said to a message: an answer, one whose body was left out, which methods there are, or that there was no memory for an answer
 pub data Said : Type 0 where
   answer : Answer → Said
+  head : Answer → Said
+  options : Said
   no_memory : Said
 
 abbrev pub said_text : Said → Bool → List ℕ
 said_text (answer a) close = answer_text a close
+said_text (head a) close = head_text a close
+said_text options close = options_text close
 said_text no_memory close = bare_reply 503 close
 
--- Where memory ran out, nothing was done, or the first deeds of some answer.
+-- An answer is the request's own, and one without its body that of a GET in its place, exactly where a HEAD is asked for; where the methods are
+-- asked for they are told, and nothing is done. Where memory ran out, nothing was done, or the first deeds of some answer.
 abbrev pub IsSaidTo : Bool → Desk → Request → ℕ → List Deed → Said → Type 0
-IsSaidTo editor desk q m part (answer a) = AnsweredTo editor desk q m part a
-IsSaidTo editor desk q m part no_memory = IsBegun (AnsweredTo editor desk q m) part
+IsSaidTo editor desk q m part (answer a) = (asks_options editor q ≡ false) × (asks_head editor q ≡ false) × AnsweredTo editor desk q m part a
+IsSaidTo editor desk q m part (head a) = (asks_head editor q ≡ true) × AnsweredTo editor desk (as_get q) m part a
+IsSaidTo editor desk q m part options = (asks_options editor q ≡ true) × (part ≡ [])
+IsSaidTo editor desk q m part no_memory = (asks_options editor q ≡ false) × IsBegun (AnsweredTo editor desk (judged_as editor q) m) part
 
 -- on a connection of that desk's host
 abbrev pub IsSaid : Desk → Request → ℕ → List Deed → Said → Type 0
@@ -35,8 +43,8 @@ IsSaid desk = IsSaidTo desk.editor desk
 
 -- What the answering of one request does, by whether the host serves editors.
 abbrev pub AnswersTo : Bool → Desk → Request → ℕ → (Sight → Type 0) → Sight → Sight → Result Answer Memory → Type 0
-AnswersTo editor desk q m always old new (Ok a) = (part : List Deed) × Does always old new part × IsSaidTo editor desk q m part (answer a)
-AnswersTo editor desk q m always old new (Err fault) = (part : List Deed) × Does always old new part × IsSaidTo editor desk q m part no_memory
+AnswersTo editor desk q m always old new (Ok a) = (part : List Deed) × Does always old new part × AnsweredTo editor desk q m part a
+AnswersTo editor desk q m always old new (Err fault) = (part : List Deed) × Does always old new part × IsBegun (AnsweredTo editor desk q m) part
 
 -- the same of a host that serves no editors
 abbrev pub Answers : Desk → Request → ℕ → (Sight → Type 0) → Sight → Sight → Result Answer Memory → Type 0

@@ -1,23 +1,26 @@
 //! A connection served to its end.
-ghost use Rattle.std.specs.Prelude.{◌≡◌, ◌≢◌, ◌≤◌, ◌<◌, ◌+◌, ◌==◌, OnErr};
+ghost use Rattle.std.specs.Prelude.{◌≡◌, ◌≢◌, ◌≤◌, ◌<◌, ◌+◌, ◌==◌, OnErr, false};
 ghost use Rattle.std.specs.Io.KnownBytes.{prepend_known};
 ghost use Rattle.outside.specs.Faults.{Rose};
 ghost use Rattle.wopi_model.specs.Moment.{IsMoment};
 ghost use Rattle.access_tokens.specs.Remembering.{Remembers};
 ghost use Rattle.wopi_http.specs.Cuts.{IsPrompt};
 ghost use Rattle.host_server.specs.Connection.{message_limit, is_last, Serves};
+ghost use Rattle.host_server.specs.Editing.{asks_options};
 ghost use Rattle.host_server.specs.Steps.{Prepares, Replies, Steps};
+ghost use Rattle.host_server.specs.Texts.{shown};
 
 use crate::answering::answer_again;
 use crate::desk::Desk;
+use crate::editing::{asks_head, asks_options, judged_as};
 use crate::kept::Kept;
-use crate::sending::{send, send_bare};
+use crate::sending::{send, send_bare, send_options};
 use host_core::Lister;
 use outside::{Clock, Failed, Link};
 use std::alloc::Global;
 use wopi_headers::take_reply;
 use wopi_http::{Buffer, Got, Reply, Request, closes, read_request};
-use wopi_text::Memory;
+use wopi_text::{Bytes, Memory};
 
 /// The most messages of a connection.
 pub const MESSAGE_LIMIT: usize = 10_000;
@@ -48,7 +51,22 @@ fn is_last(count: usize, request: &Request) -> bool
     closes(request) || count + 1 == MESSAGE_LIMIT
 }
 
-/// The reply to a message, or none where there is no memory for one.
+/// A reply, by whether its body is left out.
+fn shown(alloc: Global, head: bool, reply: Reply) -> Reply
+    ensures { result ≡ shown head reply }
+{
+    if head {
+        Reply {
+            status: reply.status,
+            fields: reply.fields,
+            body: Bytes::from_vec(Vec::new(alloc)),
+        }
+    } else {
+        reply
+    }
+}
+
+/// The reply to a message that asks for no methods, or none where there is no memory for one.
 fn reply_to<C: Lister>(
     alloc: Global,
     caller: &mut C,
@@ -59,16 +77,19 @@ fn reply_to<C: Lister>(
     close: bool,
 ) -> Option<Reply>
     requires moment { IsMoment moment }
+    requires asked { asks_options desk.now.editor request ≡ false }
     requires remembers { Remembers desk.now.keys kept.old.recent }
     ensures basis { C.basis caller.new ≡ C.basis caller.old }
     ensures lent { C.references caller.new ≡ C.references caller.old }
     ensures makes { Prepares desk.now C.always request moment close (C.sight caller.old) (C.sight caller.new) result }
     ensures remembers { Remembers desk.now.keys kept.new.recent }
 {
-    let mut told = answer_again(alloc, caller, desk, desk.editor, kept, request, moment);
+    let head = asks_head(desk.editor, &request);
+    let judged = judged_as(desk.editor, request);
+    let mut told = answer_again(alloc, caller, desk, desk.editor, kept, judged, moment);
     match &mut told {
         Ok(answer) => match take_reply(alloc, answer, close) {
-            Ok(reply) => Some(reply),
+            Ok(reply) => Some(shown(alloc, head, reply)),
             Err(Memory) => None,
         },
         Err(Memory) => None,
@@ -99,6 +120,9 @@ fn answer_message<C: Lister, L: Link, K: Clock>(
     ensures remembers { Remembers desk.now.keys kept.new.recent }
 {
     let moment = clock.now();
+    if asks_options(desk.editor, &request) {
+        return send_options(link, close);
+    }
     let reply = reply_to(alloc, caller, desk, kept, request, moment, close);
     send(link, reply, close)
 }

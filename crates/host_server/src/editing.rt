@@ -5,7 +5,7 @@ ghost use Rattle.serde_json.specs.Data.{boolean, string, put as with_member};
 ghost use Rattle.serde_json.specs.View.{members_view, view};
 ghost use Rattle.std.specs.Str.{IsUtf8};
 ghost use Rattle.file_info.specs.Info.{HasTexts};
-ghost use Rattle.host_server.specs.Editing.{asks_health, bearer_in, behind_scheme, editor_json, file_members, info_body, is_get, joined, refused_status, supports_members, token_taken, user_members, with_members};
+ghost use Rattle.host_server.specs.Editing.{as_get, asks_head, asks_health, asks_options, bearer_in, behind_scheme, editor_json, file_members, info_body, is_get, is_head, is_options, joined, judged_as, refused_status, supports_members, token_taken, user_members, with_members};
 
 use crate::address::text_of;
 use file_info::{Info, info_text};
@@ -179,5 +179,62 @@ pub fn refused_status(editor: bool, request: &Request, status: u16) -> u16
         200
     } else {
         status
+    }
+}
+
+fn is_head(method: Method) -> bool
+    ensures { result ≡ is_head method }
+{
+    method == Method::Head
+}
+
+/// Whether a request asks for the reply to a GET without its body.
+pub fn asks_head(editor: bool, request: &Request) -> bool
+    ensures { result ≡ asks_head editor request.now }
+{
+    editor && is_head(request.method)
+}
+
+fn is_options(method: Method) -> bool
+    ensures { result ≡ is_options method }
+{
+    method == Method::Options
+}
+
+/// Whether a request asks for the methods.
+pub fn asks_options(editor: bool, request: &Request) -> bool
+    ensures { result ≡ asks_options editor request.now }
+{
+    editor && is_options(request.method)
+}
+
+/// The request as a GET.
+fn as_get(request: Request) -> Request
+    ensures { result ≡ as_get request }
+{
+    let Request {
+        method: _,
+        target,
+        version,
+        fields,
+        body,
+    } = request;
+    Request {
+        method: Method::Get,
+        target,
+        version,
+        fields,
+        body,
+    }
+}
+
+/// The request that this one is answered as.
+pub fn judged_as(editor: bool, request: Request) -> Request
+    ensures { result ≡ judged_as editor request }
+{
+    if asks_head(editor, &request) {
+        as_get(request)
+    } else {
+        request
     }
 }

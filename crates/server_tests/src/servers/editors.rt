@@ -12,7 +12,7 @@ use wopi_text::Bytes;
 const ROOM: usize = 9999;
 
 /// Requests, each with its reply of a host that serves no editors, and that of one which does.
-const EXCHANGES: [[&str; 3]; 8] = [
+const EXCHANGES: [[&str; 3]; 16] = [
     [
         "GET /wopi/files/612e637376?access_token=v1.ann.612e637376.w.1.253402300000000.253402300799999.e4367dab632e0b350a8cebce225b4b3af9ddf3ae5a45f45b85a6abd4ffe2d92a HTTP/1.1\r\nHost: h\r\n\r\n",
         "HTTP/1.1 200 OK\r\nContent-Length: 259\r\nContent-Type: application/json\r\n\r\n{\"BaseFileName\":\"a.csv\",\"OwnerId\":\"owner\",\"Size\":3,\"SupportsDeleteFile\":true,\"SupportsExtendedLockLength\":true,\"SupportsGetLock\":true,\"SupportsLocks\":true,\"SupportsUpdate\":true,\"UserCanNotWriteRelative\":false,\"UserCanWrite\":true,\"UserId\":\"ann\",\"Version\":\"v1\"}",
@@ -52,6 +52,46 @@ const EXCHANGES: [[&str; 3]; 8] = [
         "GET /healthz?x HTTP/1.1\r\nHost: h\r\n\r\n",
         "HTTP/1.1 404 Not Found\r\nContent-Length: 0\r\n\r\n",
         "HTTP/1.1 404 Not Found\r\nContent-Length: 0\r\n\r\n",
+    ],
+    [
+        "HEAD /wopi/files/612e637376/contents?access_token=v1.ann.612e637376.w.1.253402300000000.253402300799999.e4367dab632e0b350a8cebce225b4b3af9ddf3ae5a45f45b85a6abd4ffe2d92a HTTP/1.1\r\nHost: h\r\n\r\n",
+        "HTTP/1.1 501 Not Implemented\r\nContent-Length: 0\r\n\r\n",
+        "HTTP/1.1 200 OK\r\nContent-Length: 3\r\nContent-Type: application/octet-stream\r\nX-WOPI-ItemVersion: v1\r\n\r\n",
+    ],
+    [
+        "HEAD /wopi/files/612e637376/contents?access_token=v1.ann.612e637376.w.1.253402300000000.253402300799999.e4367dab632e0b350a8cebce225b4b3af9ddf3ae5a45f45b85a6abd4ffe2d92a HTTP/1.1\r\nHost: h\r\n\r\nGET /wopi/files/612e637376/contents?access_token=v1.ann.612e637376.w.1.253402300000000.253402300799999.e4367dab632e0b350a8cebce225b4b3af9ddf3ae5a45f45b85a6abd4ffe2d92a HTTP/1.1\r\nHost: h\r\n\r\n",
+        "HTTP/1.1 501 Not Implemented\r\nContent-Length: 0\r\n\r\nHTTP/1.1 200 OK\r\nContent-Length: 3\r\nContent-Type: application/octet-stream\r\nX-WOPI-ItemVersion: v1\r\n\r\n1,2",
+        "HTTP/1.1 200 OK\r\nContent-Length: 3\r\nContent-Type: application/octet-stream\r\nX-WOPI-ItemVersion: v1\r\n\r\nHTTP/1.1 200 OK\r\nContent-Length: 3\r\nContent-Type: application/octet-stream\r\nX-WOPI-ItemVersion: v1\r\n\r\n1,2",
+    ],
+    [
+        "HEAD /wopi/files/612e637376?access_token=v1.ann.612e637376.w.1.253402300000000.253402300799999.e4367dab632e0b350a8cebce225b4b3af9ddf3ae5a45f45b85a6abd4ffe2d92a HTTP/1.1\r\nHost: h\r\n\r\n",
+        "HTTP/1.1 501 Not Implemented\r\nContent-Length: 0\r\n\r\n",
+        "HTTP/1.1 200 OK\r\nContent-Length: 369\r\nContent-Type: application/json\r\n\r\n",
+    ],
+    [
+        "HEAD /wopi/files/612e637376/contents HTTP/1.1\r\nHost: h\r\n\r\n",
+        "HTTP/1.1 501 Not Implemented\r\nContent-Length: 0\r\n\r\n",
+        "HTTP/1.1 401 Unauthorized\r\nContent-Length: 0\r\n\r\n",
+    ],
+    [
+        "HEAD /healthz HTTP/1.1\r\nHost: h\r\n\r\n",
+        "HTTP/1.1 404 Not Found\r\nContent-Length: 0\r\n\r\n",
+        "HTTP/1.1 200 OK\r\nContent-Length: 0\r\n\r\n",
+    ],
+    [
+        "HEAD /other HTTP/1.1\r\nHost: h\r\n\r\n",
+        "HTTP/1.1 404 Not Found\r\nContent-Length: 0\r\n\r\n",
+        "HTTP/1.1 404 Not Found\r\nContent-Length: 0\r\n\r\n",
+    ],
+    [
+        "OPTIONS /wopi/files/612e637376/contents HTTP/1.1\r\nHost: h\r\n\r\n",
+        "HTTP/1.1 501 Not Implemented\r\nContent-Length: 0\r\n\r\n",
+        "HTTP/1.1 204 No Content\r\nAllow: GET, HEAD, POST, OPTIONS\r\n\r\n",
+    ],
+    [
+        "OPTIONS * HTTP/1.1\r\nHost: h\r\n\r\nOPTIONS /other HTTP/1.1\r\nHost: h\r\nConnection: close\r\n\r\n",
+        "HTTP/1.1 404 Not Found\r\nContent-Length: 0\r\n\r\nHTTP/1.1 404 Not Found\r\nContent-Length: 0\r\nConnection: close\r\n\r\n",
+        "HTTP/1.1 204 No Content\r\nAllow: GET, HEAD, POST, OPTIONS\r\n\r\nHTTP/1.1 204 No Content\r\nAllow: GET, HEAD, POST, OPTIONS\r\nConnection: close\r\n\r\n",
     ],
 ];
 
