@@ -17,7 +17,7 @@ use Rattle.save_session.specs.declared.state.Effect.TheVariants.{Sends, Tells, I
 use Rattle.save_session.specs.Session.{stepped}
 use Rattle.wopi_client.specs.declared.desktop.Desktop.{Desktop}
 use Rattle.host_server.specs.Deeds.{made}
-use Rattle.host_server.specs.Turns.{Turn, Said, answer, no_memory}
+use Rattle.host_server.specs.Turns.{Turn, Said, answer, head, options, no_memory}
 use Rattle.wopi_world.specs.History.{Item, Ran}
 use Rattle.wopi_world.specs.Requests.{Client, Sent, sent_with, operation, call_of}
 use Rattle.wopi_world.specs.Talks.{LooksSame, IsSameText, Speaker, first_speaker, does, hears, Awaits, Came, TalksOver, IsTalkOver}
@@ -72,12 +72,16 @@ data Reads (sent : Sent) (ruling : Ruling) (got : Answer) : Type 0 where
 reads_entry : (sent : Sent) (entry : Entry) (said : Said) (got : Answer) → TellsEntry sent entry said → IsReadAs sent said got → Reads sent entry.ruling got
 reads_entry sent entry (answer a) got looks is =
     tells (looks_through (operation sent) got a (ruling_told entry.ruling) is looks)
+reads_entry sent entry (head a) got looks is = absurd looks
+reads_entry sent entry options got looks is = absurd looks
 reads_entry sent entry no_memory got looks is = fails (fault_ok got.status is) (fault_conflict got.status is)
 
 reads_none : (sent : Sent) (said : Said) (got : Answer) → TellsNone said → IsReadAs sent said got → (got.status ≢ 200) × (got.status ≢ 409)
 reads_none sent (answer a) got none is =
     let status : got.status ≡ a.status = is.status in
     ((λ e. none.0 (sym status ∙ e)), (λ e. none.1 (sym status ∙ e)))
+reads_none sent (head a) got none is = absurd none
+reads_none sent options got none is = absurd none
 reads_none sent no_memory got none is = (fault_ok got.status is, fault_conflict got.status is)
 
 -- one entry was made

@@ -1,5 +1,5 @@
 -- What a host makes of a session's request.
-use Rattle.std.proofs.Common.{◌≡◌, ◌≢◌, ◌⊎◌, ◌==◌, ℕ, Bool, true, false, if◌then◌else◌, length, List, [], ◌∷◌, ◌++◌, Option, Some, None, unwrap_or, refl, sym, ap, subst, ◌∙◌, inl, inr, arith}
+use Rattle.std.proofs.Common.{◌≡◌, ◌≢◌, ◌⊎◌, ◌==◌, ◌&&◌, ℕ, Bool, true, false, if◌then◌else◌, length, List, [], ◌∷◌, ◌++◌, Option, Some, None, unwrap_or, refl, sym, ap, subst, ◌∙◌, inl, inr, arith}
 use Rattle.std.proofs.lemmas.Bool.{cond_both, eqb-true}
 use Rattle.std.specs.Str.{bytes_eq}
 use Rattle.wopi_model.specs.declared.token.Token.{Token}
@@ -9,6 +9,8 @@ use Rattle.wopi_model.specs.declared.calls.Call.{Call}
 use Rattle.wopi_model.specs.declared.calls.Ruling.{Ruling}
 use Rattle.wopi_model.specs.Shard.{Entry}
 use Rattle.wopi_http.specs.declared.message.Field.{Field}
+use Rattle.wopi_http.specs.declared.message.Method.{Method}
+use Rattle.wopi_http.specs.declared.message.Method.TheVariants as method
 use Rattle.wopi_http.specs.declared.message.Request.{Request}
 use Rattle.wopi_headers.specs.declared.answer.Answer.{Answer}
 use Rattle.wopi_headers.specs.declared.ask.Ask.{Ask}
@@ -16,6 +18,8 @@ use Rattle.wopi_headers.specs.declared.ask.Op.TheVariants as op
 use Rattle.wopi_headers.specs.declared.ask.Target.{Target}
 use Rattle.wopi_headers.specs.Containers.{IsAtContainers}
 use Rattle.wopi_headers.specs.Operations.{AsksFor, IsRefusal}
+use Rattle.wopi_headers.specs.declared.row.Row.{Row}
+use Rattle.wopi_headers.specs.Rows.{row_asked}
 use Rattle.access_tokens.specs.TokenText.{IsSigned, period, signed_text, mac_of}
 use Rattle.access_tokens.specs.declared.keys.Keys.{Keys}
 use Rattle.wopi_acts.specs.Acts.{act_of}
@@ -25,10 +29,10 @@ use Rattle.wopi_client.specs.declared.desktop.Desktop.{Desktop}
 use Rattle.host_server.specs.declared.desk.Desk.{Desk}
 use Rattle.host_server.specs.Deeds.{Deed, Made, Blocked, made}
 use Rattle.host_server.specs.Answering.{RuledTo, AnsweredTo, asked_with, unauthorized, ruled, full, copied, refused, asked, contained}
-use Rattle.host_server.specs.Editing.{bearer_in, joined, token_taken}
+use Rattle.host_server.specs.Editing.{as_get, asks_head, asks_options, bearer_in, is_head, is_options, joined, judged_as, token_taken}
 use Rattle.host_server.specs.Answering as host
 use Rattle.host_server.specs.Telling.{is_info, told_of_to, info_told_to, told_to}
-use Rattle.host_server.specs.Turns.{Turn, Said, answer, no_memory, IsSaid}
+use Rattle.host_server.specs.Turns.{Turn, Said, answer, head, options, no_memory, IsSaid}
 use Rattle.wopi_world.specs.Requests.{Client, Sent, Info, TakeLock, Get, Put, Relock, RefreshLock, Unlock, operation, body, act_sent, call_of}
 use Rattle.wopi_world.specs.Talks.{LooksSame, id_in}
 use Rattle.wopi_world.proofs.Seeing.{looks_itself}
@@ -63,6 +67,40 @@ joined_right text (Some borne) some = by_tests (length text == 0) refl (bytes_eq
 taken_right : (editor : Bool) (fields : List Field) (text : List ℕ) → (text ≡ [] → ⊥) → (token_taken editor fields text ≡ text) ⊎ (token_taken editor fields text ≡ [])
 taken_right false fields text some = inl refl
 taken_right true fields text some = joined_right text (bearer_in fields) some
+
+-- a request that asks for an operation is no HEAD, and asks for no methods
+
+both_false : (a b : Bool) → b ≡ false → (a && b) ≡ false
+both_false true b e = e
+both_false false b e = refl
+
+is_no_head : (m : Method) (contents : Bool) (fields : List Field) (row : Row) → row_asked m contents fields ≡ Some row → is_head m ≡ false
+unfolding row_asked
+is_no_head method.Get contents fields row e = refl
+is_no_head method.Post contents fields row e = refl
+is_no_head method.Head contents fields row e = absurd (cc e)
+is_no_head method.Options contents fields row e = refl
+is_no_head method.Other contents fields row e = refl
+
+is_no_options : (m : Method) (contents : Bool) (fields : List Field) (row : Row) → row_asked m contents fields ≡ Some row → is_options m ≡ false
+unfolding row_asked
+is_no_options method.Get contents fields row e = refl
+is_no_options method.Post contents fields row e = refl
+is_no_options method.Head contents fields row e = refl
+is_no_options method.Options contents fields row e = absurd (cc e)
+is_no_options method.Other contents fields row e = refl
+
+no_head : (editor : Bool) (q : Request) (a : Ask) → AsksFor q a → asks_head editor q ≡ false
+no_head editor q a asks = both_false editor (is_head q.method) (is_no_head q.method asks.contents q.fields asks.row asks.row_is)
+
+no_options : (editor : Bool) (q : Request) (a : Ask) → AsksFor q a → asks_options editor q ≡ false
+no_options editor q a asks = both_false editor (is_options q.method) (is_no_options q.method asks.contents q.fields asks.row asks.row_is)
+
+judged_itself : (editor : Bool) (q : Request) (a : Ask) → AsksFor q a → judged_as editor q ≡ q
+judged_itself editor q a asks = ap (λ left_out. if left_out then as_get q else q) (no_head editor q a asks)
+
+never_both : (b : Bool) → b ≡ true → b ≡ false → ⊥
+never_both b holds lacks = let e : true ≡ false = sym holds ∙ lacks in absurd (cc e)
 
 -- what is told of a call
 
@@ -227,6 +265,10 @@ module _ (desk : Desk) (desktop : Desktop) (client : Client) (sent : Sent) (at :
   own_turn t asks is one never away said = go t.said refl said
     where
       go : (s : Said) → t.said ≡ s → IsSaid desk t.request t.moment t.part s → IsOwnTurn client sent t
-      go (answer a) e h = by_did t t.part a (by_answered t.request t.moment t.part a asks is one never away h) refl e
-      go no_memory e (inl none) = unmade (ap made none) (subst TellsNone (sym e) tt)
-      go no_memory e (inr more) = by_begun t more.0 (t.part ++ more.0) more.1 (by_answered t.request t.moment (t.part ++ more.0) more.1 asks is one never away more.2) refl e
+      go (answer a) e h = by_did t t.part a (by_answered t.request t.moment t.part a asks is one never away h.2) refl e
+      go (head a) e h = absurd (never_both (asks_head desk.editor t.request) h.0 (no_head desk.editor t.request own_ask asks))
+      go options e h = absurd (never_both (asks_options desk.editor t.request) h.0 (no_options desk.editor t.request own_ask asks))
+      go no_memory e (plain, inl none) = unmade (ap made none) (subst TellsNone (sym e) tt)
+      go no_memory e (plain, inr more) =
+          let told = subst (λ (q : Request). AnsweredTo desk.editor desk q t.moment (t.part ++ more.0) more.1) (judged_itself desk.editor t.request own_ask asks) more.2 in
+          by_begun t more.0 (t.part ++ more.0) more.1 (by_answered t.request t.moment (t.part ++ more.0) more.1 asks is one never away told) refl e

@@ -10,7 +10,7 @@ use Rattle.wopi_client.specs.declared.desktop.Desktop.{Desktop}
 use Rattle.wopi_client.specs.Asking.{TellsAnswer}
 use Rattle.host_server.specs.declared.desk.Desk.{Desk}
 use Rattle.host_server.specs.Deeds.{made}
-use Rattle.host_server.specs.Turns.{Turn, IsTurn, Said, answer, no_memory}
+use Rattle.host_server.specs.Turns.{Turn, IsTurn, Said, answer, head, options, no_memory}
 use Rattle.wopi_world.specs.History.{Item, Ran}
 use Rattle.wopi_world.specs.Requests.{Client, Sent, operation, body}
 use Rattle.wopi_world.specs.Talks.{IsOfOthers, LooksSame}
@@ -30,6 +30,8 @@ pub record IsOwn (desktop : Desktop) (client : Client) (sent : Sent) (t : Turn) 
 -- version and the body, and of one to Put the version. What else a reply says doesn't count.
 abbrev pub IsReadAs : Sent → Said → Answer → Type 0
 IsReadAs sent (answer a) got = LooksSame (operation sent) got a
+IsReadAs sent (head a) got = ⊥
+IsReadAs sent options got = ⊥
 IsReadAs sent no_memory got = got.status ≡ 503
 
 -- a message that came of a request, and made an entry

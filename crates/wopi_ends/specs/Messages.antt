@@ -9,7 +9,7 @@ use Rattle.save_session.specs.Session.{op_of}
 use Rattle.wopi_client.specs.declared.desktop.Desktop.{Desktop}
 use Rattle.wopi_client.specs.Asking.{request_bytes}
 use Rattle.host_server.specs.Deeds.{made}
-use Rattle.host_server.specs.Turns.{Turn, Said, answer, no_memory}
+use Rattle.host_server.specs.Turns.{Turn, Said, answer, head, options, no_memory}
 use Rattle.wopi_world.specs.Requests.{Client, Sent, operation, body, call_of}
 use Rattle.wopi_world.specs.Talks.{LooksSame}
 
@@ -26,14 +26,18 @@ pub record IsAt (keys : Keys) (desktop : Desktop) (client : Client) : Type 0 whe
   pub file : desktop.file ≡ client.token.file
   pub token : IsSigned keys desktop.token client.token
 
--- what is said tells no entry
+-- what is said tells no entry; a session asks for no HEAD and for no methods
 abbrev pub TellsNone : Said → Type 0
 TellsNone (answer a) = (a.status ≢ 200) × (a.status ≢ 409)
+TellsNone (head a) = ⊥
+TellsNone options = ⊥
 TellsNone no_memory = ⊤
 
 -- what is said tells the entry to the session that sent the request, or that there was no memory for it
 abbrev pub TellsEntry : Sent → Entry → Said → Type 0
 TellsEntry sent entry (answer a) = LooksSame (operation sent) a (ruling_told entry.ruling)
+TellsEntry sent entry (head a) = ⊥
+TellsEntry sent entry options = ⊥
 TellsEntry sent entry no_memory = ⊤
 
 -- what a host did for a message, and what it said: one entry at most, which is the one of the session's call
