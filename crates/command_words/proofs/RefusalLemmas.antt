@@ -1,5 +1,5 @@
 -- Why words are refused.
-use Rattle.std.proofs.Common.{◌≡◌, ◌<◌, ◌≤◌, ◌+◌, ℕ, Bool, true, false, nat_lt, List, [], ◌∷◌, length, codes, Option, None, Some, Result, Ok, Err, IfErr, IsErrAnd, refl, sym, ◌∙◌, subst, arith, true≢false}
+use Rattle.std.proofs.Common.{◌≡◌, ◌<◌, ◌≤◌, ◌+◌, ℕ, Bool, true, false, List, [], ◌∷◌, length, codes, Option, None, Some, Result, Ok, Err, IfErr, IsErrAnd, refl, sym, ◌∙◌, subst, arith, true≢false}
 use Rattle.wopi_text.specs.FileName.{IsFileName}
 use Rattle.wopi_text.specs.Moments.{moments_end}
 use Rattle.command_words.specs.declared.around.Around.{Around}
@@ -7,7 +7,7 @@ use Rattle.command_words.specs.declared.options.Kind.{Kind}
 use Rattle.command_words.specs.declared.options.Kind.TheVariants as kind
 use Rattle.command_words.specs.declared.wrong.Refused.{Refused}
 use Rattle.command_words.specs.declared.wrong.Refused.TheVariants.{Words, Memory}
-use Rattle.command_words.specs.Meaning.{IsAround, IsWithFile, IsWithNonce, MeansCtoken, MeansEdit, MeansOf, MeansPlaces, MeansServe, MeansToken, has_both, is_bare}
+use Rattle.command_words.specs.Meaning.{IsAround, IsWithFile, IsWithNonce, MeansCtoken, MeansEdit, MeansOf, MeansPlaces, MeansServe, MeansToken, has_both, has_flag, is_bare}
 use Rattle.command_words.specs.Parts.{Parts, lacks_value, parted_of}
 use Rattle.command_words.specs.Refusals.{IsFor}
 use Rattle.command_words.specs.Spans.{IsSpan}
@@ -183,7 +183,7 @@ places_no_nonce own parts named refused is lacking = for_more refused (λ none w
     (with_file_once parts.places (values_of (codes "--file") parts.options) named means.named is means.named_are) means.words_are)) lacking
 
 -- the words of a command mean nothing
-pub serve_no_around : (parts : Parts) (verbose : Bool) (refused : Refused) → verbose ≡ nat_lt 0 (length parts.flags) → IsFor (NoAround parts.options verbose) refused
+pub serve_no_around : (parts : Parts) (verbose : Bool) (refused : Refused) → verbose ≡ has_flag (codes "--verbose") parts.flags → IsFor (NoAround parts.options verbose) refused
     → IsFor ((words : List (List ℕ)) (around : Around) → Prim.¬◌ (MeansServe parts words around)) refused
 serve_no_around parts verbose refused is lacking =
     for_more refused (λ none words around means. none around (subst (λ (v : Bool). IsAround parts.options v around) (sym is) means.around_is)) lacking
