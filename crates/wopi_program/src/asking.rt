@@ -1,5 +1,5 @@
 //! What a command asks to be made of the outside world before it runs.
-ghost use Rattle.std.specs.Prelude.{◌≡◌, ℕ, List, map, string_bytes};
+ghost use Rattle.std.specs.Prelude.{◌≡◌, ℕ, Bool, List, map, string_bytes};
 ghost use Rattle.wopi_program.specs.Asking.{IsEditAt, IsOnceOver, IsServeOver, second_of};
 ghost use Rattle.wopi_program.specs.EditWords.{IsEditRow};
 ghost use Rattle.wopi_program.specs.ServeWords.{IsServe, IsServeRow};
