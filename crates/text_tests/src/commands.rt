@@ -133,7 +133,7 @@ fn told(alloc: Global, line: &str) -> Result<Vec<u8>, Memory> {
 }
 
 /// Lines that are no command, and what begins the line that is told.
-const TOLD: [[&str; 2]; 22] = [
+const TOLD: [[&str; 2]; 24] = [
     ["frob", "a command frob: once, serve, edit"],
     ["once", "FOLDER is missing: the path of a folder"],
     ["once . 4a6 http://localhost", "KEY: 1 to 64 bytes in hex"],
@@ -143,6 +143,10 @@ const TOLD: [[&str; 2]; 22] = [
     ],
     [
         "once . 4a http://localhost more",
+        "the word more: no word stands there",
+    ],
+    [
+        "once . 4a http://localhost --editor more",
         "the word more: no word stands there",
     ],
     [
@@ -164,6 +168,10 @@ const TOLD: [[&str; 2]; 22] = [
     [
         "serve . 8880 4a http://localhost 2 --frob 1",
         "an option --frob: --journal",
+    ],
+    [
+        "serve . 8880 4a http://localhost 2 --editor --links 1025",
+        "--links 1025: a number from 1 to 1024",
     ],
     [
         "serve . 8880 4a http://localhost 2 --idle x",
