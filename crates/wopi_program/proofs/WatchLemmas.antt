@@ -1,5 +1,5 @@
 -- What a watch told, one look after another.
-use Rattle.std.proofs.Common.{◌≡◌, ◌≢◌, ◌⊎◌, ℕ, zero, suc, ◌+◌, ◌*◌, ◌-◌, ◌^◌, ◌<◌, ◌≤◌, ◌==◌, min, Bool, true, false, if◌then◌else◌, List, [], ◌∷◌, ◌++◌, map, length, set, replicate, Option, None, Some, slice_get, sum_by, inl, inr, refl, sym, ap, ◌∙◌, subst, append_assoc, append-nil, arith}
+use Rattle.std.proofs.Common.{◌≡◌, ◌≢◌, ◌⊎◌, ℕ, zero, suc, ◌+◌, ◌*◌, ◌-◌, ◌^◌, ◌<◌, ◌≤◌, ◌==◌, min, Bool, true, false, if◌then◌else◌, List, [], ◌∷◌, ◌++◌, map, length, set, replicate, Option, None, Some, slice_get, get_or, sum_by, inl, inr, refl, sym, ap, ◌∙◌, subst, append_assoc, append-nil, arith}
 use Rattle.std.proofs.lemmas.List.{map-append, length-set}
 use Rattle.std.proofs.lemmas.List.Sums.{sum_by-append}
 use Rattle.std.proofs.lemmas.Option.{slice_get_within}
@@ -18,7 +18,7 @@ use Rattle.host_core.specs.Listing.{LooksAt}
 use Rattle.host_core.specs.Value.{Book, InMemory, Left}
 use Rattle.host_core.specs.Times.{steps_of, untimed}
 use Rattle.host_table.specs.Journal.{JournalView, IsNearlyFullIn}
-use Rattle.host_table.specs.Passes.{HostView, PassView, IsPassOf, sight_of}
+use Rattle.host_table.specs.Passes.{HostView, PassView, IsPassOf, IsSamePass, sight_of}
 use Rattle.host_table.specs.Close.{AreSeen, AreEnded}
 use Rattle.wopi_program.specs.Journal.{entries_in}
 use Rattle.wopi_program.specs.Notes.{AreFronts, Notes, NotesAll, text_of}
@@ -85,9 +85,18 @@ notes-one a b k m line (up, inr ((front, rest, is, p), rose)) =
 
 -- ---- marks
 
+apart_behind : (n : ℕ) → times (suc n) (0 ∷ []) ≡ 0
+apart_behind n = grind (arith, nat_tests)
+
+apart_before : (n : ℕ) → times 0 (suc n ∷ []) ≡ 0
+apart_before n = grind (arith, nat_tests)
+
+same_behind : (m n : ℕ) → times (suc m) (suc n ∷ []) ≡ times m (n ∷ [])
+same_behind m n = grind (arith, nat_tests)
+
 module _ {K : Type 0} (held : K → Option (List ℕ)) (count : K → ℕ) where
   pub tells_none : (notes : K) (marks : List Bool) → TellsOf held count notes notes marks marks
-  tells_none notes marks = record { told = []; lines = notes-none (held notes) (count notes); are_raised = λ shard. omega arith }
+  tells_none notes marks = record { told = []; lines = notes-none (held notes) (count notes); are_raised = λ shard. omega arith; many = refl }
 
   pub tells_both : (old mid new : K) (marks marks' marks'' : List Bool) → TellsOf held count old mid marks marks' → TellsOf held count mid new marks' marks''
       → TellsOf held count old new marks marks''
@@ -98,24 +107,33 @@ module _ {K : Type 0} (held : K → Option (List ℕ)) (count : K → ℕ) where
         lines = subst (λ (l : List (List ℕ)). NotesAll (held old) (held new) (count old) (count new) l) (sym (map-append nearly_full_line one.told other.told)) lines;
         are_raised = λ shard.
         let first = one.are_raised shard in let second = other.are_raised shard in let sums = times-append shard one.told other.told in omega (arith, first, second, sums);
+        many = other.many ∙ one.many;
       }
 
   pub tells_one : (old new : K) (marks : List Bool) (shard : ℕ) → slice_get marks shard ≡ Some false
       → Notes (held old) (held new) (count old) (count new) (nearly_full_line shard) → TellsOf held count old new marks (set marks shard true)
   tells_one old new marks shard low noted =
-      record { told = shard ∷ []; lines = notes-one (held old) (held new) (count old) (count new) (nearly_full_line shard) noted; are_raised = λ other. go marks shard other low }
+      record { told = shard ∷ []; lines = notes-one (held old) (held new) (count old) (count new) (nearly_full_line shard) noted; are_raised = λ other. go marks shard other low; many = length-set marks shard true }
     where
       go : (ms : List Bool) (k other : ℕ) → slice_get ms k ≡ Some false → raised (slice_get (set ms k true) other) ≡ raised (slice_get ms other) + times other (k ∷ [])
       go [] k other is = absurd (cc is)
       go (b ∷ ms) zero zero is = let b_is : b ≡ false = cc is in let none : raised (Some b) ≡ 0 = ap (λ (c : Bool). raised (Some c)) b_is in omega (arith, none)
-      go (b ∷ ms) zero (suc other) is = omega arith
-      go (b ∷ ms) (suc k) zero is = omega arith
-      go (b ∷ ms) (suc k) (suc other) is = go ms k other is
+      go (b ∷ ms) zero (suc other) is = let none = apart_behind other in omega (arith, none)
+      go (b ∷ ms) (suc k) zero is = let none = apart_before k in omega (arith, none)
+      go (b ∷ ms) (suc k) (suc other) is = let rest = go ms k other is in let same = same_behind other k in omega (arith, rest, same)
 
 pub set_there : (marks : List Bool) (shard : ℕ) → shard < length marks → slice_get (set marks shard true) shard ≡ Some true
 set_there [] shard inside = absurd (omega (arith, inside))
 set_there (b ∷ marks) zero inside = refl
 set_there (b ∷ marks) (suc shard) inside = set_there marks shard (omega (arith, inside))
+
+pub there_low : (marks : List Bool) (shard : ℕ) → slice_get marks shard ≡ Some false → shard < length marks
+there_low marks shard is = slice_get_within marks shard false is
+
+pub got_there : (marks : List Bool) (at : ℕ) (default : Bool) → at < length marks → slice_get marks at ≡ Some (get_or marks at default)
+got_there [] at default inside = absurd (omega (arith, inside))
+got_there (b ∷ marks) zero default inside = refl
+got_there (b ∷ marks) (suc at) default inside = got_there marks at default (omega (arith, inside))
 
 pub set_apart : (marks : List Bool) (shard other : ℕ) → slice_get (set marks shard true) other ≡ Some true → (other ≡ shard) ⊎ (slice_get marks other ≡ Some true)
 set_apart [] shard other is = inr is
@@ -123,6 +141,11 @@ set_apart (b ∷ marks) zero zero is = inl refl
 set_apart (b ∷ marks) zero (suc other) is = inr is
 set_apart (b ∷ marks) (suc shard) zero is = inr is
 set_apart (b ∷ marks) (suc shard) (suc other) is = elim (set_apart marks shard other is) as (λ _. (suc other ≡ suc shard) ⊎ (slice_get marks other ≡ Some true)) [ inl e ↦ inl (ap suc e) | inr e ↦ inr e ]
+
+none_there : (shard n : ℕ) → raised (slice_get (replicate n false) shard) ≡ 0
+none_there shard zero = refl
+none_there zero (suc n) = refl
+none_there (suc shard) (suc n) = none_there shard n
 
 raised_is : (mark : Option Bool) → 1 ≤ raised mark → mark ≡ Some true
 raised_is None one = absurd (omega (arith, one))
@@ -134,6 +157,23 @@ pub stays_raised : {K : Type 0} (held : K → Option (List ℕ)) (count : K → 
     → slice_get marks shard ≡ Some true → slice_get marks' shard ≡ Some true
 stays_raised held count old new marks marks' shard tells is =
     let was : raised (slice_get marks shard) ≡ 1 = ap raised is in let now = tells.are_raised shard in raised_is (slice_get marks' shard) (omega (arith, was, now))
+
+-- ---- a pass that looks
+
+module _ {F : Type 0} where
+  pub same_still : (pass : PassView F) → IsSamePass pass pass
+  same_still pass = record { number = refl; weight = refl; opened_is = refl; first_is = refl; capacity_is = refl; locks = refl; bases = refl }
+
+  pub same_both : (old mid new : PassView F) → IsSamePass old mid → IsSamePass mid new → IsSamePass old new
+  same_both old mid new one other = record {
+    number = other.number ∙ one.number;
+    weight = other.weight ∙ one.weight;
+    opened_is = other.opened_is ∙ one.opened_is;
+    first_is = other.first_is ∙ one.first_is;
+    capacity_is = other.capacity_is ∙ one.capacity_is;
+    locks = other.locks ∙ one.locks;
+    bases = other.bases ∙ one.bases;
+  }
 
 -- ---- what was seen stays so
 
@@ -173,6 +213,12 @@ right_later marks old new shard looks right = λ other is. go other (right other
         λ i. (sym looks.rest.capacity i, (sym (looks.rest.openings other) i, sym (looks.rest.others other apart) i)) in
         subst (λ (z : ℕ × (Opening × List Item)). IsNearlyFull z.0 z.1.0 z.1.1) same near
 
+pub none_right : (marks : List Bool) → marks ≡ none_raised → (sight : Sight) → AreRight marks sight
+none_right marks is sight = λ shard up. absurd (low shard (subst (λ (l : List Bool). slice_get l shard ≡ Some true) is up))
+  where
+    low : (shard : ℕ) → slice_get none_raised shard ≡ Some true → ⊥
+    low shard up = let none = none_there shard 16 in let one : raised (slice_get none_raised shard) ≡ 1 = ap raised up in absurd (omega (arith, none, one))
+
 -- a shard more was marked, which is nearly full
 pub right_more : (marks marks' : List Bool) (sight : Sight) (shard : ℕ) → AreRight marks sight → IsNearlyFullAt sight shard
     → ((other : ℕ) → slice_get marks' other ≡ Some true → (other ≡ shard) ⊎ (slice_get marks other ≡ Some true)) → AreRight marks' sight
@@ -189,6 +235,19 @@ right_more_in capacity parts marks marks' shard right near which = λ other is. 
 ]
 
 -- ---- at the end
+
+-- one shard more was looked at
+pub all_before : {K F : Type 0} (held : K → Option (List ℕ)) (count : K → ℕ) (old new : K) (marks marks' : List Bool) (capacity : ℕ) (parts : List (Left F)) (at : ℕ)
+    → ((shard : ℕ) → shard < at → IsNearlyFullIn capacity (slice_get parts shard) → slice_get marks shard ≡ Some true) → TellsOf held count old new marks marks'
+    → (IsNearlyFullIn capacity (slice_get parts at) → slice_get marks' at ≡ Some true)
+    → (shard : ℕ) → shard < at + 1 → IsNearlyFullIn capacity (slice_get parts shard) → slice_get marks' shard ≡ Some true
+all_before held count old new marks marks' capacity parts at before tells here shard inside near = go (shard == at) refl
+  where
+    go : (b : Bool) → (shard == at) ≡ b → slice_get marks' shard ≡ Some true
+    go true is = let same : shard ≡ at = grind (arith, nat_tests) in
+        subst (λ n. slice_get marks' n ≡ Some true) (sym same) (here (subst (λ n. IsNearlyFullIn capacity (slice_get parts n)) same near))
+    go false is = let below : shard < at = grind (arith, nat_tests, inside) in
+        stays_raised held count old new marks marks' shard tells (before shard below near)
 
 module _ {F : Type 0} (files : F → Option Files) (faults : F → ℕ) (host : HostView (InMemory F)) (pass : PassView (InMemory F)) (parts : List (Left F)) (folders : List F)
     (of : IsPassOf host pass) (seen : AreSeen pass.seats parts) (ended : AreEnded files faults host.bases parts folders) where
@@ -208,16 +267,26 @@ module _ {F : Type 0} (files : F → Option Files) (faults : F → ℕ) (host : 
       let there = part_there pass.seats parts shard seen (omega (arith, below, many, wide)) in
       near_in shard there.0 there.1 (right shard is)
 
-none_there : (shard n : ℕ) → raised (slice_get (replicate n false) shard) ≡ 0
-none_there shard zero = refl
-none_there zero (suc n) = refl
-none_there (suc shard) (suc n) = none_there shard n
+-- a host leaves a part of each of its shards
+pub parts_many : {F : Type 0} (files : F → Option Files) (faults : F → ℕ) (bases : List (Book (InMemory F))) (parts : List (Left F)) (folders : List F)
+    → AreEnded files faults bases parts folders → length bases ≡ 16 → length parts ≤ 16
+parts_many {F = F} files faults bases parts folders ended many = let same = as_many bases parts folders ended in omega (arith, same, many)
+  where
+    as_many : (bs : List (Book (InMemory F))) (ps : List (Left F)) (fs : List F) → AreEnded files faults bs ps fs → length ps ≡ length bs
+    as_many [] [] [] e = refl
+    as_many [] [] (f ∷ fs) e = absurd e
+    as_many [] (p ∷ ps) [] e = absurd e
+    as_many [] (p ∷ ps) (f ∷ fs) e = absurd e
+    as_many (b ∷ bs) [] [] e = absurd e
+    as_many (b ∷ bs) [] (f ∷ fs) e = absurd e
+    as_many (b ∷ bs) (p ∷ ps) [] e = absurd e
+    as_many (b ∷ bs) (p ∷ ps) (f ∷ fs) e = ap suc (as_many bs ps fs e.1)
 
 -- every shard was looked at
 pub all_told : {K F : Type 0} (held : K → Option (List ℕ)) (count : K → ℕ) (capacity : ℕ) (journal : JournalView F) (old new : K) (marks : List Bool) → TellsOf held count old new none_raised marks
     → AreRightIn capacity journal.parts marks → ((shard : ℕ) → shard < 16 → IsNearlyFullIn capacity (slice_get journal.parts shard) → slice_get marks shard ≡ Some true)
     → length journal.parts ≤ 16 → HasTold held count capacity journal old new
-all_told held count capacity journal old new marks tells right all few =
+all_told {F = F} held count capacity journal old new marks tells right all few =
     let marked : (shard : ℕ) → raised (slice_get marks shard) ≡ times shard tells.told =
     λ shard. let none = none_there shard 16 in let now = tells.are_raised shard in omega (arith, none, now) in
     record {

@@ -1,5 +1,5 @@
 -- What the notes tell of shards that are nearly full. (Own.)
-use Rattle.std.specs.Prelude.{◌≡◌, ℕ, ◌+◌, Bool, true, false, List, ◌++◌, map, Option, None, Some, slice_get, replicate, codes, decimal}
+use Rattle.std.specs.Prelude.{◌≡◌, ℕ, ◌+◌, nat_lt, if◌then◌else◌, Bool, true, false, List, [], ◌∷◌, ◌++◌, map, length, Option, None, Some, slice_get, replicate, codes}
 use Rattle.turn_lock.specs.Places.{times}
 use Rattle.host_core.specs.Caller.{Sight}
 use Rattle.host_core.specs.Fullness.{IsNearlyFullAt}
@@ -7,9 +7,13 @@ use Rattle.host_core.specs.Value.{Left}
 use Rattle.host_table.specs.Journal.{JournalView, IsNearlyFullIn}
 use Rattle.wopi_program.specs.Notes.{NotesAll}
 
+-- the decimal digits of a shard's number, which is below 16
+abbrev pub shard_digits : ℕ → List ℕ
+shard_digits shard = if nat_lt shard 10 then (48 + shard) ∷ [] else 49 ∷ (38 + shard) ∷ []
+
 -- the line of the shard of that number
 abbrev pub nearly_full_line : ℕ → List ℕ
-nearly_full_line shard = codes "shard " ++ (decimal shard ++ codes " nearly full\n")
+nearly_full_line shard = codes "shard " ++ (shard_digits shard ++ codes " nearly full\n")
 
 -- no mark is raised
 abbrev pub none_raised : List Bool
@@ -30,6 +34,7 @@ pub record TellsOf {K : Type 0} (held : K → Option (List ℕ)) (count : K → 
   pub told : List ℕ
   pub lines : NotesAll (held old) (held new) (count old) (count new) (map nearly_full_line told)
   pub are_raised : AreRaised marks told marks'
+  pub many : length marks' ≡ length marks
 
 -- each marked shard was nearly full when it was seen
 abbrev pub AreRight : List Bool → Sight → Type 0

@@ -1,5 +1,5 @@
 //! A watch over a host while its workers work, which tells of shards that are nearly full.
-ghost use Rattle.std.specs.Prelude.{◌≡◌, ◌<◌, ℕ, Some, true, false, slice_get};
+ghost use Rattle.std.specs.Prelude.{◌≡◌, ◌⊎◌, ◌<◌, ℕ, Some, true, false, slice_get};
 ghost use Rattle.host_core.specs.Fullness.{IsNearlyFullAt};
 ghost use Rattle.host_table.specs.Journal.{IsNearlyFullIn};
 ghost use Rattle.host_table.specs.Passes.{IsSamePass, locks_of, own_of, sight_of};
@@ -53,6 +53,14 @@ pub(crate) fn lowered() -> Marks
     [false; 16]
 }
 
+/// Whether a shard was told of.
+fn is_marked(marks: &Marks, shard: u8) -> bool
+    requires { shard < 16 }
+    ensures { slice_get marks.now shard ≡ Some result }
+{
+    marks[usize::from(shard)]
+}
+
 /// Marks a shard and tells of it.
 fn tell_of<K: Sink>(notes: &mut K, marks: &mut Marks, shard: u8)
     requires shard { shard < 16 }
@@ -82,7 +90,7 @@ fn look_at<R: Wait, F: Store, K: Sink>(
     ensures own { own_of pass.new ≡ own_of pass.old }
     ensures same { IsSamePass pass.old pass.new }
 {
-    if marks[usize::from(shard)] {
+    if is_marked(marks, shard) {
         return;
     }
     if host.is_nearly_full(rt, pass, shard) {
@@ -152,7 +160,7 @@ fn tell_in<K: Sink, F: Folder>(
     ensures right { AreRightIn capacity journal.now.parts marks.new }
     ensures itself { IsNearlyFullIn capacity (slice_get journal.now.parts shard) → slice_get marks.new shard ≡ Some true }
 {
-    if marks[usize::from(shard)] {
+    if is_marked(marks, shard) {
         return;
     }
     if journal.is_nearly_full(shard, capacity) {
