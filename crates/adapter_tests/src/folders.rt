@@ -1,6 +1,6 @@
 //! A real folder, and one over a file system that fails.
 use super::failing_files::Stopping;
-use adapters::{Cause, DirFolder};
+use adapters::{Cause, DirFolder, folder_line, too_large_line};
 use outside::{Folder, FolderRead, Names, OutFault};
 use std::cell::Cell;
 use std::os::unix::fs::{PermissionsExt, symlink};
@@ -124,6 +124,29 @@ fn a_file_of_many_pieces_is_read_whole(rt: HostRuntime) -> Result<(), Fail> {
     );
     assert!(rt; matches!(folder.read("a.txt", 299_999)?, FolderRead::TooLong));
     fs::remove_dir_all(&rt, FOLDER)?;
+    Ok(())
+}
+
+// The second of two folders is never read.
+#[test]
+fn what_fails_and_what_is_too_large_is_told(rt: HostRuntime) -> Result<(), Fail> {
+    const FOLDER: &str = "outside_test_large";
+    const LARGE: &str =
+        "outside_test_large/a.txt: 4 bytes; with it the files of its shard have more than 268435456\n";
+    const LOST: &str = "outside_test_large: No such file or directory (os error 2)\n";
+    let alloc = rt.alloc();
+    empty_folder(&rt, FOLDER)?;
+    let mut first = DirFolder::new(alloc, &rt, FOLDER)?;
+    let mut second = DirFolder::new(alloc, &rt, FOLDER)?;
+    first.replace("a.txt", b"four")?;
+    let is_long = matches!(first.read("a.txt", 3), Ok(FolderRead::TooLong));
+    fs::remove_dir_all(&rt, FOLDER)?;
+    let is_lost = second.list().is_err();
+    let folders = [first, second];
+    let large = too_large_line(alloc, &folders)?;
+    let lost = folder_line(alloc, &folders)?;
+    assert!(rt; is_long && large.as_deref() == Some(LARGE));
+    assert!(rt; is_lost && lost.as_deref() == Some(LOST));
     Ok(())
 }
 

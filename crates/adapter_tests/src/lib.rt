@@ -10,4 +10,6 @@ mod folders;
 #[cfg(test)]
 mod sockets;
 #[cfg(test)]
+mod stops;
+#[cfg(test)]
 mod timing;
