@@ -1,5 +1,5 @@
 //! Requests over TCP.
-ghost use Rattle.std.specs.Prelude.{None};
+ghost use Rattle.std.specs.Prelude.{◌≡◌, None};
 
 use crate::limits::Limits;
 use crate::link::TcpLink;
@@ -36,7 +36,10 @@ impl<'a, R: Net<Stream = TcpStream> + time::Clock + Copy, E: ReplyEnd> TcpDialer
         authority: String,
         end: E,
         idle: u32,
-    ) -> TcpDialer<'a, R, E> {
+    ) -> TcpDialer<'a, R, E>
+        ensures host { result.authority ≡ authority }
+        ensures waits { result.idle ≡ idle }
+    {
         TcpDialer {
             rt,
             alloc,

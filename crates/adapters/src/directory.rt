@@ -1,5 +1,5 @@
 //! A folder of the file system.
-ghost use Rattle.std.specs.Prelude.{◌≡◌, ◌≤◌, ◌+◌, IsTrue, IfOk, None, length, string_len, string_capacity};
+ghost use Rattle.std.specs.Prelude.{◌≡◌, ◌≤◌, ◌+◌, IsTrue, IfOk, IfSome, None, length, option_map, string_bytes, string_len, string_capacity};
 ghost use Rattle.outside.specs.Faults.{Rose};
 ghost use Rattle.outside.specs.Folder.{all_differ};
 
@@ -69,7 +69,9 @@ pub struct LastRead<'a> {
 
 impl<'a, R: Files> DirFolder<'a, R> {
     /// `folder` is its path. Room for the paths of files is reserved here.
-    pub fn new(alloc: Global, rt: &'a R, folder: &str) -> Result<DirFolder<'a, R>, Memory> {
+    pub fn new(alloc: Global, rt: &'a R, folder: &str) -> Result<DirFolder<'a, R>, Memory>
+        ensures { IfOk result (λ made. string_bytes made.folder ≡ folder.now) }
+    {
         let room = folder.len().saturating_add(256);
         Ok(DirFolder {
             rt,
@@ -85,7 +87,10 @@ impl<'a, R: Files> DirFolder<'a, R> {
     }
 
     /// Why the last call that failed did.
-    pub fn cause(&self) -> Option<Cause<'_>> {
+    pub fn cause(&self) -> Option<Cause<'_>>
+        ensures error { option_map (λ cause. cause.error) result ≡ self.now.cause }
+        ensures path { IfSome result (λ cause. cause.path.now ≡ string_bytes self.now.place) }
+    {
         match self.cause {
             Some(error) => Some(Cause {
                 path: self.place.as_str(),
@@ -96,7 +101,10 @@ impl<'a, R: Files> DirFolder<'a, R> {
     }
 
     /// The file that the last call read, also where it was longer than asked for; none where it read none.
-    pub fn last_read(&self) -> Option<LastRead<'_>> {
+    pub fn last_read(&self) -> Option<LastRead<'_>>
+        ensures len { option_map (λ read. read.len) result ≡ self.now.seen }
+        ensures path { IfSome result (λ read. read.path.now ≡ string_bytes self.now.path) }
+    {
         match self.seen {
             Some(len) => Some(LastRead {
                 path: self.path.as_str(),

@@ -40,7 +40,9 @@ impl<'a> Around<'a> {
     }
 
     /// Those of its connections.
-    pub(crate) fn limits(&self) -> Limits {
+    pub(crate) fn limits(&self) -> Limits
+        ensures { (result.idle ≡ self.now.idle) × (result.patience ≡ self.now.patience) }
+    {
         Limits {
             idle: self.idle,
             patience: self.patience,

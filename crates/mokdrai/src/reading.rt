@@ -9,7 +9,7 @@ use command_words::{
 use outside::Clock;
 use std::alloc::Global;
 use std::fs::{File, Files, OpenFile};
-use std::io::{self, Read};
+use std::io::{self, ErrorKind, Read};
 use std::os::unix::fs::PermissionsExt;
 use std::random::RandomSource;
 use std::time;
@@ -24,11 +24,19 @@ const OTHERS: u32 = 0o077;
 /// Why a file has no secret.
 #[derive(Clone, Copy, Debug, PartialEq, Eq)]
 pub(crate) enum SecretFault {
-    /// It isn't there, can't be read, or is no text.
+    /// It isn't there, can't be read, is no text, or is too long.
     Unread,
     /// Others than its owner may read or write it.
     Open,
     Memory,
+}
+
+/// Why a file couldn't be read.
+fn fault_of(error: io::Error) -> SecretFault {
+    if error.kind() == ErrorKind::OutOfMemory {
+        return SecretFault::Memory;
+    }
+    SecretFault::Unread
 }
 
 /// The text of an open file, where only its owner may read it.
@@ -39,10 +47,14 @@ fn text_of<F: Read + OpenFile + Drop>(alloc: Global, file: F) -> Result<String, 
     if about.permissions().mode() & OTHERS != 0 {
         return Err(SecretFault::Open);
     }
-    match io::read_to_string(alloc, file.take(MOST_SECRET)) {
-        Ok(text) => Ok(text),
-        Err(_) => Err(SecretFault::Unread),
+    let text = match io::read_to_string(alloc, file.take(MOST_SECRET + 1)) {
+        Ok(text) => text,
+        Err(error) => return Err(fault_of(error)),
+    };
+    if text.len() as u64 > MOST_SECRET {
+        return Err(SecretFault::Unread);
     }
+    Ok(text)
 }
 
 /// The secret of the file at a path: its text without the line feed at its end.

@@ -53,6 +53,26 @@ fn a_secret_comes_from_a_file_that_its_owner_alone_may_read(rt: HostRuntime) -> 
     Ok(())
 }
 
+// The nonce of an `edit` that tells none.
+fn own_nonce(rt: &HostRuntime) -> Result<String, Fail> {
+    let alloc = rt.alloc();
+    let line = "edit localhost:8880 --file a.csv x";
+    let asking = understand(alloc, rt, &words(alloc, line)?)?;
+    match asking.given.words.get(4) {
+        Some(nonce) => Ok(nonce.clone()?),
+        None => Err(Fail::new("there is no nonce")),
+    }
+}
+
+#[test]
+fn each_edit_has_a_nonce_of_its_own(rt: HostRuntime) -> Result<(), Fail> {
+    let first = own_nonce(&rt)?;
+    let second = own_nonce(&rt)?;
+    assert!(rt; first.len() == 32 && second.len() == 32);
+    assert!(rt; first.as_str() != second.as_str());
+    Ok(())
+}
+
 #[test]
 fn a_wrong_word_is_told_with_its_rule(rt: HostRuntime) -> Result<(), Fail> {
     let (folder, line) = key_and_line(&rt, "serve . 99999 4a http://localhost 2")?;
