@@ -12,4 +12,6 @@ mod sockets;
 #[cfg(test)]
 mod stops;
 #[cfg(test)]
+mod telling;
+#[cfg(test)]
 mod timing;
