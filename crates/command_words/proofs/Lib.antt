@@ -1,4 +1,6 @@
+pub mod GoingOn
 pub mod LawLemmas
+pub mod LineLemmas
 pub mod OptionLemmas
 pub mod PartLemmas
 pub mod PartingSteps

@@ -3,18 +3,13 @@ use Rattle.std.specs.Prelude.{◌≢◌, ◌<◌, ⊤, ℕ, Bool, nat_lt, nat_le
 use Rattle.std.specs.List.{list_all}
 use Rattle.command_words.specs.declared.wrong.How.{How}
 use Rattle.command_words.specs.declared.wrong.How.TheVariants.{Shown, Hidden, Missing}
-use Rattle.command_words.specs.Secrets.{place_of}
+use Rattle.command_words.specs.Secrets.{secret_place_of}
 
--- A secret is never shown: of words that begin with that name none is that stands where the command's secret does.
-abbrev pub HidesSecret : List ℕ → How → Type 0
-HidesSecret name (Shown place) = place_of name ≢ Some place
-HidesSecret name Hidden = ⊤
-HidesSecret name Missing = ⊤
-
--- the same of whole words
+-- A secret is never shown: no word is that stands where the command's secret does.
 abbrev pub HidesSecretOf : List (List ℕ) → How → Type 0
-HidesSecretOf [] how = ⊤
-HidesSecretOf (name ∷ rest) how = HidesSecret name how
+HidesSecretOf words (Shown place) = secret_place_of words ≢ Some place
+HidesSecretOf words Hidden = ⊤
+HidesSecretOf words Missing = ⊤
 
 -- a word that is shown is one of so many
 abbrev pub Stands : ℕ → How → Type 0

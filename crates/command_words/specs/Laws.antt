@@ -1,8 +1,9 @@
 -- What holds of the meanings of words. (Own.)
-use Rattle.std.specs.Prelude.{◌≡◌, ◌≢◌, ◌≤◌, ℕ, true, ⊤, List, [], ◌∷◌, ◌++◌, length, None, Some, slice_index}
+use Rattle.std.specs.Prelude.{◌≡◌, ◌≢◌, ◌≤◌, ◌+◌, ℕ, true, ⊤, List, [], ◌∷◌, ◌++◌, length, take, None, Some, slice_index}
 use Rattle.std.specs.List.{AllByRecursion}
 use Rattle.command_words.specs.declared.around.Around.{Around}
 use Rattle.command_words.specs.declared.options.Kind.TheVariants as kind
+use Rattle.command_words.specs.Lines.{AllFit, Breaks, IsLine}
 use Rattle.command_words.specs.Meaning.{IsDefault, Means, kind_of, short_for}
 use Rattle.command_words.specs.Options.{is_run_option}
 
@@ -40,3 +41,12 @@ abbrev pub NothingOfBeforeChanges : Type 0
 NothingOfBeforeChanges =
     (moment : ℕ) (own : List ℕ) (words meant : List (List ℕ)) (around : Around) → IsAsBefore words → Means moment own words meant around
     → (meant ≡ words) × IsDefault around
+
+-- Behind a word that may not stand there no words make a command of them.
+abbrev pub NothingMends : Type 0
+NothingMends = (words more : List (List ℕ)) (place : ℕ) → Breaks words place → IsLine (take (place + 1) words ++ more) → ⊥
+
+-- Behind words of which each may stand there some words do. So the first wrong word is the last of the shortest front that can't
+-- go on to a command.
+abbrev pub GoodFrontsGoOn : Type 0
+GoodFrontsGoOn = (words : List (List ℕ)) (count : ℕ) → AllFit words count → (more : List (List ℕ)) × IsLine (take count words ++ more)

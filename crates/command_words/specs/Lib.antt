@@ -1,9 +1,12 @@
 pub mod Explaining
 pub mod Laws
+pub mod Lines
 pub mod Meaning
+pub mod Names
 pub mod Options
 pub mod Parts
 pub mod Refusals
+pub mod Rules
 pub mod Secrets
 pub mod Spans
 pub mod Values

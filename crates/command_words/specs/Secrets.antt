@@ -10,6 +10,11 @@ place_of name =
     else if bytes_eq name (codes "serve") || bytes_eq name (codes "edit") then Some 3
     else None
 
+-- the same of a command's words
+abbrev pub secret_place_of : List (List ℕ) → Option ℕ
+secret_place_of [] = None
+secret_place_of (name ∷ words) = place_of name
+
 -- the secret of the command has that place, and `@` and that path stand there
 pub record IsSecretAt (words : List (List ℕ)) (place : ℕ) (path : List ℕ) : Type 0 where
   pub name : List ℕ

@@ -1,148 +1,31 @@
 //! Which of a command's words is wrong.
-ghost use Rattle.std.specs.Prelude.{◌≡◌, ◌<◌, ℕ, IfSome, length, map, string_bytes};
-ghost use Rattle.command_words.specs.Explaining.{HidesSecret, HidesSecretOf, Stands};
+ghost use Rattle.std.specs.Prelude.{◌≡◌, ◌<◌, ℕ, IfNone, IfSome, Some, length, map, slice_get, string_bytes, take};
+ghost use Rattle.command_words.specs.Explaining.{HidesSecretOf, Stands};
+ghost use Rattle.command_words.specs.Lines.{Breaks, Fits, IsFirstWrong, IsLine, IsWrongAt, next_of};
+ghost use Rattle.command_words.specs.Names.{name_of};
+ghost use Rattle.command_words.specs.Secrets.{secret_place_of};
 
-use crate::rules::Rule;
+use crate::lines::{Next, may_end, next_of};
 use crate::secret::place_of;
 use crate::wrong::{How, Wrong};
 
-/// The rule of the first word.
-const COMMANDS: &str =
-    "once, serve, edit, replay, token, ctoken, upgrade, audit, contents, --help or --version";
-
-fn once_rule(place: usize) -> Option<Rule> {
-    match place {
-        1 => Some(Rule::Folder),
-        2 => Some(Rule::Key),
-        3 => Some(Rule::Base),
-        _ => None,
-    }
-}
-
-fn serve_rule(place: usize) -> Option<Rule> {
-    match place {
-        1 => Some(Rule::Folder),
-        2 => Some(Rule::Port),
-        3 => Some(Rule::Key),
-        4 => Some(Rule::Base),
-        5 => Some(Rule::Workers),
-        _ => None,
-    }
-}
-
-fn edit_rule(place: usize) -> Option<Rule> {
-    match place {
-        1 => Some(Rule::Authority),
-        2 => Some(Rule::Id),
-        3 => Some(Rule::Token),
-        4 => Some(Rule::Nonce),
-        _ => None,
-    }
-}
-
-fn token_rule(place: usize) -> Option<Rule> {
-    match place {
-        1 => Some(Rule::Key),
-        2 => Some(Rule::User),
-        3 => Some(Rule::Name),
-        4 => Some(Rule::Rights),
-        5 => Some(Rule::Serial),
-        6 => Some(Rule::Issued),
-        7 => Some(Rule::Expires),
-        _ => None,
-    }
-}
-
-fn ctoken_rule(place: usize) -> Option<Rule> {
-    match place {
-        1 => Some(Rule::Key),
-        2 => Some(Rule::User),
-        3 => Some(Rule::Rights),
-        4 => Some(Rule::Serial),
-        5 => Some(Rule::Issued),
-        6 => Some(Rule::Expires),
-        _ => None,
-    }
-}
-
-fn replay_rule(place: usize) -> Option<Rule> {
-    match place {
-        1 => Some(Rule::Seed),
-        2 => Some(Rule::Count),
-        _ => None,
-    }
-}
-
-fn contents_rule(place: usize) -> Option<Rule> {
-    match place {
-        1 => Some(Rule::Id),
-        2 => Some(Rule::Version),
-        _ => None,
-    }
-}
-
-/// The rule of the word at a place of a command; none behind its last word.
-fn rule_at(name: &str, place: usize) -> Option<Rule> {
-    if name == "once" {
-        once_rule(place)
-    } else if name == "serve" {
-        serve_rule(place)
-    } else if name == "edit" {
-        edit_rule(place)
-    } else if name == "token" {
-        token_rule(place)
-    } else if name == "ctoken" {
-        ctoken_rule(place)
-    } else if name == "replay" {
-        replay_rule(place)
-    } else if name == "contents" {
-        contents_rule(place)
-    } else {
-        None
-    }
-}
-
-/// Whether the program has a command of this name.
-fn is_command(name: &str) -> bool {
-    rule_at(name, 1).is_some()
-        || name == "upgrade"
-        || name == "audit"
-        || name == "--help"
-        || name == "--version"
-}
-
-/// The rule of the option of that name.
-fn option_rule(name: &str) -> Option<Rule> {
-    if name == "--journal" {
-        Some(Rule::Journal)
-    } else if name == "--each" {
-        Some(Rule::Each)
-    } else if name == "--first" {
-        Some(Rule::First)
-    } else if name == "--links" {
-        Some(Rule::Links)
-    } else {
-        None
-    }
-}
-
-/// A word that isn't there.
-fn missing(rule: Rule) -> Wrong
-    ensures { result.how ≡ How.Missing }
+/// Where the secret of the command stands among its words.
+fn secret_place_of(words: &[String]) -> Option<usize>
+    ensures { result ≡ secret_place_of (map string_bytes words.now) }
 {
-    Wrong {
-        name: rule.name(),
-        rule: rule.text(),
-        how: How::Missing,
+    match words {
+        [name, ..] => place_of(name.as_str()),
+        [] => None,
     }
 }
 
-/// How the word at that place of a command is told: the secret isn't shown.
-fn told_at(name: &str, place: usize) -> How
-    ensures secret { HidesSecret name.now result }
-    ensures stands { (count : ℕ) → place < count → Stands count result }
+/// How the word at that place is told: the secret isn't shown.
+fn told_at(words: &[String], place: usize) -> How
+    ensures secret { HidesSecretOf (map string_bytes words.now) result }
+    ensures stands { place < length words.now → Stands (length words.now) result }
+    ensures told { Breaks (map string_bytes words.now) place → IsWrongAt (map string_bytes words.now) place result }
 {
-    let Some(secret) = place_of(name) else {
+    let Some(secret) = secret_place_of(words) else {
         return How::Shown(place);
     };
     if secret == place {
@@ -151,127 +34,68 @@ fn told_at(name: &str, place: usize) -> How
     How::Shown(place)
 }
 
-/// The word at that place of a command, which breaks its rule.
-fn broken(name: &str, rule: Rule, place: usize) -> Wrong
-    ensures secret { HidesSecret name.now result.how }
-    ensures stands { (count : ℕ) → place < count → Stands count result.how }
+/// The words before that place.
+fn front_of(words: &[String], place: usize) -> &[String]
+    requires { place < length words.now }
+    ensures { map string_bytes result.now ≡ take place (map string_bytes words.now) }
+{
+    &words[..place]
+}
+
+/// The word at that place.
+fn word_at(words: &[String], place: usize) -> &str
+    requires { place < length words.now }
+    ensures { slice_get (map string_bytes words.now) place ≡ Some result.now }
+{
+    words[place].as_str()
+}
+
+/// What the word at that place had to be, where it may not stand behind those before it.
+#[tactic(auto, using(crate::proofs::LineLemmas::fits_there, crate::proofs::LineLemmas::breaks_there))]
+fn broken_at(words: &[String], place: usize) -> Option<Next>
+    requires { place < length words.now }
+    ensures some { IfSome result (λ next. (next ≡ next_of (take place (map string_bytes words.now))) × Breaks (map string_bytes words.now) place) }
+    ensures none { IfNone result (Fits (map string_bytes words.now) place) }
+{
+    let front = front_of(words, place);
+    let next = next_of(front);
+    if next.allows(front, word_at(words, place)) {
+        return None;
+    }
+    Some(next)
+}
+
+/// The word that has to be this one, and is told so.
+fn wrong(next: Next, how: How) -> Wrong
+    ensures how { result.how ≡ how }
+    ensures name { result.name.now ≡ name_of next }
 {
     Wrong {
-        name: rule.name(),
-        rule: rule.text(),
-        how: told_at(name, place),
+        name: next.name(),
+        rule: next.text(),
+        how,
     }
 }
 
-/// The place behind `--editor`, where that stands at this place.
-fn behind_editor(words: &[String], place: usize) -> usize {
-    match words.get(place) {
-        Some(word) => {
-            if word.as_str() == "--editor" {
-                return place + 1;
-            }
-            place
-        }
-        None => place,
-    }
-}
-
-/// What is wrong with the options of that command, which is `serve`. The first of them stands at that place.
-fn wrong_option(words: &[String], name: &str, first: usize) -> Option<Wrong>
-    ensures secret { IfSome result (λ wrong. HidesSecret name.now wrong.how) }
-    ensures stands { IfSome result (λ wrong. Stands (length words.now) wrong.how) }
-{
-    let mut place = behind_editor(words, first);
-    'options: while place < words.len() {
-        let Some(rule) = option_rule(words[place].as_str()) else {
-            return Some(Wrong {
-                name: "an option",
-                rule: "--journal, --each, --first, --links, --listen, --idle, --patience, --grace, --verbose or --editor",
-                how: told_at(name, place),
-            });
-        };
-        if place + 1 == words.len() {
-            return Some(missing(rule));
-        }
-        if !rule.is_met(words[place + 1].as_str()) {
-            return Some(broken(name, rule, place + 1));
-        }
-        place += 2;
-    }
-    None
-}
-
-/// What is wrong behind the last word that has a rule.
-fn wrong_behind(words: &[String], name: &str, place: usize) -> Option<Wrong>
-    ensures secret { IfSome result (λ wrong. HidesSecret name.now wrong.how) }
-    ensures stands { IfSome result (λ wrong. Stands (length words.now) wrong.how) }
-{
-    if name == "serve" {
-        return match wrong_option(words, name, place) {
-            Some(wrong) => Some(wrong),
-            None => Some(Wrong {
-                name: "an option",
-                rule: "each may stand once",
-                how: How::Hidden,
-            }),
-        };
-    }
-    let place = if name == "once" {
-        behind_editor(words, place)
-    } else {
-        place
-    };
-    if place < words.len() {
-        return Some(Wrong {
-            name: "the word",
-            rule: "no word stands there",
-            how: told_at(name, place),
-        });
-    }
-    None
-}
-
-/// What is wrong with the words of that name: the first word that breaks its rule, or is missing.
-fn explain_named(words: &[String], name: &str) -> Option<Wrong>
-    requires { 0 < length words.now }
-    ensures secret { IfSome result (λ wrong. HidesSecret name.now wrong.how) }
-    ensures stands { IfSome result (λ wrong. Stands (length words.now) wrong.how) }
-{
-    if !is_command(name) {
-        return Some(Wrong {
-            name: "a command",
-            rule: COMMANDS,
-            how: told_at(name, 0),
-        });
-    }
-    'places: for place in 1..9 {
-        let Some(rule) = rule_at(name, place) else {
-            return wrong_behind(words, name, place);
-        };
-        let Some(word) = words.get(place) else {
-            return Some(missing(rule));
-        };
-        if !rule.is_met(word.as_str()) {
-            return Some(broken(name, rule, place));
-        }
-    }
-    None
-}
-
-/// What is wrong with words that are no command: the first word that breaks its rule, or is missing.
+/// What is wrong with words that are no command: the first word that may not stand where it does, or that is missing.
 ///
 /// A secret is never shown: not the word at the place of the command's KEY, nor that at the TOKEN of `edit`
 /// ([`crate::secret_place`]).
+#[tactic(auto, using(crate::proofs::LineLemmas::none_yet, crate::proofs::LineLemmas::one_more, crate::proofs::LineLemmas::first_wrong, crate::proofs::LineLemmas::missing_last, crate::proofs::LineLemmas::whole_line))]
 pub fn explain(words: &[String]) -> Option<Wrong>
+    ensures first { IfSome result (IsFirstWrong (map string_bytes words.now)) }
+    ensures none { IfNone result (IsLine (map string_bytes words.now)) }
     ensures secret { IfSome result (λ wrong. HidesSecretOf (map string_bytes words.now) wrong.how) }
     ensures stands { IfSome result (λ wrong. Stands (length words.now) wrong.how) }
 {
-    match words {
-        [first, ..] => explain_named(words, first.as_str()),
-        [] => Some(Wrong {
-            name: "a command",
-            rule: COMMANDS,
-            how: How::Missing,
-        }),
+    'places: for place in 0..words.len() {
+        match broken_at(words, place) {
+            Some(next) => return Some(wrong(next, told_at(words, place))),
+            None => {}
+        }
     }
+    if may_end(words) {
+        return None;
+    }
+    Some(wrong(next_of(words), How::Missing))
 }

@@ -3,12 +3,14 @@
 //! [`meant`] reads them, and makes of them the words that the program reads, with what its adapters to the
 //! outside world take ([`Around`]). Options stand anywhere behind a command, as `--name value` or `--name=value`.
 //! Words in which nothing of this stands come out as they are ([`laws`]). [`secret_place`] says which word may be the
-//! path of a file with a secret, and [`explain`] tells of words that are no command which is wrong, and its rule.
+//! path of a file with a secret, and [`explain`] tells of words that are no command which is the first that is wrong, and
+//! its rule.
 #![tactic(auto)]
 
 mod around;
 mod explaining;
 pub mod laws;
+mod lines;
 mod meaning;
 mod options;
 mod parting;

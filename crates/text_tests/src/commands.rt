@@ -163,7 +163,7 @@ const TOLD: [[&str; 2]; 24] = [
     ],
     [
         "serve . 8880 4a http://localhost 2 --first 1 --first 1",
-        "an option: each may stand once",
+        "an option --first: --journal, --each, --first, --links,",
     ],
     [
         "serve . 8880 4a http://localhost 2 --frob 1",
