@@ -151,12 +151,13 @@ pub(crate) struct Asking {
     pub(crate) line: Option<Vec<u8>>,
 }
 
-/// What is run of words that are wrong, which is none, and the line that is told.
-fn nothing(alloc: Global, typed: &[String], wrong: Wrong) -> Result<Asking, Memory>
+/// What is run of words that are wrong, which is none, and the line that is told. No word is at hand for that line, so
+/// that it shows none: any may be a secret.
+fn nothing(alloc: Global, wrong: Wrong) -> Result<Asking, Memory>
     ensures words { IfOk result (λ asking. vec_len asking.given.words ≡ 0) }
     ensures around { IfOk result (λ asking. IsDefault asking.given.around) }
 {
-    let line = wrong_line(alloc, typed, wrong)?;
+    let line = wrong_line(alloc, &[], wrong)?;
     let words = Vec::new(alloc);
     let around = Around::new(alloc)?;
     Ok(Asking {
@@ -184,7 +185,7 @@ pub(crate) fn understand<R: Files + time::Clock + RandomSource>(
 ) -> Result<Asking, Memory> {
     match read_words(alloc, rt, typed) {
         Ok(given) => something(alloc, given),
-        Err(Refused::Words(wrong)) => nothing(alloc, typed, wrong),
+        Err(Refused::Words(wrong)) => nothing(alloc, wrong),
         Err(Refused::Memory) => Err(Memory),
     }
 }
