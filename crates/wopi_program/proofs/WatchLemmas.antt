@@ -106,7 +106,7 @@ module _ {K : Type 0} (held : K → Option (List ℕ)) (count : K → ℕ) where
         told = one.told ++ other.told;
         lines = subst (λ (l : List (List ℕ)). NotesAll (held old) (held new) (count old) (count new) l) (sym (map-append nearly_full_line one.told other.told)) lines;
         are_raised = λ shard.
-        let first = one.are_raised shard in let second = other.are_raised shard in let sums = times-append shard one.told other.told in omega (arith, first, second, sums);
+            let first = one.are_raised shard in let second = other.are_raised shard in let sums = times-append shard one.told other.told in omega (arith, first, second, sums);
         many = other.many ∙ one.many;
       }
 
@@ -205,6 +205,7 @@ right_later marks old new shard looks right = λ other is. go other (right other
         let later = near_later old.capacity (old.openings shard) (old.seen shard) (new.seen shard) looks.begins near in
         let same : (old.capacity, old.openings shard) ≡ (new.capacity, new.openings shard) = λ i. (sym looks.rest.capacity i, sym (looks.rest.openings shard) i) in
         subst (λ (z : ℕ × Opening). IsNearlyFull z.0 z.1 (new.seen shard)) same later
+
     go : (other : ℕ) → IsNearlyFullAt old other → (b : Bool) → (other == shard) ≡ b → IsNearlyFullAt new other
     go other near true is = let same : other ≡ shard = grind (arith, nat_tests) in subst (λ n. IsNearlyFullAt new n) (sym same) (here (subst (λ n. IsNearlyFullAt old n) same near))
     go other near false is =
@@ -293,9 +294,9 @@ all_told {F = F} held count capacity journal old new marks tells right all few =
       told = tells.told;
       are_told = record {
         once = λ shard near.
-        let below = shorter journal.parts shard near in
-        let inside : shard < 16 = omega (arith, below, few) in
-        sym (marked shard) ∙ ap raised (all shard inside near);
+            let below = shorter journal.parts shard near in
+            let inside : shard < 16 = omega (arith, below, few) in
+            sym (marked shard) ∙ ap raised (all shard inside near);
         others = λ shard not. sym (marked shard) ∙ low (slice_get marks shard) (λ is. not (right shard is));
       };
       lines = tells.lines;
@@ -305,6 +306,7 @@ all_told {F = F} held count capacity journal old new marks tells right all few =
     shorter [] shard near = absurd near
     shorter (part ∷ parts) zero near = omega arith
     shorter (part ∷ parts) (suc shard) near = let rest = shorter parts shard near in omega (arith, rest)
+
     low : (mark : Option Bool) → (mark ≡ Some true → ⊥) → raised mark ≡ 0
     low None not = refl
     low (Some false) not = refl
