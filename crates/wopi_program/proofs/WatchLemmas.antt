@@ -198,7 +198,7 @@ near_later capacity opening h k (more, is) near =
 
 -- a look at one shard leaves what was right
 pub right_later : (marks : List Bool) (old new : Sight) (shard : ℕ) → LooksAt old new shard → AreRight marks old → AreRight marks new
-right_later marks old new shard looks right = λ other is. go other (right other is) (other == shard) refl
+right_later marks old new shard looks right = record { each = λ other is. go other (right.each other is) (other == shard) refl }
   where
     here : IsNearlyFullAt old shard → IsNearlyFullAt new shard
     here near =
@@ -215,7 +215,7 @@ right_later marks old new shard looks right = λ other is. go other (right other
         subst (λ (z : ℕ × (Opening × List Item)). IsNearlyFull z.0 z.1.0 z.1.1) same near
 
 pub none_right : (marks : List Bool) → marks ≡ none_raised → (sight : Sight) → AreRight marks sight
-none_right marks is sight = λ shard up. absurd (low shard (subst (λ (l : List Bool). slice_get l shard ≡ Some true) is up))
+none_right marks is sight = record { each = λ shard up. absurd (low shard (subst (λ (l : List Bool). slice_get l shard ≡ Some true) is up)) }
   where
     low : (shard : ℕ) → slice_get none_raised shard ≡ Some true → ⊥
     low shard up = let none = none_there shard 16 in let one : raised (slice_get none_raised shard) ≡ 1 = ap raised up in absurd (omega (arith, none, one))
@@ -223,10 +223,12 @@ none_right marks is sight = λ shard up. absurd (low shard (subst (λ (l : List 
 -- a shard more was marked, which is nearly full
 pub right_more : (marks marks' : List Bool) (sight : Sight) (shard : ℕ) → AreRight marks sight → IsNearlyFullAt sight shard
     → ((other : ℕ) → slice_get marks' other ≡ Some true → (other ≡ shard) ⊎ (slice_get marks other ≡ Some true)) → AreRight marks' sight
-right_more marks marks' sight shard right near which = λ other is. elim (which other is) as (λ _. IsNearlyFullAt sight other) [
-  | inl e ↦ subst (λ n. IsNearlyFullAt sight n) (sym e) near
-  | inr was ↦ right other was
-]
+right_more marks marks' sight shard right near which = record {
+  each = λ other is. elim (which other is) as (λ _. IsNearlyFullAt sight other) [
+    | inl e ↦ subst (λ n. IsNearlyFullAt sight n) (sym e) near
+    | inr was ↦ right.each other was
+  ];
+}
 
 pub right_more_in : {F : Type 0} (capacity : ℕ) (parts : List (Left F)) (marks marks' : List Bool) (shard : ℕ) → AreRightIn capacity parts marks → IsNearlyFullIn capacity (slice_get parts shard)
     → ((other : ℕ) → slice_get marks' other ≡ Some true → (other ≡ shard) ⊎ (slice_get marks other ≡ Some true)) → AreRightIn capacity parts marks'
@@ -266,7 +268,7 @@ module _ {F : Type 0} (files : F → Option Files) (faults : F → ℕ) (host : 
   right_in marks many wide right = λ shard is.
       let below : shard < length marks = slice_get_within marks shard true is in
       let there = part_there pass.seats parts shard seen (omega (arith, below, many, wide)) in
-      near_in shard there.0 there.1 (right shard is)
+      near_in shard there.0 there.1 (right.each shard is)
 
 -- a host leaves a part of each of its shards
 pub parts_many : {F : Type 0} (files : F → Option Files) (faults : F → ℕ) (bases : List (Book (InMemory F))) (parts : List (Left F)) (folders : List F)

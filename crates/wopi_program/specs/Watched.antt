@@ -37,8 +37,8 @@ pub record TellsOf {K : Type 0} (held : K → Option (List ℕ)) (count : K → 
   pub many : length marks' ≡ length marks
 
 -- each marked shard was nearly full when it was seen
-abbrev pub AreRight : List Bool → Sight → Type 0
-AreRight marks sight = (shard : ℕ) → slice_get marks shard ≡ Some true → IsNearlyFullAt sight shard
+pub record AreRight (marks : List Bool) (sight : Sight) : Type 0 where
+  pub each : (shard : ℕ) → slice_get marks shard ≡ Some true → IsNearlyFullAt sight shard
 
 module _ {F : Type 0} (capacity : ℕ) (parts : List (Left F)) where
   -- each marked shard is nearly full at the end

@@ -6,10 +6,10 @@ use Rattle.wopi_program.proofs.ServeLemmas.{worked_still}
 use Rattle.wopi_program.proofs.WatchLemmas.{all_told, parts_many, tells_both}
 use Rattle.wopi_program.proofs.serving.serve_opened.Goals as goal
 
-pub tell_rest-requires-clause-right : goal.tell_rest-requires-clause-right
-tell_rest-requires-clause-right g c =
+pub tell_rest-requires : goal.tell_rest-requires
+tell_rest-requires g c =
     let worked = c.serve_host-worked in
-    subst (λ n. AreRightIn n worked.result.journal.parts worked.result.marks) (sym c.requires.capacity) worked.ensures.right
+    record { right = subst (λ n. AreRightIn n worked.result.journal.parts worked.result.marks) (sym c.requires.capacity) worked.ensures.right }
 
 pub returns-clause-runs : goal.returns-clause-runs
 returns-clause-runs g c =
