@@ -3,8 +3,9 @@ ghost use Rattle.std.specs.Prelude.{◌≡◌, ◌≢◌, ◌≤◌, ◌<◌, �
 ghost use Rattle.outside.specs.Folder.{Keeps};
 ghost use Rattle.outside.specs.Faults.{Rose};
 ghost use Rattle.wopi_model.specs.Moment.{IsMoment};
-ghost use Rattle.wopi_model.specs.Host.{FullAt};
-ghost use Rattle.wopi_model.specs.Shard.{last_from, stamps, entries, opening_file, AreNames};
+ghost use Rattle.wopi_model.specs.Begin.{new_life};
+ghost use Rattle.wopi_model.specs.Host.{FullFrom};
+ghost use Rattle.wopi_model.specs.Shard.{Opening, last_from, stamps, entries, AreNames};
 ghost use Rattle.host_core.specs.Whole.{standing_at};
 ghost use Rattle.kept_locks.specs.Locks.{unlocked};
 ghost use Rattle.host_core.specs.Stock.{IsStock};
@@ -77,33 +78,32 @@ impl<F: Store> Shard<F> {
     ghost use Rattle.host_core.specs.View.{IsViewOf};
 
     /// Opens a shard over a folder: its files whose names are file names, of shard `only` where a number is
-    /// given, each at version `first` and unlocked. Other names are left alone. A refusal hands the folder back.
+    /// given, each at version `first` and unlocked. Other names are left alone. There are `ids` places for held locks
+    /// and for ids that are refused, and a store that keeps all its entries takes as many of them. A refusal hands the
+    /// folder back.
     pub fn start(
         alloc: Global,
         folder: F,
         only: Option<u8>,
-        capacity: u32,
+        ids: u32,
         opened: u64,
         first: u64,
     ) -> Result<Shard<F>, (F, StartFault)>
-        requires capacity { (1 ≤ capacity) × (capacity ≤ 32768) }
+        requires ids { 1 ≤ ids }
         requires only { IfSome only (λ number. number < 16) }
         requires opened { IsMoment opened }
         requires first { IsFirstVersion first }
         ensures opened { IfOk result (λ shard. shard ≡ record {
           only = only;
-          opening = shard.opening;
-          opened = opened;
-          first = first;
-          capacity = capacity;
+          begin = shard.begin;
+          limits = record { calls = F.bound ids; ids = ids };
           made = [];
           time = opened;
           ticked = false;
           start = folder;
           folder = shard.folder;
         }) }
-        ensures opening { IfOk result (λ shard. IsOpening only (F.files folder) shard.opening) }
-        ensures fits { IfOk result (λ shard. Fits shard.opening) }
+        ensures opening { IfOk result (λ shard. (opening : Opening) × (shard.begin ≡ new_life opening opened first) × IsOpening only (F.files folder) opening × Fits opening) }
         ensures same { IfOk result (λ shard. Keeps (F.files folder) (F.files shard.folder)) }
         ensures never_falls { IfOk result (λ shard. F.faults folder ≤ F.faults shard.folder) }
         ensures lawful { IfOk result (λ shard. IsLawful shard (F.files shard.start) (F.files shard.folder) (F.faults shard.start) (F.faults shard.folder)) }
@@ -118,14 +118,14 @@ impl<F: Store> Shard<F> {
             Ok(stock) => stock,
             Err(fault) => return Err((folder, fault)),
         };
-        match folder.open(alloc, &stock.files, capacity) {
+        match folder.open(alloc, &stock.files, opened, first, ids) {
             Ok(()) => {}
             Err(_) => return Err((folder, StartFault::Memory)),
         }
-        match take_room(alloc, stock.files.len(), capacity) {
+        match take_room(alloc, stock.files.len(), ids) {
             Ok(locks) => {
                 let shard = Shard::assemble(
-                    alloc, folder, only, start, stock, locks, capacity, opened, first,
+                    alloc, folder, only, start, stock, locks, ids, opened, first,
                 );
                 return Ok(shard);
             }
@@ -161,11 +161,11 @@ impl<F: Store> Shard<F> {
           time = max self.old.time moment;
           folder = self.new.folder;
         }) }
-        ensures stamp { IfOk result (λ step. step.0 ≡ max (last_from 0 (stamps (entries (history_of self.old.made self.old.time)))) floor + 1) }
+        ensures stamp { IfOk result (λ step. step.0 ≡ max (last_from self.old.begin.last (stamps (entries (history_of self.old.made self.old.time)))) floor + 1) }
         ensures back { IfOk result (λ step. step.2 ≡ back_of call.act step.1) }
-        ensures room { OnOk result (FullAt self.old.opening self.old.opened self.old.first self.old.capacity (history_of self.old.made self.old.time) floor call moment → ⊥) }
+        ensures room { OnOk result (FullFrom self.old.limits self.old.begin (history_of self.old.made self.old.time) floor call moment → ⊥) }
         ensures full { IfErr result (λ fault. IsFullFault fault
-            → FullAt self.old.opening self.old.opened self.old.first self.old.capacity (history_of self.old.made self.old.time) floor call moment) }
+            → FullFrom self.old.limits self.old.begin (history_of self.old.made self.old.time) floor call moment) }
         ensures err { OnErr result (self.new ≡ record self.old { folder = self.new.folder }) }
         ensures call { IfErr result (λ fault. handed_back fault ≡ call) }
         ensures light { IfErr result (λ fault. is_lock_act call.act ≡ true → IsFullFault fault) }
@@ -203,11 +203,11 @@ impl<F: Store> Shard<F> {
           time = max self.old.time moment;
           folder = self.new.folder;
         }) }
-        ensures stamp { IfOk result (λ stamp. stamp ≡ max (last_from 0 (stamps (entries (history_of self.old.made self.old.time)))) floor + 1) }
+        ensures stamp { IfOk result (λ stamp. stamp ≡ max (last_from self.old.begin.last (stamps (entries (history_of self.old.made self.old.time)))) floor + 1) }
         ensures back { OnOk result (carried.new.back ≡ back_of call.old.act carried.new.ruling) }
-        ensures room { OnOk result (FullAt self.old.opening self.old.opened self.old.first self.old.capacity (history_of self.old.made self.old.time) floor call.old moment → ⊥) }
+        ensures room { OnOk result (FullFrom self.old.limits self.old.begin (history_of self.old.made self.old.time) floor call.old moment → ⊥) }
         ensures full { IfErr result (λ why. why ≡ StoreRefusal.Full
-            → FullAt self.old.opening self.old.opened self.old.first self.old.capacity (history_of self.old.made self.old.time) floor call.old moment) }
+            → FullFrom self.old.limits self.old.begin (history_of self.old.made self.old.time) floor call.old moment) }
         ensures err { OnErr result (self.new ≡ record self.old { folder = self.new.folder }) }
         ensures call { OnErr result (call.new ≡ call.old) }
         ensures light { IfErr result (λ why. is_lock_act call.old.act ≡ true → why ≡ StoreRefusal.Full) }
@@ -262,8 +262,8 @@ impl<F: Store> Shard<F> {
 
     /// A file as it stands, where its name was met: where it has a version from `first` on.
     pub fn file(&self, name: &FileName) -> Option<FileView<'_>>
-        ensures met { IsSome result ↔ (self.now.first ≤ ((state_of self.now.opening self.now.opened self.now.first self.now.made self.now.time).files name.now).version) }
-        ensures view { IfSome result (λ view. IsViewOf view ((state_of self.now.opening self.now.opened self.now.first self.now.made self.now.time).files name.now) (is_torn self.now.made name.now)) }
+        ensures met { IsSome result ↔ (self.now.begin.first ≤ ((state_of self.now.begin self.now.made self.now.time).files name.now).version) }
+        ensures view { IfSome result (λ view. IsViewOf view ((state_of self.now.begin self.now.made self.now.time).files name.now) (is_torn self.now.made name.now)) }
     {
         match self.ledger.rack.index.find(name) {
             None => None,
@@ -281,7 +281,7 @@ impl<F: Store> Shard<F> {
 
     /// The names that were met, in the order of their bytes.
     pub fn names(&self) -> Result<NameList, Memory>
-        ensures { IfOk result (AreNames (state_of self.now.opening self.now.opened self.now.first self.now.made self.now.time)) }
+        ensures { IfOk result (AreNames (state_of self.now.begin self.now.made self.now.time)) }
     {
         match names_of(
             self.ledger.alloc,
@@ -296,7 +296,7 @@ impl<F: Store> Shard<F> {
     /// The files that exist, in the order of their names' bytes. It walks the index of names, and looks at no entry and
     /// no contents.
     pub fn children(&self) -> Result<Children, Memory>
-        ensures { IfOk result (AreChildren (state_of self.now.opening self.now.opened self.now.first self.now.made self.now.time).files) }
+        ensures { IfOk result (AreChildren (state_of self.now.begin self.now.made self.now.time).files) }
     {
         match children_of(
             self.ledger.alloc,
@@ -316,31 +316,28 @@ impl<F: Store> Shard<F> {
         start: Snapshot<F>,
         stock: Stock,
         locks: KeptLocks,
-        capacity: u32,
+        ids: u32,
         opened: u64,
         first: u64,
     ) -> Shard<F>
         requires moment { IsMoment opened }
         requires first { IsFirstVersion first }
-        requires capacity { capacity ≤ 32768 }
         requires stock { IsStock first stock }
         requires none { (number : ℕ) → standing_at locks.files number ≡ unlocked }
         requires as_of { AreAsOf 0 locks }
         requires long { length stock.files.items ≤ length locks.files }
-        requires spare { capacity ≤ locks.spare }
-        requires slots { capacity ≤ (F.notes folder).most }
+        requires room { ids < locks.room }
+        requires calls { (F.notes folder).calls ≡ F.bound ids }
         requires made { (F.notes folder).made ≡ [] }
         requires ended { (F.notes folder).begun ≡ None }
-        requires listed { (F.notes folder).opening ≡ opening_listed stock.files.items }
+        requires listed { (F.notes folder).begin ≡ new_life (opening_listed stock.files.items) opened first }
         requires opening { IsOpening only (F.files start.value) (opening_listed stock.files.items) }
         requires same { Keeps (F.files start.value) (F.files folder) }
         requires faults { F.faults start.value ≤ F.faults folder }
         ensures value { result ≡ record {
           only = only;
-          opening = opening_listed stock.files.items;
-          opened = opened;
-          first = first;
-          capacity = capacity;
+          begin = new_life (opening_listed stock.files.items) opened first;
+          limits = record { calls = F.bound ids; ids = ids };
           made = [];
           time = opened;
           ticked = false;
@@ -355,10 +352,10 @@ impl<F: Store> Shard<F> {
                 alloc,
                 opened,
                 first,
-                capacity,
+                ids,
                 time: opened,
                 last: 0,
-                bytes: stock.bytes,
+                live: stock.bytes,
                 rack: Rack {
                     files: stock.files,
                     index: stock.index,
@@ -372,9 +369,9 @@ impl<F: Store> Shard<F> {
         }
     }
 
-    /// The last stamp, or 0.
+    /// The last stamp, or the last one before the beginning.
     pub fn last(&self) -> u64
-        ensures { result ≡ last_from 0 (stamps (entries (history_of self.now.made self.now.time))) }
+        ensures { result ≡ last_from self.now.begin.last (stamps (entries (history_of self.now.made self.now.time))) }
     {
         self.ledger.last
     }
@@ -383,7 +380,7 @@ impl<F: Store> Shard<F> {
     pub fn end(self) -> (F, Snapshot<F>)
         ensures folder { result.0 ≡ self.folder }
         ensures start { result.1.value ≡ self.start }
-        ensures opening { (F.notes result.0).opening ≡ self.opening }
+        ensures begin { (F.notes result.0).begin ≡ self.begin }
         ensures made { (F.notes result.0).made ≡ self.made }
         ensures lawful { IsLawful self (F.files self.start) (F.files self.folder) (F.faults self.start) (F.faults self.folder) }
     {

@@ -1,12 +1,15 @@
 -- A host and its passes, as contracts see them. (Own.)
 use Rattle.std.specs.Prelude.{◌≤◌, ◌≡◌, ⊤, ℕ, ◌+◌, ◌-◌, ◌/◌, max, ltb, false, List, [], ◌∷◌, ◌++◌, length, map, Option, None, Some, slice_get, if◌then◌else◌}
-use Rattle.std.specs.List.{AllByRecursion, Contains}
+use Rattle.std.specs.List.{AllByRecursion, Contains, IsDistinct}
 use Rattle.atomic_table.specs.Seated.{TableId}
 use Rattle.turn_lock.specs.Seats.{SeatValue}
 use Rattle.wopi_text.specs.FileName.{shard_of}
 use Rattle.wopi_model.specs.Moment.{IsMoment}
-use Rattle.wopi_model.specs.Shard.{Opening, Item, Entry, RisesFrom, entries, stamps}
-use Rattle.host_core.specs.Opening.{IsByName, IsFirstVersion, MayKeep}
+use Rattle.std.specs.Str.{bytes_eq}
+use Rattle.wopi_model.specs.Begin.{Begin, new_life}
+use Rattle.wopi_model.specs.Host.{Limits}
+use Rattle.wopi_model.specs.Shard.{Item, Entry, RisesFrom, entries, stamps}
+use Rattle.host_core.specs.Opening.{IsFirstVersion, MayKeep}
 use Rattle.host_core.specs.Entries.{Made}
 use Rattle.host_core.specs.Caller.{Sight}
 use Rattle.host_core.specs.Value.{Book}
@@ -17,25 +20,19 @@ use Rattle.host_table.specs.Histories.{last_stamp, AreNamed, IsSeen}
 abbrev pub Place : Type 0 → Type 0
 Place F = SeatValue Made (Book F)
 
--- The pass's number, its last stamp, its weight, when its host opened, the version of the files that it began with, the
--- capacity of a shard, and its seats by shard.
+-- The pass's number, its last stamp, its weight, when a shard of its host is full, and its seats by shard.
 pub record PassView (F : Type 0) : Type 0 where
   pub number : ℕ
   pub last : ℕ
   pub weight : ℕ
-  pub opened : ℕ
-  pub first : ℕ
-  pub capacity : ℕ
+  pub limits : Limits
   pub seats : List (Place F)
 
--- The locks and the shards as they were opened, by number; when the host opened, the version of the files that it began
--- with, the capacity of a shard, and how many passes were made.
+-- The locks and the shards as they were opened, by number; when a shard is full, and how many passes were made.
 pub record HostView (F : Type 0) : Type 0 where
   pub locks : List TableId
   pub bases : List (Book F)
-  pub opened : ℕ
-  pub first : ℕ
-  pub capacity : ℕ
+  pub limits : Limits
   pub made : ℕ
 
 -- an entry of the pass's own, with its shard and its place
@@ -89,10 +86,15 @@ module _ {F : Type 0} where
   abbrev pub own_of : PassView F → List Own
   own_of pass = by_stamp (owned_from 0 pass.seats)
 
-  -- the greatest stamp that was seen in any shard, or 0
+  -- a seat with no base sees a shard that begins with nothing
+  abbrev pub begin_seen : Option (Book F) → Begin
+  begin_seen None = new_life [] 0 1
+  begin_seen (Some base) = base.begin
+
+  -- the greatest stamp of any shard: of those that were seen, and of those before the beginnings
   abbrev pub top : List (Place F) → ℕ
   top [] = 0
-  top (seat ∷ seats) = max (last_stamp seat.seen) (top seats)
+  top (seat ∷ seats) = max (last_stamp (begin_seen seat.base).last seat.seen) (top seats)
 
   abbrev pub locks_of : PassView F → List TableId
   locks_of pass = map lock_of pass.seats
@@ -106,13 +108,9 @@ module _ {F : Type 0} where
   seen_at None = []
   seen_at (Some seat) = untimed seat.seen
 
-  abbrev pub opening_seen : Option (Book F) → Opening
-  opening_seen None = []
-  opening_seen (Some base) = base.opening
-
-  abbrev pub opening_at : Option (Place F) → Opening
-  opening_at None = []
-  opening_at (Some seat) = opening_seen seat.base
+  abbrev pub begin_at_seat : Option (Place F) → Begin
+  begin_at_seat None = begin_seen None
+  begin_at_seat (Some seat) = begin_seen seat.base
 
   -- what a pass has seen, as of any caller
   abbrev pub sight_of : PassView F → Sight
@@ -120,42 +118,41 @@ module _ {F : Type 0} where
     own = map (λ one. one.entry) (own_of pass);
     pass = pass.number;
     floor = pass.last;
-    capacity = pass.capacity;
-    opened = pass.opened;
-    first = pass.first;
+    limits = pass.limits;
     ticked = false;
     home = shard_of;
-    openings = λ shard. opening_at (slice_get pass.seats shard);
+    begins = λ shard. begin_at_seat (slice_get pass.seats shard);
     seen = λ shard. seen_at (slice_get pass.seats shard);
   }
 
   -- the shard of that number, as it was opened
-  pub record IsBase (opened first capacity shard : ℕ) (base : Book F) : Type 0 where
+  pub record IsBase (limits : Limits) (shard : ℕ) (base : Book F) : Type 0 where
     pub only : base.only ≡ Some shard
-    pub opened_is : base.opened ≡ opened
-    pub first_is : base.first ≡ first
-    pub capacity_is : base.capacity ≡ capacity
+    pub opened_is : IsMoment base.begin.opened
+    pub now_is : IsMoment base.begin.now
+    pub first_is : IsFirstVersion base.begin.first
+    pub limits_is : base.limits ≡ limits
     pub unticked : base.ticked ≡ false
-    pub ordered : IsByName base.opening
-    pub names : AllByRecursion (λ file. MayKeep base.only file.0) base.opening
+    pub once : IsDistinct bytes_eq (map (λ file. file.0) base.begin.files)
+    pub names : AllByRecursion (λ file. MayKeep base.only file.0) base.begin.files
 
-  abbrev pub AreBases : ℕ → ℕ → ℕ → ℕ → List (Book F) → Type 0
-  AreBases opened first capacity shard [] = ⊤
-  AreBases opened first capacity shard (base ∷ bases) = IsBase opened first capacity shard base × AreBases opened first capacity (shard + 1) bases
+  abbrev pub AreBases : Limits → ℕ → List (Book F) → Type 0
+  AreBases limits shard [] = ⊤
+  AreBases limits shard (base ∷ bases) = IsBase limits shard base × AreBases limits (shard + 1) bases
 
   -- what a pass keeps of its seat at the shard of that number
-  pub record IsSeat (number weight opened first capacity shard : ℕ) (seat : Place F) : Type 0 where
+  pub record IsSeat (number weight : ℕ) (limits : Limits) (shard : ℕ) (seat : Place F) : Type 0 where
     pub free : seat.taken ≡ None
     pub weight_is : seat.weight ≡ weight
     pub base : Book F
     pub based : seat.base ≡ Some base
-    pub is_base : IsBase opened first capacity shard base
+    pub is_base : IsBase limits shard base
     pub seen : IsSeen base seat.seen
     pub owns : Owns number seat.seen seat.own
 
-  abbrev pub AreSeats : ℕ → ℕ → ℕ → ℕ → ℕ → ℕ → List (Place F) → Type 0
-  AreSeats number weight opened first capacity shard [] = ⊤
-  AreSeats number weight opened first capacity shard (seat ∷ seats) = IsSeat number weight opened first capacity shard seat × AreSeats number weight opened first capacity (shard + 1) seats
+  abbrev pub AreSeats : ℕ → ℕ → Limits → ℕ → List (Place F) → Type 0
+  AreSeats number weight limits shard [] = ⊤
+  AreSeats number weight limits shard (seat ∷ seats) = IsSeat number weight limits shard seat × AreSeats number weight limits (shard + 1) seats
 
   -- a pass that is split off, and what is left of the old one
   abbrev pub given_half : Place F → Place F
@@ -181,7 +178,7 @@ module _ {F : Type 0} where
 
   -- what holds of every pass
   pub record IsPass (pass : PassView F) : Type 0 where
-    pub seats : AreSeats pass.number pass.weight pass.opened pass.first pass.capacity 0 pass.seats
+    pub seats : AreSeats pass.number pass.weight pass.limits 0 pass.seats
     pub last_is : pass.last ≡ top pass.seats
     pub wide : length pass.seats ≡ 16
     pub rises : RisesFrom 0 (map stamp_of (own_of pass))
@@ -196,17 +193,12 @@ module _ {F : Type 0} where
   pub record IsSamePass (old new : PassView F) : Type 0 where
     pub number : new.number ≡ old.number
     pub weight : new.weight ≡ old.weight
-    pub opened_is : new.opened ≡ old.opened
-    pub first_is : new.first ≡ old.first
-    pub capacity_is : new.capacity ≡ old.capacity
+    pub limits_is : new.limits ≡ old.limits
     pub locks : locks_of new ≡ locks_of old
     pub bases : map base_of new.seats ≡ map base_of old.seats
 
   -- what holds of every host
   pub record IsHost (host : HostView F) : Type 0 where
-    pub bases : AreBases host.opened host.first host.capacity 0 host.bases
+    pub bases : AreBases host.limits 0 host.bases
     pub wide : length host.locks ≡ 16
     pub many : length host.bases ≡ 16
-    pub small : host.capacity ≤ 32768
-    pub opened_is : IsMoment host.opened
-    pub first_is : IsFirstVersion host.first
