@@ -28,7 +28,7 @@ use Rattle.wopi_model.proofs.Living.{begun-at, begun-left}
 -- ---- sums over the files of a beginning
 
 -- the sum changes by what stood under the name and what stands there now
-sum-put : (f : File → ℕ) (other : File) → f other ≡ 0 → (name : List ℕ) (it : File) (files : List (List ℕ × File)) →
+pub sum-put : (f : File → ℕ) (other : File) → f other ≡ 0 → (name : List ℕ) (it : File) (files : List (List ℕ × File)) →
     sum_by (λ one. f one.1) (put_name name it files) + f (at_name other files name) ≡ sum_by (λ one. f one.1) files + f it
 sum-put f other none name it [] =
     let sum = sum_by-cons (λ (one : List ℕ × File). f one.1) (name, it) [] in
@@ -44,7 +44,7 @@ sum-put f other none name it (one ∷ files) =
       | false ↦ omega (arith, before, kept, rest)
     ]
 
-sum-map : (f : File → ℕ) (g : File → File) → ((file : File) → f (g file) ≤ f file) → (files : List (List ℕ × File)) →
+pub sum-map : (f : File → ℕ) (g : File → File) → ((file : File) → f (g file) ≤ f file) → (files : List (List ℕ × File)) →
     sum_by (λ (one : List ℕ × File). f one.1) (map (λ (one : List ℕ × File). (one.0, g one.1)) files) ≤ sum_by (λ (one : List ℕ × File). f one.1) files
 sum-map f g less [] = omega arith
 sum-map f g less (one ∷ files) =
@@ -95,7 +95,7 @@ stepped_bytes file call opened now ruling (inr fault) =
 abbrev bytes_in : File → ℕ
 bytes_in file = bytes_of file.contents
 
-settled-bytes : (files : List (List ℕ × File)) (now : ℕ) → live_bytes (map (λ one. (one.0, settled one.1 now)) files) ≤ live_bytes files
+pub settled-bytes : (files : List (List ℕ × File)) (now : ℕ) → live_bytes (map (λ one. (one.0, settled one.1 now)) files) ≤ live_bytes files
 settled-bytes files now = sum-map bytes_in (λ file. settled file now) (λ file. omega arith) files
 
 abbrev brings : Entry → ℕ
@@ -112,7 +112,7 @@ entry-bytes at entry allowed =
     let step = stepped_bytes file entry.call at.opened at.now entry.ruling allowed in
     omega (arith, put, step)
 
-live-most : (begin : Begin) (history : List Item) → Along IsAllowed (begun begin) history →
+pub live-most : (begin : Begin) (history : List Item) → Along IsAllowed (begun begin) history →
     live_bytes (left_of begin history).files ≤ live_bytes begin.files + sum_by brings (entries history)
 live-most begin [] along = omega arith
 live-most begin (Tick moment ∷ items) along =
@@ -131,7 +131,7 @@ live-most begin (Step entry ∷ items) along =
     let sum = sum_by-cons brings entry (entries items) in
     omega (arith, rest, settles, step, sum)
 
-opening-bytes : (opening : Opening) (first : ℕ) → live_bytes (map (λ file. (file.0, opened_with first file.1)) opening) ≡ sum_by (λ file. length file.1) opening
+pub opening-bytes : (opening : Opening) (first : ℕ) → live_bytes (map (λ file. (file.0, opened_with first file.1)) opening) ≡ sum_by (λ file. length file.1) opening
 opening-bytes [] first = refl
 opening-bytes (file ∷ opening) first =
     let rest = opening-bytes opening first in
@@ -150,7 +150,7 @@ filter-less p (x ∷ xs) =
       | false ↦ omega (arith, rest)
     ]
 
-settled-ids : (file : File) (now : ℕ) → ids_of (settled file now) ≤ ids_of file
+pub settled-ids : (file : File) (now : ℕ) → ids_of (settled file now) ≤ ids_of file
 settled-ids file now = by_lock file.lock
   where
     by_lock : (lock : Option Lock) → lock_places (standing lock now) + length (still_spent (with_spent (expired lock now) file.spent) now) ≤ lock_places lock + length file.spent
@@ -164,7 +164,7 @@ settled-ids file now = by_lock file.lock
           | false ↦ omega (arith, less)
         ]
 
-accepted_ids : (lock : Option Lock) (asked : LockAct) (spent : List Spent) (expires now : ℕ) →
+pub accepted_ids : (lock : Option Lock) (asked : LockAct) (spent : List Spent) (expires now : ℕ) →
     lock_places (lock_after lock asked expires now) + length (with_spent (spent_by lock asked expires) spent) ≤ lock_places lock + length spent + 1
 accepted_ids None asks.Look spent expires now = omega arith
 accepted_ids None (asks.Put id empty) spent expires now = omega arith
@@ -202,10 +202,10 @@ stepped_ids file call opened now ruling =
     cond_both (ruling.status == 500) file (file_of (decision file call opened now) file call now) (λ (f : File). ids_of f ≤ ids_of file + 1)
     (λ e. omega arith) (λ e. decided_ids (decision file call opened now) file call now)
 
-all-settled-ids : (files : List (List ℕ × File)) (now : ℕ) → live_ids (map (λ one. (one.0, settled one.1 now)) files) ≤ live_ids files
+pub all-settled-ids : (files : List (List ℕ × File)) (now : ℕ) → live_ids (map (λ one. (one.0, settled one.1 now)) files) ≤ live_ids files
 all-settled-ids files now = sum-map ids_of (λ file. settled file now) (λ file. settled-ids file now) files
 
-entry-ids : (at : Begin) (entry : Entry) → live_ids (begin_after at entry).files ≤ live_ids at.files + 1
+pub entry-ids : (at : Begin) (entry : Entry) → live_ids (begin_after at entry).files ≤ live_ids at.files + 1
 entry-ids at entry =
     let file = file_in at entry.call.name in
     let put = sum-put ids_of (never_met at.first) refl entry.call.name (after_step file entry.call at.opened at.now entry.ruling) at.files in
@@ -213,7 +213,7 @@ entry-ids at entry =
     omega (arith, put, step)
 
 -- each entry takes a place at most
-ids-most : (begin : Begin) (history : List Item) → live_ids (left_of begin history).files ≤ live_ids begin.files + length (entries history)
+pub ids-most : (begin : Begin) (history : List Item) → live_ids (left_of begin history).files ≤ live_ids begin.files + length (entries history)
 ids-most begin [] = omega arith
 ids-most begin (Tick moment ∷ items) =
     let rest = ids-most (begin_at begin moment) items in
@@ -225,7 +225,7 @@ ids-most begin (Step entry ∷ items) =
     let step = entry-ids (begin_at begin entry.moment) entry in
     omega (arith, rest, settles, step)
 
-opening-ids : (opening : Opening) (first : ℕ) → live_ids (map (λ file. (file.0, opened_with first file.1)) opening) ≡ 0
+pub opening-ids : (opening : Opening) (first : ℕ) → live_ids (map (λ file. (file.0, opened_with first file.1)) opening) ≡ 0
 opening-ids [] first = refl
 opening-ids (file ∷ opening) first =
     let rest = opening-ids opening first in
@@ -234,7 +234,7 @@ opening-ids (file ∷ opening) first =
 
 -- ---- both ways to say when a shard is full
 
-after-opened : (shard : Shard) (items : List Item) → (after shard items).opened ≡ shard.opened
+pub after-opened : (shard : Shard) (items : List Item) → (after shard items).opened ≡ shard.opened
 after-opened shard [] = refl
 after-opened shard (Tick moment ∷ items) = after-opened (happens shard (Tick moment)) items
 after-opened shard (Step entry ∷ items) = after-opened (happens shard (Step entry)) items

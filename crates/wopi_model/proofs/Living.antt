@@ -1,5 +1,5 @@
 -- Lives, part by part.
-use Rattle.std.proofs.Common.{◌≡◌, ◌↔◌, ℕ, max, Bool, true, false, cond, List, [], ◌∷◌, ◌++◌, refl, ap, sym, ◌∙◌, subst}
+use Rattle.std.proofs.Common.{◌≡◌, ◌↔◌, ℕ, max, Bool, true, false, cond, List, [], ◌∷◌, ◌++◌, ◌≤◌, refl, ap, sym, ◌∙◌, subst, arith}
 use Rattle.std.proofs.lemmas.List.{map-append}
 use Rattle.std.specs.Prelude.{map}
 use Rattle.std.proofs.lemmas.Slice.Eq.{bytes_eq-Decides}
@@ -10,6 +10,7 @@ use Rattle.wopi_model.specs.Step.{after_step}
 use Rattle.wopi_model.specs.Begin.{Begin, at_name, put_name}
 use Rattle.wopi_model.specs.Lives.{IsLeftBy, begin_after, begin_at, begin_happens, left_of}
 use Rattle.wopi_model.specs.Shard.{Shard, Item, Tick, Step, Entry, LegalFrom, IsAllowed, Along, RisesFrom, last_from, begun, at_moment, after_entry, happens, after, entries, stamps}
+use Rattle.wopi_model.proofs.Settling.{settled-settled}
 use Rattle.wopi_model.proofs.Histories.{after-append, Along-append, entries-append}
 
 -- ---- one part behind another
@@ -132,6 +133,32 @@ last-left : (begin : Begin) (history : List Item) → (left_of begin history).la
 last-left begin [] = refl
 last-left begin (Tick moment ∷ items) = last-left (begin_at begin moment) items
 last-left begin (Step entry ∷ items) = last-left (begin_after (begin_at begin entry.moment) entry) items
+
+-- what one part leaves goes on with the other
+pub left-append : (begin : Begin) (history more : List Item) → left_of begin (history ++ more) ≡ left_of (left_of begin history) more
+left-append begin [] more = refl
+left-append begin (item ∷ history) more = left-append (begin_happens begin item) history more
+
+abbrev all_settled : ℕ → List (List ℕ × File) → List (List ℕ × File)
+all_settled now files = map (λ one. (one.0, settled one.1 now)) files
+
+settled_files : (files : List (List ℕ × File)) (early late : ℕ) → early ≤ late →
+    all_settled late (all_settled early files) ≡ all_settled late files
+settled_files [] early late le = refl
+settled_files (one ∷ files) early late le =
+    let here = settled-settled one.1 early late le in
+    let rest = settled_files files early late le in
+    λ i. (one.0, here i) ∷ rest i
+
+-- two moments, one after the other, are the later one
+pub begin_at-begin_at : (begin : Begin) (early late : ℕ) → begin_at (begin_at begin early) late ≡ begin_at begin (max early late)
+begin_at-begin_at begin early late =
+    let time : max (max begin.now early) late ≡ max begin.now (max early late) = omega arith in
+    let le : max begin.now early ≤ max (max begin.now early) late = omega arith in
+    let twice = settled_files begin.files (max begin.now early) (max (max begin.now early) late) le in
+    let files : all_settled (max (max begin.now early) late) (all_settled (max begin.now early) begin.files) ≡ all_settled (max begin.now (max early late)) begin.files =
+    twice ∙ ap (λ (n : ℕ). all_settled n begin.files) time in
+    λ i. record { opened = begin.opened; first = begin.first; now = time i; last = begin.last; files = files i }
 
 pub leaves : (begin : Begin) (history : List Item) → IsLeftBy begin history (left_of begin history)
 leaves begin history = record { shard = begun-left begin history; last = last-left begin history }
