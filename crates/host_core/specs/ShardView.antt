@@ -1,14 +1,13 @@
 -- A shard as the definitions see it.
-use Rattle.std.specs.Prelude.{◌≡◌, ◌≤◌, ◌+◌, ℕ, Option, None, Some, List, map, length, option_map}
+use Rattle.std.specs.Prelude.{List, map, Some, option_map}
 use Rattle.wopi_model.specs.Begin.{new_life}
+use Rattle.wopi_model.specs.Host.{kept_limits}
 use Rattle.wopi_model.specs.Shard.{Opening}
 use Rattle.host_core.specs.declared.shard.Shard.TheInside.{Inside}
 use Rattle.host_core.specs.declared.past.Past.TheInside as past
 use Rattle.host_core.specs.declared.kept.Kept.TheInside as store
 use Rattle.host_core.specs.declared.kept.OpeningFile.{OpeningFile}
-use Rattle.host_core.specs.declared.kept.Saved.{Saved}
-use Rattle.wopi_model.specs.Host.{most_kept}
-use Rattle.host_core.specs.Notes.{Notes, noted_bytes}
+use Rattle.host_core.specs.Notes.{Notes}
 use Rattle.host_core.specs.Value.{Book, Left, InMemory}
 
 -- the history is what the store noted
@@ -16,7 +15,7 @@ abbrev pub book_of : {F : Type 0} → Notes → Inside F → Book F
 book_of notes s = record {
   only = s.only.value;
   begin = notes.begin;
-  limits = record { calls = notes.calls; ids = s.ledger.ids };
+  limits = kept_limits s.ledger.capacity;
   made = notes.made;
   time = s.ledger.time;
   ticked = s.ticked.value;
@@ -39,16 +38,6 @@ kept_of k = record {
     made = k.entries.made;
     begun = k.entries.begun;
     saved = option_map (λ one. (Some one.version, one.contents)) k.saved;
-    calls = Some k.calls;
+    most = k.entries.most;
   };
 }
-
-abbrev pub saved_bytes : Option Saved → ℕ
-saved_bytes None = 0
-saved_bytes (Some one) = length one.contents
-
--- the bytes are counted, there is room for those that were saved, and the entries have room for so many
-pub record IsCounted {F : Type 0} (k : store.Inside F) : Type 0 where
-  pub bytes : k.bytes ≡ noted_bytes (kept_of k).notes
-  pub saved : k.bytes + saved_bytes k.saved ≤ most_kept
-  pub room : k.calls ≤ k.entries.most

@@ -108,35 +108,27 @@ fn change_lock(locks: &mut KeptLocks, number: u32, effect: Effect, taken: Option
 }
 
 /// Ends the locks that are over, and gives a file's lock what the step makes of it, where that id is taken. Of the
-/// file's spent ids those go that are no longer refused, and of all files' where so many places are taken. It takes no
-/// memory.
-pub fn apply(
-    locks: &mut KeptLocks,
-    number: u32,
-    effect: Effect,
-    taken: Option<&LockId>,
-    now: u64,
-    ids: u32,
-)
-    requires ready { MayStep locks.old number now ids }
+/// file's spent ids those go that are no longer refused. It takes no memory.
+pub fn apply(locks: &mut KeptLocks, number: u32, effect: Effect, taken: Option<&LockId>, now: u64)
+    requires ready { MayStep locks.old number now }
     requires ends { Ends (standing_at locks.old.files number).lock (option_map (λ id. id.now) taken) effect now }
     ensures standing { standing_at locks.new.files number
         ≡ stepped (left_by effect.change (standing (standing_at locks.old.files number).lock now) (option_map (λ id. id.now) taken.entry))
         (spent_as (standing (standing_at locks.old.files number).lock now) effect.spend) now (ended_at now (standing_at locks.old.files number)) }
     ensures turns { Turns locks.old locks.new number now }
 {
-    locks.make_place(now, ids as usize + 1);
+    locks.settle(now);
     change_lock(locks, number, effect, taken, now);
 }
 
 /// Ends the locks that are over. Of the file's spent ids those go that are no longer refused. It takes
 /// no memory.
-pub fn settle_one(locks: &mut KeptLocks, number: u32, now: u64, ids: u32)
-    requires ready { MayStep locks.old number now ids }
+pub fn settle_one(locks: &mut KeptLocks, number: u32, now: u64)
+    requires ready { MayStep locks.old number now }
     requires moment { BeganAtMoment (standing_at locks.old.files number).lock }
     ensures standing { standing_at locks.new.files number ≡ stepped (standing (standing_at locks.old.files number).lock now) None now (ended_at now (standing_at locks.old.files number)) }
     ensures turns { Turns locks.old locks.new number now }
 {
     let effect = unchanged(locks, number, now);
-    apply(locks, number, effect, None, now, ids);
+    apply(locks, number, effect, None, now);
 }

@@ -1,5 +1,5 @@
 //! A store that keeps all entries in memory, with the contents that were accepted.
-ghost use Rattle.std.specs.Prelude.{◌≡◌, ◌≤◌, ◌<◌, ◌^◌, ◌++◌, ◌∷◌, [], Some, length, sum_by, option_map, slice_get, IfOk, OnOk, OnErr};
+ghost use Rattle.std.specs.Prelude.{◌≡◌, ◌≤◌, ◌++◌, ◌∷◌, [], length, option_map, slice_get, IfOk, OnOk, OnErr};
 ghost use Rattle.host_core.specs.Notes.{opening_listed};
 ghost use Rattle.host_core.specs.ShardView.{files_listed};
 ghost use Rattle.host_core.specs.Value.{IsLawful};
@@ -11,7 +11,7 @@ use crate::file::KeptFile;
 use crate::noting::Store;
 use crate::past::Past;
 use crate::shard::Shard;
-use crate::store::{MOST_KEPT, take};
+use crate::store::take;
 use outside::{Failed, Folder, FolderRead, Names, OutFault};
 use std::alloc::Global;
 use std::marker::Model;
@@ -34,8 +34,8 @@ pub struct Saved {
     pub contents: Contents,
 }
 
-/// A folder, and the opening files, the entries and the accepted contents of a shard over it, which takes so many calls.
-/// `bytes` is how many bytes the opening files have and were accepted since. What stands with a file lies
+/// A folder, and the opening files, the entries and the accepted contents of a shard over it, when that opened, and the version
+/// of its opening files. What stands with a file lies
 /// once, for it and for the entry that brought it; so do contents that were saved again. `room` is taken before a save, and
 /// written to only where there is no memory to count owners.
 #[derive(Drop)]
@@ -44,8 +44,6 @@ pub struct Kept<F: Folder> {
     opening: Vec<OpeningFile>,
     opened: u64,
     first: u64,
-    calls: u32,
-    bytes: u64,
     entries: Entries,
     saved: Option<Saved>,
     room: Vec<u8>,
@@ -59,10 +57,6 @@ impl<F: Folder> Model for Kept<F> {
     ghost use Rattle.host_core.specs.ShardView.{kept_of};
 
     ghost view = { kept_of };
-
-    ghost use Rattle.host_core.specs.ShardView.{IsCounted};
-
-    ghost invariant = { IsCounted };
 }
 
 impl<F: Folder> Kept<F> {
@@ -75,8 +69,6 @@ impl<F: Folder> Kept<F> {
             opening: Vec::new(alloc),
             opened: 0,
             first: 1,
-            calls: 0,
-            bytes: 0,
             entries: Entries::new(alloc),
             saved: None,
             room: Vec::new(alloc),
@@ -101,8 +93,6 @@ impl<F: Folder> Kept<F> {
             mut opening,
             opened: _opened,
             first: _first,
-            calls: _calls,
-            bytes: _bytes,
             entries,
             saved: _saved,
             room: _room,
@@ -151,20 +141,6 @@ fn copy_file(alloc: Global, file: &KeptFile) -> Result<OpeningFile, Memory>
     })
 }
 
-/// How many bytes the files have.
-fn size_of(files: &[KeptFile]) -> u64
-    requires { sum_by (λ file. length file.1) (opening_listed files.now) < 2 ^ 64 }
-    ensures { result ≡ sum_by (λ file. length file.1) (opening_listed files.now) }
-{
-    let mut size = 0;
-    for file in files {
-        if let Some(contents) = &file.contents {
-            size += contents.as_slice().len() as u64;
-        }
-    }
-    size
-}
-
 /// The files as they stand at the opening, whose contents they share.
 fn copy_files(alloc: Global, files: &[KeptFile]) -> Result<Vec<OpeningFile>, Memory>
     ensures { IfOk result (λ copies. files_listed copies.items ≡ opening_listed files.now) }
@@ -204,31 +180,26 @@ impl<F: Folder> Folder for Kept<F> {
 impl<F: Folder> Store for Kept<F> {
     ghost notes = { λ kept. kept.notes };
 
-    ghost bound = { λ calls. Some calls };
-
     fn open(
         &mut self,
         alloc: Global,
         opening: &Vec<KeptFile>,
         opened: u64,
         first: u64,
-        calls: u32,
+        capacity: u32,
     ) -> Result<(), Memory> {
         let copies = match copy_files(alloc, opening) {
             Ok(copies) => copies,
             Err(memory) => return Err(memory),
         };
-        let entries = match Entries::with_capacity(alloc, calls as usize) {
+        let entries = match Entries::with_capacity(alloc, capacity as usize) {
             Ok(entries) => entries,
             Err(memory) => return Err(memory),
         };
         self.opening = copies;
         self.opened = opened;
         self.first = first;
-        self.calls = calls;
-        self.bytes = size_of(opening);
         self.entries = entries;
-        self.saved = None;
         Ok(())
     }
 
@@ -269,22 +240,11 @@ impl<F: Folder> Store for Kept<F> {
 
     fn end(&mut self, ruling: &Ruling) {
         let contents = contents_of(mem::replace(&mut self.saved, None));
-        if let Some(saved) = &contents {
-            self.bytes += saved.as_slice().len() as u64;
-        }
         self.entries.end(ruling, contents);
     }
 
     fn give_up(&mut self) {
         self.entries.give_up();
-    }
-
-    fn takes_call(&self, stamp: u64) -> bool {
-        self.entries.len() < self.calls as u64 && stamp < u64::MAX
-    }
-
-    fn takes_bytes(&self, size: u64) -> bool {
-        self.bytes.saturating_add(size) <= MOST_KEPT
     }
 
     fn count(&self) -> u64 {

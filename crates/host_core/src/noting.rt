@@ -1,12 +1,11 @@
 //! A folder in which a shard's entries are noted.
-ghost use Rattle.std.specs.Prelude.{◌≡◌, ◌≤◌, ◌++◌, ◌∷◌, [], length, sum_by, true, None, Some, Option, ℕ, Err, IfOk, OnOk, OnErr, IsErrOf};
+ghost use Rattle.std.specs.Prelude.{◌≡◌, ◌≤◌, ◌<◌, ◌++◌, ◌∷◌, [], length, true, None, Some, Err, IfOk, OnOk, OnErr, IsErrOf};
 ghost use Rattle.outside.specs.Faults.{Rose};
 ghost use Rattle.outside.specs.Folder.{Keeps, Replaces, OpensOnly, Removes};
 ghost use Rattle.host_core.specs.Entries.{Asked, asked_as, ruled};
 ghost use Rattle.host_core.specs.Entry.{is_status};
-ghost use Rattle.host_core.specs.Notes.{Notes, opening_listed, saved_in, has_call, takes_bytes, takes_call, StaysNoted, KeepsOpen};
 ghost use Rattle.wopi_model.specs.Begin.{new_life};
-ghost use Rattle.wopi_model.specs.Host.{most_kept};
+ghost use Rattle.host_core.specs.Notes.{Notes, opening_listed, saved_in, StaysNoted, KeepsOpen};
 
 use crate::contents::Contents;
 use crate::entry::Beginning;
@@ -24,30 +23,26 @@ pub trait Store: Folder {
     /// What was noted.
     ghost notes: { Self → Notes };
 
-    /// How many entries it takes, where it is opened for that number of calls. A store that keeps none has no bound.
-    ghost bound: { ℕ → Option ℕ };
-
-    /// Begins anew with the files of an opening, and takes the room for the entries of so many calls where it keeps them.
+    /// Begins anew with the files of an opening, and takes the room for so many entries.
     fn open(
         &mut self,
         alloc: Global,
         opening: &Vec<KeptFile>,
         opened: u64,
         first: u64,
-        calls: u32,
+        capacity: u32,
     ) -> Result<(), Memory>
-        requires fits { sum_by (λ file. length file.1) (opening_listed opening.now.items) ≤ most_kept }
         ensures begin { OnOk result ((notes self.new).begin ≡ new_life (opening_listed opening.now.items) opened first) }
         ensures made { OnOk result ((notes self.new).made ≡ []) }
         ensures begun { OnOk result ((notes self.new).begun ≡ None) }
-        ensures calls { OnOk result ((notes self.new).calls ≡ bound calls) }
+        ensures most { OnOk result (capacity ≤ (notes self.new).most) }
         ensures files { Keeps (Self.files self.old) (Self.files self.new) }
         ensures never_falls { Self.faults self.old ≤ Self.faults self.new };
 
     /// Begins an entry, for which there is room. It takes no memory.
     fn begin(&mut self, beginning: &Beginning<'_>)
         requires begun { (notes self.old).begun ≡ None }
-        requires room { has_call (notes self.old).calls (length (notes self.old).made) ≡ true }
+        requires room { length (notes self.old).made < (notes self.old).most }
         ensures made { (notes self.new).made ≡ (notes self.old).made }
         ensures begun { (notes self.new).begun ≡ Some (asked_as beginning.now.stamp beginning.now.pass beginning.now.moment beginning.now.time beginning.now.call.now) }
         ensures saved { (notes self.new).saved ≡ None }
@@ -66,7 +61,6 @@ pub trait Store: Folder {
         contents: &mut Bytes,
         former: Option<&Contents>,
     ) -> Result<Contents, OutFault>
-        requires room { takes_bytes (notes self.old) (length contents.old) ≡ true }
         ensures live { IfOk result (λ live. live ≡ contents.old) }
         ensures back { OnErr result (contents.new ≡ contents.old) }
         ensures replaced { OnOk result (Replaces (Self.files self.old) (Self.files self.new) name.now contents.old) }
@@ -103,14 +97,6 @@ pub trait Store: Folder {
         ensures rest { KeepsOpen (notes self.old) (notes self.new) }
         ensures files { Keeps (Self.files self.old) (Self.files self.new) }
         ensures never_falls { Self.faults self.old ≤ Self.faults self.new };
-
-    /// Whether it takes one entry more, behind that stamp. It takes no memory.
-    fn takes_call(&self, stamp: u64) -> bool
-        ensures { result ≡ takes_call (notes self.now) stamp };
-
-    /// Whether it takes contents of that many bytes. It takes no memory.
-    fn takes_bytes(&self, size: u64) -> bool
-        ensures { result ≡ takes_bytes (notes self.now) size };
 
     /// How many entries there are.
     fn count(&self) -> u64

@@ -1,5 +1,5 @@
 //! What a shard takes in advance, so that its steps needn't take it.
-ghost use Rattle.std.specs.Prelude.{◌≡◌, ◌≤◌, ◌<◌, IfOk, OnOk, ℕ, length};
+ghost use Rattle.std.specs.Prelude.{◌≡◌, ◌≤◌, IfOk, OnOk, ℕ, length};
 ghost use Rattle.kept_locks.specs.Locks.{unlocked};
 ghost use Rattle.host_core.specs.Turns.{AreAsOf};
 ghost use Rattle.host_core.specs.Whole.{standing_at};
@@ -16,7 +16,7 @@ fn add_files(locks: &mut KeptLocks, files: usize) -> Result<(), Memory>
     ensures none { (number : ℕ) → standing_at locks.new.files number ≡ unlocked }
     ensures as_of { AreAsOf 0 locks.new }
     ensures long { OnOk result (files ≤ length locks.new.files) }
-    ensures room { locks.new.room ≡ locks.old.room }
+    ensures spare { locks.new.spare ≡ locks.old.spare }
 {
     let mut count = 0;
     'count: while count < files {
@@ -26,15 +26,14 @@ fn add_files(locks: &mut KeptLocks, files: usize) -> Result<(), Memory>
     Ok(())
 }
 
-/// Takes the room for the locks of so many files, and for so many that are held or whose ids are refused, with one
-/// place beside them, which each step wants for a while.
-pub fn take_room(alloc: Global, files: usize, ids: u32) -> Result<KeptLocks, Memory>
+/// Takes the room for the locks of so many files, and for so many that begin and end.
+pub fn take_room(alloc: Global, files: usize, capacity: u32) -> Result<KeptLocks, Memory>
     ensures none { IfOk result (λ locks. (number : ℕ) → standing_at locks.files number ≡ unlocked) }
     ensures as_of { IfOk result (λ locks. AreAsOf 0 locks) }
     ensures long { IfOk result (λ locks. files ≤ length locks.files) }
-    ensures room { IfOk result (λ locks. ids < locks.room) }
+    ensures spare { IfOk result (λ locks. capacity ≤ locks.spare) }
 {
-    let mut locks = KeptLocks::with_room(alloc, ids as usize + 1)?;
+    let mut locks = KeptLocks::with_room(alloc, capacity as usize)?;
     add_files(&mut locks, files)?;
     Ok(locks)
 }

@@ -4,7 +4,7 @@ ghost use Rattle.outside.specs.Folder.{Keeps};
 ghost use Rattle.outside.specs.Faults.{Rose};
 ghost use Rattle.wopi_model.specs.Moment.{IsMoment};
 ghost use Rattle.wopi_model.specs.Begin.{new_life};
-ghost use Rattle.wopi_model.specs.Host.{FullFrom};
+ghost use Rattle.wopi_model.specs.Host.{FullFrom, kept_limits};
 ghost use Rattle.wopi_model.specs.Shard.{Opening, last_from, stamps, entries, AreNames};
 ghost use Rattle.host_core.specs.Whole.{standing_at};
 ghost use Rattle.kept_locks.specs.Locks.{unlocked};
@@ -78,25 +78,23 @@ impl<F: Store> Shard<F> {
     ghost use Rattle.host_core.specs.View.{IsViewOf};
 
     /// Opens a shard over a folder: its files whose names are file names, of shard `only` where a number is
-    /// given, each at version `first` and unlocked. Other names are left alone. There are `ids` places for held locks
-    /// and for ids that are refused, and a store that keeps all its entries takes as many of them. A refusal hands the
-    /// folder back.
+    /// given, each at version `first` and unlocked. Other names are left alone. A refusal hands the folder back.
     pub fn start(
         alloc: Global,
         folder: F,
         only: Option<u8>,
-        ids: u32,
+        capacity: u32,
         opened: u64,
         first: u64,
     ) -> Result<Shard<F>, (F, StartFault)>
-        requires ids { 1 ≤ ids }
+        requires capacity { (1 ≤ capacity) × (capacity ≤ 32768) }
         requires only { IfSome only (λ number. number < 16) }
         requires opened { IsMoment opened }
         requires first { IsFirstVersion first }
         ensures opened { IfOk result (λ shard. shard ≡ record {
           only = only;
           begin = shard.begin;
-          limits = record { calls = F.bound ids; ids = ids };
+          limits = kept_limits capacity;
           made = [];
           time = opened;
           ticked = false;
@@ -118,14 +116,14 @@ impl<F: Store> Shard<F> {
             Ok(stock) => stock,
             Err(fault) => return Err((folder, fault)),
         };
-        match folder.open(alloc, &stock.files, opened, first, ids) {
+        match folder.open(alloc, &stock.files, opened, first, capacity) {
             Ok(()) => {}
             Err(_) => return Err((folder, StartFault::Memory)),
         }
-        match take_room(alloc, stock.files.len(), ids) {
+        match take_room(alloc, stock.files.len(), capacity) {
             Ok(locks) => {
                 let shard = Shard::assemble(
-                    alloc, folder, only, start, stock, locks, ids, opened, first,
+                    alloc, folder, only, start, stock, locks, capacity, opened, first,
                 );
                 return Ok(shard);
             }
@@ -316,18 +314,19 @@ impl<F: Store> Shard<F> {
         start: Snapshot<F>,
         stock: Stock,
         locks: KeptLocks,
-        ids: u32,
+        capacity: u32,
         opened: u64,
         first: u64,
     ) -> Shard<F>
         requires moment { IsMoment opened }
         requires first { IsFirstVersion first }
+        requires capacity { capacity ≤ 32768 }
         requires stock { IsStock first stock }
         requires none { (number : ℕ) → standing_at locks.files number ≡ unlocked }
         requires as_of { AreAsOf 0 locks }
         requires long { length stock.files.items ≤ length locks.files }
-        requires room { ids < locks.room }
-        requires calls { (F.notes folder).calls ≡ F.bound ids }
+        requires spare { capacity ≤ locks.spare }
+        requires slots { capacity ≤ (F.notes folder).most }
         requires made { (F.notes folder).made ≡ [] }
         requires ended { (F.notes folder).begun ≡ None }
         requires listed { (F.notes folder).begin ≡ new_life (opening_listed stock.files.items) opened first }
@@ -337,7 +336,7 @@ impl<F: Store> Shard<F> {
         ensures value { result ≡ record {
           only = only;
           begin = new_life (opening_listed stock.files.items) opened first;
-          limits = record { calls = F.bound ids; ids = ids };
+          limits = kept_limits capacity;
           made = [];
           time = opened;
           ticked = false;
@@ -352,10 +351,10 @@ impl<F: Store> Shard<F> {
                 alloc,
                 opened,
                 first,
-                ids,
+                capacity,
                 time: opened,
                 last: 0,
-                live: stock.bytes,
+                bytes: stock.bytes,
                 rack: Rack {
                     files: stock.files,
                     index: stock.index,
