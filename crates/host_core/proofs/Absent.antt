@@ -12,7 +12,7 @@ use Rattle.host_core.specs.Notes.{Brought}
 use Rattle.host_core.specs.declared.accept.Carried.{Carried}
 use Rattle.host_core.specs.Entries.{brought_by}
 use Rattle.host_core.specs.Files.{is_named}
-use Rattle.host_core.specs.Steps.{StepsAll}
+use Rattle.host_core.specs.Steps.{Room, StepsAll}
 use Rattle.host_core.specs.Whole.{Whole}
 use Rattle.host_core.proofs.Moving.{turned_moves}
 use Rattle.host_core.proofs.Stepping.{skip_steps}
@@ -35,14 +35,14 @@ refused_at : (oldest : ℕ) (b : Bool) (ruling : Ruling) (call : Call) (now : �
 refused_at oldest true ruling call now e = ap (λ (r : Ruling). r.status == 200 || r.status == 500) e
 refused_at oldest false ruling call now e = ap (λ (r : Ruling). r.status == 200 || r.status == 500) e
 
-pub absent_steps : (oldest : ℕ) (files : Option Files) (bytes : ℕ) (saved : Option Brought) (count : ℕ) (before : List Whole) (call : Call) (opened now : ℕ) (carried : Carried)
+pub absent_steps : (oldest : ℕ) (files : Option Files) (room : Room) (saved : Option Brought) (count : ℕ) (before : List Whole) (call : Call) (opened now : ℕ) (carried : Carried)
     → first_of (is_named call.name) before ≡ None → is_create call.act ≡ false
     → carried.ruling ≡ ruling_of (decision (settled (never_met oldest) now) call opened now) (settled (never_met oldest) now) call now → carried.back ≡ brought_by call.act
-    → StepsAll oldest files files bytes saved saved count count before before call opened now carried
-absent_steps oldest files bytes saved count before call opened now carried fresh create told back =
+    → StepsAll oldest files files room saved saved count count before before call opened now carried
+absent_steps oldest files room saved count before call opened now carried fresh create told back =
     let k : Whole = record { name = call.name; contents = None; version = oldest - 1; lock = None; spent = []; torn = false } in
     let d = decision (settled (never_met oldest) now) call opened now in
     let is = absent_decision oldest call opened now create in
-    skip_steps oldest files files bytes saved saved count count before (length before) k k call opened now carried fresh refl refl refl
+    skip_steps oldest files files room saved saved count count before (length before) k k call opened now carried fresh refl refl refl
     (refused_at oldest (is_unauthorized call opened now) carried.ruling call now (told ∙ ap (λ (x : Decision). ruling_of x (settled (never_met oldest) now) call now) is))
-    (turned_moves files bytes saved count k k call opened now carried d refl (λ e. refused (is_unauthorized call opened now) (sym is ∙ e)) told refl refl refl back)
+    (turned_moves files room saved count k k call opened now carried d refl (λ e. refused (is_unauthorized call opened now) (sym is ∙ e)) told refl refl refl back)

@@ -7,8 +7,8 @@ use Rattle.wopi_model.specs.declared.calls.Call.{Call}
 use Rattle.wopi_model.specs.File.{File, never_met}
 use Rattle.wopi_model.specs.Settle.{settled}
 use Rattle.wopi_model.specs.Step.{IsOutcome, after_step, decision, Accept}
-use Rattle.wopi_model.specs.Host.{new_bytes, brings_contents, most_kept}
-use Rattle.kept_locks.proofs.Ending.{ended_shows}
+use Rattle.wopi_model.specs.Host.{new_bytes, brings_contents}
+use Rattle.wopi_model.specs.Lives.{bytes_of}
 use Rattle.wopi_text.proofs.Disjunctions.{or_none}
 use Rattle.host_core.specs.Places.{IsFirst, first_of}
 use Rattle.kept_locks.specs.Locks.{Standing, Locks, AreChained, unlocked, ended_at, all_ended}
@@ -25,12 +25,12 @@ use Rattle.host_core.specs.Numbers.{named, IsNumbered, AreLocked}
 use Rattle.name_index.specs.Index.{number_of}
 use Rattle.std.proofs.lemmas.List.{length-map}
 use Rattle.host_core.proofs.Turning.{began_ended, as_of_later}
-use Rattle.host_core.specs.Steps.{Moves, Stops, StepsAll, StopsAll, IsNoRoomFor, IsRoomFor}
-use Rattle.host_core.specs.Turns.{Turns, AreAsOf}
+use Rattle.host_core.specs.Steps.{Moves, Stops, StepsAll, StopsAll, HasRoom, IsNoRoomFor, IsRoomFor, Room}
+use Rattle.host_core.specs.Turns.{Turns, AreAsOf, all_gone, gone_at}
 use Rattle.host_core.specs.Whole.{Whole, whole, seen, standing_at, joined}
-use Rattle.host_core.proofs.Joining.{later, stands_later, joined_cons, files_ended, joined_as, joined_put, joined_push, names_joined, long_joined, get_joined, stands_ended}
+use Rattle.host_core.proofs.Joining.{later, stands_later, joined_cons, contents_any, files_gone, gone_shows, joined_as, joined_put, joined_push, names_joined, long_joined, get_joined, stands_ended, stands_gone}
 use Rattle.host_core.proofs.Leaving.{none_place, some_is}
-use Rattle.host_core.proofs.Moving.{moves_ended}
+use Rattle.host_core.proofs.Moving.{moves_gone}
 use Rattle.host_core.proofs.Numbering.{first_named, first_below}
 use Rattle.host_core.proofs.Stepping.{met_steps, met_stops, push_steps, skip_steps, turned_away}
 use Rattle.host_core.proofs.Stocking.{unmet_place}
@@ -66,29 +66,34 @@ lock_at oldest (k ∷ files) ss name place e =
           rest p refl ∙ ap (λ (s : Standing). s.lock) (sym (stands_later ss p)) ∙ ap (λ (n : ℕ). (standing_at ss n).lock) (some_is (suc p) place e)
 
 -- a call on a file that was met
-pub met_all : (oldest : ℕ) (folder folder' : Option Files) (bytes : ℕ) (v v' : Option Brought) (began count : ℕ) (files : List KeptFile) (place : ℕ) (k k' : KeptFile) (old new : Locks) (call : Call) (opened now : ℕ) (carried : Carried)
-    → IsFirst (is_named call.name) (joined files old.files) place → k ≡ get_or files place k → Turns old new place now
-    → Moves folder folder' bytes v v' began count (seen k old place) (seen k' new place) call opened now carried
-    → StepsAll oldest folder folder' bytes v v' began count (joined files (all_ended now old.files)) (joined (set files place k') new.files) call opened now carried
-met_all oldest folder folder' bytes v v' began count files place k k' old new call opened now carried first e turns moves =
-    let ended = all_ended now old.files in
+pub met_all : (oldest : ℕ) (folder folder' : Option Files) (room : Room) (v v' : Option Brought) (began count : ℕ) (files : List KeptFile) (place : ℕ) (k k' : KeptFile) (old new : Locks) (call : Call) (opened now : ℕ) (carried : Carried)
+    → IsFirst (is_named call.name) (joined files old.files) place → k ≡ get_or files place k → (turns : Turns old new place now)
+    → Moves folder folder' room v v' began count (seen k old place) (seen k' new place) call opened now carried
+    → StepsAll oldest folder folder' room v v' began count (joined files (all_gone turns.purged now old.files)) (joined (set files place k') new.files) call opened now carried
+met_all oldest folder folder' room v v' began count files place k k' old new call opened now carried first e turns moves =
+    let purged = turns.purged in
+    let ended = all_gone purged now old.files in
     let before = joined files ended in
-    let moves' = subst (λ (s : Standing). Moves folder folder' bytes v v' began count (whole k s) (seen k' new place) call opened now carried) (sym (stands_ended now old.files place))
-    (moves_ended folder folder' bytes v v' began count k (standing_at old.files place) (seen k' new place) call opened now carried moves) in
-    subst (λ (after : List Whole). StepsAll oldest folder folder' bytes v v' began count before after call opened now carried)
-    (sym (joined_put files place k' new.files ended (λ n differ. turns.others n differ ∙ sym (stands_ended now old.files n))))
-    (met_steps oldest folder folder' bytes v v' began count before place (whole k (standing_at ended place)) (seen k' new place) call opened now carried
+    let moves' = subst (λ (s : Standing). Moves folder folder' room v v' began count (whole k s) (seen k' new place) call opened now carried) (sym (stands_gone purged now old.files place))
+    (moves_gone purged folder folder' room v v' began count k (standing_at old.files place) (seen k' new place) call opened now carried moves) in
+    subst (λ (after : List Whole). StepsAll oldest folder folder' room v v' began count before after call opened now carried)
+    (sym (joined_put files place k' new.files ended (λ n differ. turns.others n differ ∙ sym (stands_gone purged now old.files n))))
+    (met_steps oldest folder folder' room v v' began count before place (whole k (standing_at ended place)) (seen k' new place) call opened now carried
     (first_any files old.files ended call.name place first) (get_joined files place k ended e) moves')
 
-pub met_stopped : (oldest : ℕ) (folder folder' : Option Files) (bytes : ℕ) (v v' : Option Brought) (files : List KeptFile) (place : ℕ) (k k' : KeptFile) (old new : Locks) (call : Call) (opened now : ℕ) (why : StoreRefusal)
+pub met_stopped : (oldest : ℕ) (folder folder' : Option Files) (room : Room) (v v' : Option Brought) (files : List KeptFile) (place : ℕ) (k k' : KeptFile) (old new : Locks) (call : Call) (opened now : ℕ) (why : StoreRefusal)
     → IsFirst (is_named call.name) (joined files old.files) place → k ≡ get_or files place k → new ≡ old
-    → Stops folder folder' bytes v v' (seen k old place) (seen k' new place) call opened now why
-    → StopsAll oldest folder folder' bytes v v' (joined files old.files) (joined (set files place k') new.files) call opened now why
-met_stopped oldest folder folder' bytes v v' files place k k' old new call opened now why first e same stops =
+    → Stops folder folder' room v v' (seen k old place) (seen k' new place) call opened now why
+    → StopsAll oldest folder folder' room v v' (joined files old.files) (joined (set files place k') new.files) call opened now why
+met_stopped oldest folder folder' room v v' files place k k' old new call opened now why first e same stops =
     let before = joined files old.files in
-    subst (λ (after : List Whole). StopsAll oldest folder folder' bytes v v' before after call opened now why)
+    subst (λ (after : List Whole). StopsAll oldest folder folder' room v v' before after call opened now why)
     (sym (joined_put files place k' new.files old.files (λ n differ. ap (λ (l : Locks). standing_at l.files n) same)))
-    (met_stops oldest folder folder' bytes v v' before place (seen k old place) (seen k' new place) call opened now why first (get_joined files place k old.files e) stops)
+    (met_stops oldest folder folder' room v v' before place (seen k old place) (seen k' new place) call opened now why first (get_joined files place k old.files e) stops)
+
+gone_bare : (purged : Bool) (now : ℕ) → gone_at purged now unlocked ≡ unlocked
+gone_bare false now = refl
+gone_bare true now = refl
 
 -- the locks after a step
 pub locked_turn : (files files' : List KeptFile) (old new : Locks) (place time now : ℕ) → AreLocked files old time → place < length files → length files' ≡ length files → Turns old new place now → AreLocked files' new now
@@ -96,19 +101,19 @@ locked_turn files files' old new place time now locked lt long turns = record {
   long = let more = locked.long in let same = turns.long in omega (arith, long, more, same);
   beyond = λ number le.
       let le' : length files ≤ number = omega (arith, le, long) in
-      turns.others number (λ e. absurd (omega (arith, e, lt, le'))) ∙ ap (ended_at now) (locked.beyond number le');
+      turns.others number (λ e. absurd (omega (arith, e, lt, le'))) ∙ ap (gone_at turns.purged now) (locked.beyond number le') ∙ gone_bare turns.purged now;
   as_of = turns.as_of;
 }
 
 pub locked_push : (files : List KeptFile) (k : KeptFile) (old new : Locks) (now : ℕ) → ((number : ℕ) → length files ≤ number → standing_at old.files number ≡ unlocked) → length files < length old.files
     → Turns old new (length files) now → AreLocked (files ++ k ∷ []) new now
-locked_push files k old new now beyond room turns =
+locked_push files k old new now beyond place turns =
     let more = long_push files k in
     record {
       long = let same = turns.long in omega (arith, more, room, same);
       beyond = λ number le.
           let le' : length files ≤ number = omega (arith, le, more) in
-          turns.others number (λ e. absurd (omega (arith, e, le, more))) ∙ ap (ended_at now) (beyond number le');
+          turns.others number (λ e. absurd (omega (arith, e, le, more))) ∙ ap (gone_at turns.purged now) (beyond number le') ∙ gone_bare turns.purged now;
       as_of = turns.as_of;
     }
   where
@@ -117,23 +122,24 @@ locked_push files k old new now beyond room turns =
     long_push (f ∷ files) k = let more = long_push files k in omega (arith, more)
 
 -- a call on a name that wasn't met before, which is met now
-pub push_all : (oldest : ℕ) (folder folder' : Option Files) (bytes : ℕ) (v v' : Option Brought) (began count : ℕ) (files : List KeptFile) (number : ℕ) (k k' : KeptFile) (first old new : Locks) (call : Call) (opened now : ℕ) (carried : Carried)
+pub push_all : (oldest : ℕ) (folder folder' : Option Files) (room : Room) (v v' : Option Brought) (began count : ℕ) (files : List KeptFile) (number : ℕ) (k k' : KeptFile) (first old new : Locks) (call : Call) (opened now : ℕ) (carried : Carried)
     → first_of (is_named call.name) (joined files first.files) ≡ None → ((n : ℕ) → standing_at old.files n ≡ standing_at first.files n)
     → ((n : ℕ) → length files ≤ n → standing_at first.files n ≡ unlocked)
-    → file_of (whole k unlocked) ≡ never_met oldest → k.torn ≡ false → k.name ≡ call.name → number ≡ length files → Turns old new number now
-    → Moves folder folder' bytes v v' began count (seen k old number) (seen k' new number) call opened now carried
-    → StepsAll oldest folder folder' bytes v v' began count (joined files (all_ended now first.files)) (joined (files ++ k' ∷ []) new.files) call opened now carried
-push_all oldest folder folder' bytes v v' began count files number k k' first old new call opened now carried none stands beyond is whole_k named_k at turns moves =
-    let ended = all_ended now first.files in
+    → file_of (whole k unlocked) ≡ never_met oldest → k.torn ≡ false → k.name ≡ call.name → number ≡ length files → (turns : Turns old new number now)
+    → Moves folder folder' room v v' began count (seen k old number) (seen k' new number) call opened now carried
+    → StepsAll oldest folder folder' room v v' began count (joined files (all_gone turns.purged now first.files)) (joined (files ++ k' ∷ []) new.files) call opened now carried
+push_all oldest folder folder' room v v' began count files number k k' first old new call opened now carried none stands beyond is whole_k named_k at turns moves =
+    let purged = turns.purged in
+    let ended = all_gone purged now first.files in
     let before = joined files ended in
     let long : number ≡ length before = at ∙ sym (long_joined files ended) in
     let bare : standing_at old.files number ≡ unlocked = stands number ∙ beyond number (omega (arith, at)) in
-    let moves' = subst (λ (s : Standing). Moves folder folder' bytes v v' began count (whole k s) (seen k' new number) call opened now carried) bare moves in
+    let moves' = subst (λ (s : Standing). Moves folder folder' room v v' began count (whole k s) (seen k' new number) call opened now carried) bare moves in
     let after : joined (files ++ k' ∷ []) new.files ≡ before ++ seen k' new number ∷ [] =
-    joined_push files k' new.files ended (λ n lt. turns.others n (λ e. absurd (omega (arith, e, lt, at))) ∙ ap (ended_at now) (stands n) ∙ sym (stands_ended now first.files n))
+    joined_push files k' new.files ended (λ n lt. turns.others n (λ e. absurd (omega (arith, e, lt, at))) ∙ ap (gone_at purged now) (stands n) ∙ sym (stands_gone purged now first.files n))
     ∙ ap (λ (n : ℕ). before ++ whole k' (standing_at new.files n) ∷ []) (sym at) in
-    subst (λ (l : List Whole). StepsAll oldest folder folder' bytes v v' began count before l call opened now carried) (sym after)
-    (push_steps oldest folder folder' bytes v v' began count before number (whole k unlocked) (seen k' new number) call opened now carried
+    subst (λ (l : List Whole). StepsAll oldest folder folder' room v v' began count before l call opened now carried) (sym after)
+    (push_steps oldest folder folder' room v v' began count before number (whole k unlocked) (seen k' new number) call opened now carried
     (none_any files first.files ended call.name none) is whole_k named_k long moves')
 
 bare_of : (oldest : ℕ) (s : Standing) (k : KeptFile) → file_of (whole k s) ≡ never_met oldest → s ≡ unlocked
@@ -143,11 +149,11 @@ bare_of oldest s k e =
     λ i. record { lock = lock i; spent = spent i }
 
 -- a call that was turned away leaves nothing under the number
-pub skip_bare : (oldest : ℕ) (folder folder' : Option Files) (bytes : ℕ) (v v' : Option Brought) (began count number : ℕ) (k k' : KeptFile) (old new : Locks) (call : Call) (opened now : ℕ) (carried : Carried)
+pub skip_bare : (oldest : ℕ) (folder folder' : Option Files) (room : Room) (v v' : Option Brought) (began count number : ℕ) (k k' : KeptFile) (old new : Locks) (call : Call) (opened now : ℕ) (carried : Carried)
     → standing_at old.files number ≡ unlocked → file_of (whole k unlocked) ≡ never_met oldest → (carried.ruling.status == 200 || carried.ruling.status == 500) ≡ false
-    → Moves folder folder' bytes v v' began count (seen k old number) (seen k' new number) call opened now carried
+    → Moves folder folder' room v v' began count (seen k old number) (seen k' new number) call opened now carried
     → standing_at new.files number ≡ unlocked
-skip_bare oldest folder folder' bytes v v' began count number k k' old new call opened now carried bare is turned moves =
+skip_bare oldest folder folder' room v v' began count number k k' old new call opened now carried bare is turned moves =
     let status = or_none (carried.ruling.status == 200) (carried.ruling.status == 500) turned in
     let was : file_of (seen k old number) ≡ never_met oldest = ap (λ (s : Standing). file_of (whole k s)) bare ∙ is in
     let outcome : IsOutcome (settled (never_met oldest) now) call opened now carried.ruling = subst (λ (f : File). IsOutcome (settled f now) call opened now carried.ruling) was moves.steps.outcome in
@@ -157,31 +163,32 @@ skip_bare oldest folder folder' bytes v v' began count number k k' old new call 
     after_at : File → File
     after_at f = after_step (settled f now) call opened now carried.ruling
 
-pub skip_all : (oldest : ℕ) (folder folder' : Option Files) (bytes : ℕ) (v v' : Option Brought) (began count : ℕ) (files : List KeptFile) (number : ℕ) (k k' : KeptFile) (first old new : Locks) (call : Call) (opened now : ℕ) (carried : Carried)
+pub skip_all : (oldest : ℕ) (folder folder' : Option Files) (room : Room) (v v' : Option Brought) (began count : ℕ) (files : List KeptFile) (number : ℕ) (k k' : KeptFile) (first old new : Locks) (call : Call) (opened now : ℕ) (carried : Carried)
     → first_of (is_named call.name) (joined files first.files) ≡ None → ((n : ℕ) → standing_at old.files n ≡ standing_at first.files n)
     → ((n : ℕ) → length files ≤ n → standing_at first.files n ≡ unlocked)
-    → file_of (whole k unlocked) ≡ never_met oldest → k.torn ≡ false → number ≡ length files → Turns old new number now
+    → file_of (whole k unlocked) ≡ never_met oldest → k.torn ≡ false → number ≡ length files → (turns : Turns old new number now)
     → (carried.ruling.status == 200 || carried.ruling.status == 500) ≡ false
-    → Moves folder folder' bytes v v' began count (seen k old number) (seen k' new number) call opened now carried
-    → StepsAll oldest folder folder' bytes v v' began count (joined files (all_ended now first.files)) (joined files new.files) call opened now carried
-skip_all oldest folder folder' bytes v v' began count files number k k' first old new call opened now carried none stands beyond is whole_k at turns turned moves =
-    let ended = all_ended now first.files in
+    → Moves folder folder' room v v' began count (seen k old number) (seen k' new number) call opened now carried
+    → StepsAll oldest folder folder' room v v' began count (joined files (all_gone turns.purged now first.files)) (joined files new.files) call opened now carried
+skip_all oldest folder folder' room v v' began count files number k k' first old new call opened now carried none stands beyond is whole_k at turns turned moves =
+    let purged = turns.purged in
+    let ended = all_gone purged now first.files in
     let before = joined files ended in
     let long : number ≡ length before = at ∙ sym (long_joined files ended) in
     let bare : standing_at old.files number ≡ unlocked = stands number ∙ beyond number (omega (arith, at)) in
-    let moves' = subst (λ (s : Standing). Moves folder folder' bytes v v' began count (whole k s) (seen k' new number) call opened now carried) bare moves in
-    subst (λ (l : List Whole). StepsAll oldest folder folder' bytes v v' began count before l call opened now carried)
-    (sym (joined_as files new.files ended (λ n lt. turns.others n (λ e. absurd (omega (arith, e, lt, at))) ∙ ap (ended_at now) (stands n) ∙ sym (stands_ended now first.files n))))
-    (skip_steps oldest folder folder' bytes v v' began count before number (whole k unlocked) (seen k' new number) call opened now carried
+    let moves' = subst (λ (s : Standing). Moves folder folder' room v v' began count (whole k s) (seen k' new number) call opened now carried) bare moves in
+    subst (λ (l : List Whole). StepsAll oldest folder folder' room v v' began count before l call opened now carried)
+    (sym (joined_as files new.files ended (λ n lt. turns.others n (λ e. absurd (omega (arith, e, lt, at))) ∙ ap (gone_at purged now) (stands n) ∙ sym (stands_gone purged now first.files n))))
+    (skip_steps oldest folder folder' room v v' began count before number (whole k unlocked) (seen k' new number) call opened now carried
     (none_any files first.files ended call.name none) is whole_k long turned moves')
 
 pub locked_skip : (files : List KeptFile) (old new : Locks) (number now : ℕ) → ((n : ℕ) → length files ≤ n → standing_at old.files n ≡ unlocked) → length files < length old.files → number ≡ length files
     → standing_at new.files number ≡ unlocked → Turns old new number now → AreLocked files new now
-locked_skip files old new number now beyond room at bare turns = record {
+locked_skip files old new number now beyond place at bare turns = record {
   long = let same = turns.long in omega (arith, room, same);
   beyond = λ n le. elim (eqb_tells n number) [
     | inl same ↦ ap (standing_at new.files) same.1 ∙ bare
-    | inr other ↦ turns.others n other.1 ∙ ap (ended_at now) (beyond n le)
+    | inr other ↦ turns.others n other.1 ∙ ap (gone_at turns.purged now) (beyond n le) ∙ gone_bare turns.purged now
   ];
   as_of = turns.as_of;
 }
@@ -223,9 +230,9 @@ locked_more files files' old new time e stands as_of longer locked = subst (λ (
 })
 
 -- nothing was done
-pub still_all : (oldest : ℕ) (folder : Option Files) (bytes : ℕ) (v : Option Brought) (before after : List Whole) (call : Call) (opened now : ℕ) (why : StoreRefusal) → after ≡ before
-    → (why ≡ refusal.Full → ⊥) → StopsAll oldest folder folder bytes v v before after call opened now why
-still_all oldest folder bytes v before after call opened now why e never = record {
+pub still_all : (oldest : ℕ) (folder : Option Files) (room : Room) (v : Option Brought) (before after : List Whole) (call : Call) (opened now : ℕ) (why : StoreRefusal) → after ≡ before
+    → (why ≡ refusal.Full → ⊥) → StopsAll oldest folder folder room v v before after call opened now why
+still_all oldest folder room v before after call opened now why e never = record {
   shows = record { files = λ name. ap (λ (l : List Whole). files_of oldest l name) e; torn = λ name. ap (λ (l : List Whole). torn_in l name) e };
   stay = refl;
   folder = keeps_self folder;
@@ -235,16 +242,16 @@ still_all oldest folder bytes v before after call opened now why e never = recor
 }
 
 -- a call on a name that wasn't met was stopped
-pub stopped_new : (oldest : ℕ) (folder folder' : Option Files) (bytes : ℕ) (v v' : Option Brought) (before after : List Whole) (k k' : Whole) (call : Call) (opened now : ℕ) (why : StoreRefusal) → after ≡ before
-    → first_of (is_named call.name) before ≡ None → file_of k ≡ never_met oldest → Stops folder folder' bytes v v' k k' call opened now why
-    → StopsAll oldest folder folder' bytes v v' before after call opened now why
-stopped_new oldest folder folder' bytes v v' before after k k' call opened now why e none is stops =
+pub stopped_new : (oldest : ℕ) (folder folder' : Option Files) (room : Room) (v v' : Option Brought) (before after : List Whole) (k k' : Whole) (call : Call) (opened now : ℕ) (why : StoreRefusal) → after ≡ before
+    → first_of (is_named call.name) before ≡ None → file_of k ≡ never_met oldest → Stops folder folder' room v v' k k' call opened now why
+    → StopsAll oldest folder folder' room v v' before after call opened now why
+stopped_new oldest folder folder' room v v' before after k k' call opened now why e none is stops =
     let was : files_of oldest before call.name ≡ file_of k = ap (λ (o : Option Whole). unwrap_or (option_map file_of o) (never_met oldest)) none ∙ sym is in
     record {
       shows = record { files = λ name. ap (λ (l : List Whole). files_of oldest l name) e; torn = λ name. ap (λ (l : List Whole). torn_in l name) e };
       stay = stops.stay;
       folder = stops.folder;
-      full = λ h. subst (λ (f : File). IsNoRoomFor f bytes call opened now) (sym was) (stops.full h);
+      full = λ h. subst (λ (f : File). IsNoRoomFor f room call opened now) (sym was) (stops.full h);
       within = λ most h. subst (AreWithin most) (sym e) h;
       few = ap (λ (l : List Whole). length l) e;
     }
@@ -266,9 +273,13 @@ locked_same files files' old new time long same locked = subst (λ (l : Locks). 
   as_of = locked.as_of;
 })
 
--- the room for a call is the same once the locks have ended
-pub room_raw : (oldest : ℕ) (files : List KeptFile) (ss : List Standing) (name : List ℕ) (kept : ℕ) (call : Call) (opened now : ℕ)
-    → IsRoomFor (files_of oldest (joined files (all_ended now ss)) name) kept call opened now → IsRoomFor (files_of oldest (joined files ss) name) kept call opened now
-room_raw oldest files ss name kept call opened now room =
-    subst (λ (f : File). decision f call opened now ≡ Accept → brings_contents call.act ≡ true → kept + new_bytes call.act ≤ most_kept)
-    (ap (λ (f : File). settled f now) (files_ended oldest files ss now name) ∙ ended_shows (files_of oldest (joined files ss) name) now now (omega arith)) room
+-- the room for a call is the same once locks have ended, and ids have gone
+pub room_raw : (oldest : ℕ) (files : List KeptFile) (ss : List Standing) (purged : Bool) (name : List ℕ) (room : Room) (call : Call) (opened now : ℕ)
+    → IsRoomFor (files_of oldest (joined files (all_gone purged now ss)) name) room call opened now → IsRoomFor (files_of oldest (joined files ss) name) room call opened now
+room_raw oldest files ss purged name room call opened now fits =
+    let gone = files_of oldest (joined files (all_gone purged now ss)) name in
+    let file = files_of oldest (joined files ss) name in
+    let same : settled gone now ≡ settled file now = ap (λ (f : File). settled f now) (files_gone oldest files ss purged now name) ∙ gone_shows purged file now now (omega arith) in
+    let contents : gone.contents ≡ file.contents = contents_any oldest files (all_gone purged now ss) ss name in
+    subst (λ (f : File). decision f call opened now ≡ Accept → brings_contents call.act ≡ true → HasRoom room (bytes_of file.contents) (new_bytes call.act)) same
+    (subst (λ (o : Option (List ℕ)). decision (settled gone now) call opened now ≡ Accept → brings_contents call.act ≡ true → HasRoom room (bytes_of o) (new_bytes call.act)) contents fits)

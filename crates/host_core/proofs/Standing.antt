@@ -1,5 +1,5 @@
 -- A shard and its folder, as a step is taken or refused.
-use Rattle.std.proofs.Common.{◌≡◌, ◌≢◌, ℕ, ◌+◌, ◌≤◌, ◌==◌, max, Bool, true, false, ◌&&◌, if◌then◌else◌, List, [], ◌∷◌, ◌++◌, length, Option, None, Some, refl, sym, ap, subst, ◌∙◌, arith}
+use Rattle.std.proofs.Common.{◌≡◌, ◌≢◌, inl, inr, ℕ, ◌+◌, ◌-◌, ◌^◌, ◌<◌, ◌≤◌, nat_lt, ◌==◌, max, Bool, true, false, ◌&&◌, if◌then◌else◌, List, [], ◌∷◌, ◌++◌, length, Option, None, Some, refl, sym, ap, subst, ◌∙◌, arith}
 use Rattle.std.proofs.lemmas.Bool.Decides.{nat_tests}
 use Rattle.std.proofs.lemmas.List.Sums.{sum_by_push}
 use Rattle.std.proofs.lemmas.Slice.Eq.{bytes_eq-Decides}
@@ -7,7 +7,7 @@ use Rattle.std.specs.Str.{bytes_eq}
 use Rattle.wopi_text.proofs.Disjunctions.{or_none}
 use Rattle.host_core.specs.Opening.{MayKeep}
 use Rattle.host_core.specs.Names.{AreWithin}
-use Rattle.host_core.specs.Notes.{Notes}
+use Rattle.host_core.specs.Notes.{Notes, has_call, has_stamp, takes_call}
 use Rattle.outside.specs.Folder.{Files}
 use Rattle.outside.specs.Folder as folder
 use Rattle.outside.specs.Faults.{Rose, RoseBy}
@@ -17,19 +17,24 @@ use Rattle.wopi_model.specs.declared.calls.Ruling.{Ruling}
 use Rattle.wopi_model.specs.Act.{is_stored}
 use Rattle.wopi_model.specs.File.{File}
 use Rattle.wopi_model.specs.Settle.{settled}
-use Rattle.wopi_model.specs.Step.{after_step}
+use Rattle.wopi_model.specs.Step.{Accept, after_step, decision}
 use Rattle.host_core.specs.Whole.{Whole, joined}
-use Rattle.host_core.specs.Entries.{Made, items_of}
+use Rattle.host_core.specs.Entries.{Made, history_of, items_of}
+use Rattle.wopi_model.specs.Begin.{Begin}
+use Rattle.wopi_model.specs.Host.{Limits, begins_lock, found_at}
 use Rattle.wopi_model.proofs.Histories.{Legal-tick}
 use Rattle.host_core.specs.Files.{files_of, torn_in}
 use Rattle.host_core.specs.Store.{StoresAs, is_store_call, torn_after, brought}
-use Rattle.host_core.specs.Steps.{TakesStep, ShowsSame}
-use Rattle.host_core.specs.Value.{Book, Stands, IsLawful, state_of, is_torn, Reflects, Agrees, faults_in}
+use Rattle.host_core.specs.Steps.{TakesStep, ShowsSame, WantsPlace}
+use Rattle.host_core.specs.Value.{Book, Stands, IsLawful, IsLow, IsWithinCalls, state_of, is_torn, Reflects, Agrees, faults_in}
 use Rattle.host_core.specs.declared.ledger.Ledger.{Ledger}
-use Rattle.host_core.specs.Ledger.{Takes, Stays, made_by, files_in, ended_in}
-use Rattle.kept_locks.specs.Locks.{Standing, all_ended}
-use Rattle.wopi_model.specs.Host.{new_bytes}
-use Rattle.host_core.proofs.History.{keeps-step, keeps-stays, keeps-tick, keeps-ended}
+use Rattle.host_core.specs.Ledger.{IsFullFor, IsTied, Takes, Stays, made_by, files_in, gone_in}
+use Rattle.host_core.specs.Turns.{all_gone}
+use Rattle.kept_locks.specs.Locks.{Standing, all_ended, places_at}
+use Rattle.wopi_model.specs.Lives.{bytes_of, left_of, live_ids}
+use Rattle.host_core.proofs.Counts.{places_are}
+use Rattle.host_core.proofs.Fitting.{fits-step, fits-tick}
+use Rattle.host_core.proofs.History.{keeps-step, keeps-stays, keeps-tick, keeps-gone}
 use Rattle.host_core.proofs.Joining.{contents_any, torn_any, within_any, long_joined}
 use Rattle.host_core.specs.Times.{GoesByEntries}
 use Rattle.host_core.proofs.Timing.{goes-push, legal-untimed}
@@ -117,9 +122,6 @@ made_long : (made : List Made) (one : Made) → length (made ++ one ∷ []) ≡ 
 made_long [] one = omega arith
 made_long (first ∷ made) one = let more = made_long made one in omega (arith, more)
 
-below_full : (n m capacity : ℕ) → m ≡ n + 1 → n ≤ capacity → n ≢ capacity → m ≤ capacity
-below_full n m capacity more le differ = grind (arith, nat_tests)
-
 agrees-state : (only : Option ℕ) (start now : Option Files) (files state : List ℕ → File) (torn torn' : List ℕ → Bool) → ((name : List ℕ) → (state name).contents ≡ (files name).contents) → ((name : List ℕ) → torn name ≡ torn' name)
     → Agrees only start now files torn → Agrees only start now state torn'
 agrees-state only None None files state torn torn' same tears agrees = tt
@@ -127,81 +129,134 @@ agrees-state only None (Some now) files state torn torn' same tears agrees = abs
 agrees-state only (Some start) None files state torn torn' same tears agrees = absurd agrees
 agrees-state only (Some start) (Some now) files state torn torn' same tears agrees = (λ name named whole. agrees.0 name named (tears name ∙ whole) ∙ sym (same name), agrees.1)
 
+-- the store took the call
+module _ (calls : Option ℕ) (count stamp : ℕ) (takes : (has_call calls count && has_stamp calls stamp) ≡ true) where
+  both_are : (a b : Bool) → (a && b) ≡ true → (a ≡ true) × (b ≡ true)
+  both_are true b e = (refl, e)
+  both_are false b e = absurd (cc e)
+
+  within_more : (more : ℕ) → more ≡ count + 1 → IsWithinCalls calls more
+  within_more more is = go calls takes where
+    go : (c : Option ℕ) → (has_call c count && has_stamp c stamp) ≡ true → IsWithinCalls c more
+    go None e = tt
+    go (Some n) e = let less = (both_are (nat_lt count n) (nat_lt stamp (2 ^ 64 - 1)) e).0 in grind (arith, nat_tests, less, is)
+
+  low_more : (before last next : ℕ) → next ≡ stamp + 1 → IsLow calls before last → IsLow calls before next
+  low_more before last next is = go calls takes where
+    go : (c : Option ℕ) → (has_call c count && has_stamp c stamp) ≡ true → IsLow c before last → IsLow c before next
+    go None e low = grind (arith, nat_tests, e, is)
+    go (Some n) e low = low
+
+taken_by : (b : Bool) → (b ≡ false → ⊥) → b ≡ true
+taken_by true never = refl
+taken_by false never = absurd (never refl)
+
+less_by : (a b : ℕ) → (a ≤ b → ⊥) → b < a
+less_by a b never = go (nat_lt b a) refl where
+  go : (t : Bool) → nat_lt b a ≡ t → b < a
+  go true e = grind (arith, nat_tests, e)
+  go false e = absurd (never (grind (arith, nat_tests, e)))
+
 -- the shard after a step
 pub stands-step : {F : Type 0} (book : Book F) (before after : Ledger) (old new : Notes) (start now now' : Option Files) (began count count' : ℕ) (call : Call) (pass floor moment : ℕ) (ruling : Ruling) (folder' : F)
-    → Stands book before.last (files_in before) before.bytes start now began count
-    → book.opened ≡ before.opened → book.first ≡ before.first → book.time ≡ before.time → IsMoment moment → MayKeep book.only call.name → length book.made ≢ book.capacity
+    → Stands book before.last (files_in before) before.live start now began count → IsTied before old
+    → book.begin ≡ old.begin → book.made ≡ old.made → book.limits ≡ record { calls = old.calls; ids = before.ids } → book.time ≡ before.time
+    → IsMoment moment → MayKeep book.only call.name → (IsFullFor before old call floor moment → ⊥)
     → Takes before after old new call pass floor moment ruling → StoresAs now now' call ruling → count ≤ count' → (ruling.status ≡ 500 → Rose count count')
     → Stands (record book { made = book.made ++ made_by before call pass floor moment ruling ∷ []; time = max book.time moment; folder = folder' })
-    after.last (files_in after) after.bytes start now' began count'
-stands-step book before after old new start now now' began count count' call pass floor moment ruling folder' stands opened first time m own room takes stores le fault =
+    after.last (files_in after) after.live start now' began count'
+stands-step book before after old new start now now' began count count' call pass floor moment ruling folder' stands tied begins makes limits time m own room takes stores le fault =
+    let opened : book.begin.opened ≡ before.opened = ap (λ (b : Begin). b.opened) begins ∙ sym tied.opened in
+    let first : book.begin.first ≡ before.first = ap (λ (b : Begin). b.first) begins ∙ sym tied.first in
+    let purged = takes.purged in
     let later = max book.time moment in
     let same_time : max before.time moment ≡ later = ap (λ (t : ℕ). max t moment) (sym time) in
-    let mid = joined before.rack.files.items (all_ended later before.rack.locks.files) in
-    let mid_is : ended_in before (max before.time moment) ≡ mid = ap (ended_in before) same_time in
+    let mid = joined before.rack.files.items (all_gone purged later before.rack.locks.files) in
+    let mid_is : gone_in purged before (max before.time moment) ≡ mid = ap (gone_in purged before) same_time in
     let again : max later moment ≡ later = omega arith in
-    let steps : TakesStep book.first mid (files_in after) call book.opened later ruling =
-    subst (λ (o : ℕ). TakesStep book.first mid (files_in after) call o later ruling) (sym opened)
-    (subst (λ (t : ℕ). TakesStep book.first mid (files_in after) call before.opened t ruling) same_time
-    (subst (λ (l : List Whole). TakesStep book.first l (files_in after) call before.opened (max before.time moment) ruling) mid_is
-    (subst (λ (n : ℕ). TakesStep n (ended_in before (max before.time moment)) (files_in after) call before.opened (max before.time moment) ruling) (sym first) takes.steps))) in
-    let steps' = subst (λ (t : ℕ). TakesStep book.first mid (files_in after) call book.opened t ruling) (sym again) steps in
-    let bytes = before.bytes in
+    let steps : TakesStep book.begin.first mid (files_in after) call book.begin.opened later ruling =
+    subst (λ (o : ℕ). TakesStep book.begin.first mid (files_in after) call o later ruling) (sym opened)
+    (subst (λ (t : ℕ). TakesStep book.begin.first mid (files_in after) call before.opened t ruling) same_time
+    (subst (λ (l : List Whole). TakesStep book.begin.first l (files_in after) call before.opened (max before.time moment) ruling) mid_is
+    (subst (λ (n : ℕ). TakesStep n (gone_in purged before (max before.time moment)) (files_in after) call before.opened (max before.time moment) ruling) (sym first) takes.steps))) in
+    let steps' = subst (λ (t : ℕ). TakesStep book.begin.first mid (files_in after) call book.begin.opened t ruling) (sym again) steps in
+    let live = before.live in
     let one : Made = record { time = later; step = record { stamp = max before.last floor + 1; pass = pass; moment = moment; call = call; ruling = ruling } } in
     let same : one ≡ made_by before call pass floor moment ruling = ap (λ (t : ℕ). made_at t before.last call pass floor moment ruling) time in
     let made' = book.made ++ made_by before call pass floor moment ruling ∷ [] in
-    let mid_keeps : Reflects book.opening book.opened book.first book.capacity book.made later before.last bytes mid =
-    keeps-ended book.opening book.opened book.first book.capacity book.made later before.last bytes before.rack.files.items before.rack.locks.files
-    (keeps-tick book.opening book.opened book.first book.capacity book.made book.time before.last bytes (files_in before) stands.keeps moment m) in
-    let mid_agrees : Agrees book.only start now (files_of book.first mid) (torn_in mid) =
-    agrees-state book.only start now (files_of book.first (files_in before)) (files_of book.first mid) (torn_in (files_in before)) (torn_in mid)
-    (λ name. contents_any book.first before.rack.files.items (all_ended later before.rack.locks.files) before.rack.locks.files name)
-    (λ name. torn_any before.rack.files.items before.rack.locks.files (all_ended later before.rack.locks.files) name) stands.folder in
-    let mid_within : AreWithin (book.first + length book.made) mid = within_any (book.first + length book.made) before.rack.files.items before.rack.locks.files (all_ended later before.rack.locks.files) stands.within in
-    let stepped : Reflects book.opening book.opened book.first book.capacity (book.made ++ one ∷ []) later (max before.last floor + 1) (bytes + (if ruling.status == 200 then new_bytes call.act else 0)) (files_in after) =
-    subst (λ (t : ℕ). Reflects book.opening book.opened book.first book.capacity (book.made ++ record { time = t; step = one.step } ∷ []) t (max before.last floor + 1) (bytes + (if ruling.status == 200 then new_bytes call.act else 0)) (files_in after)) again
-    (keeps-step book.opening book.opened book.first book.capacity book.made later before.last bytes mid (files_in after) mid_keeps call pass floor moment ruling m steps') in
+    let ticked = keeps-tick book.begin book.made book.time before.last live (files_in before) stands.keeps moment m in
+    let mid_keeps : Reflects book.begin book.made later before.last live mid = keeps-gone purged book.begin book.made later before.last live before.rack.files.items before.rack.locks.files ticked in
+    let mid_agrees : Agrees book.only start now (files_of book.begin.first mid) (torn_in mid) =
+    agrees-state book.only start now (files_of book.begin.first (files_in before)) (files_of book.begin.first mid) (torn_in (files_in before)) (torn_in mid)
+    (λ name. contents_any book.begin.first before.rack.files.items (all_gone purged later before.rack.locks.files) before.rack.locks.files name)
+    (λ name. torn_any before.rack.files.items before.rack.locks.files (all_gone purged later before.rack.locks.files) name) stands.folder in
+    let most = book.begin.first + (book.begin.last + length book.made) in
+    let mid_within : AreWithin most mid = within_any most before.rack.files.items before.rack.locks.files (all_gone purged later before.rack.locks.files) stands.within in
+    let contents : (files_of book.begin.first mid call.name).contents ≡ (files_of book.begin.first (files_in before) call.name).contents =
+    contents_any book.begin.first before.rack.files.items (all_gone purged later before.rack.locks.files) before.rack.locks.files call.name in
+    let grows : after.live + bytes_of (files_of book.begin.first mid call.name).contents ≡ live + bytes_of (files_of book.begin.first (files_in after) call.name).contents =
+    ap (λ (o : Option (List ℕ)). after.live + bytes_of o) contents
+    ∙ subst (λ (n : ℕ). after.live + bytes_of (files_of n (files_in before) call.name).contents ≡ live + bytes_of (files_of n (files_in after) call.name).contents) (sym first) takes.live in
+    let stepped : Reflects book.begin (book.made ++ one ∷ []) later (max before.last floor + 1) after.live (files_in after) =
+    subst (λ (t : ℕ). Reflects book.begin (book.made ++ record { time = t; step = one.step } ∷ []) t (max before.last floor + 1) after.live (files_in after)) again
+    (keeps-step book.begin book.made later before.last live after.live mid (files_in after) mid_keeps call pass floor moment ruling m steps' grows) in
+    let calls : book.limits.calls ≡ old.calls = ap (λ (l : Limits). l.calls) limits in
+    let ids : book.limits.ids ≡ before.ids = ap (λ (l : Limits). l.ids) limits in
+    let counted : places_at (max before.time moment) before.rack.locks.files ≡ live_ids (found_at book.begin (history_of book.made book.time) moment).files =
+    ap (λ (t : ℕ). places_at t before.rack.locks.files) same_time
+    ∙ places_are book.begin book.made book.time before.last live before.rack.files.items before.rack.locks.files stands.keeps stands.once tied.once tied.locked.beyond moment in
+    let wants : decision (settled (files_of book.begin.first (files_in before) call.name) later) call book.begin.opened later ≡ Accept
+        → begins_lock (settled (files_of book.begin.first (files_in before) call.name) later) call.act ≡ true → live_ids (found_at book.begin (history_of book.made book.time) moment).files < book.limits.ids =
+    λ accepts locks. less_by book.limits.ids (live_ids (found_at book.begin (history_of book.made book.time) moment).files) (λ all. room (inr (inr (
+      subst (λ (n : ℕ). WantsPlace (files_of n (files_in before) call.name) call before.opened (max before.time moment)) first
+          (subst (λ (o : ℕ). WantsPlace (files_of book.begin.first (files_in before) call.name) call o (max before.time moment)) opened
+          (subst (λ (t : ℕ). WantsPlace (files_of book.begin.first (files_in before) call.name) call book.begin.opened t) (sym same_time) (accepts, locks))),
+      omega (arith, all, counted, ids),
+    )))) in
+    let took : (has_call book.limits.calls (length book.made) && has_stamp book.limits.calls (max floor before.last)) ≡ true =
+    subst (λ (c : Option ℕ). (has_call c (length book.made) && has_stamp c (max floor before.last)) ≡ true) (sym calls)
+    (subst (λ (l : List Made). (has_call old.calls (length l) && has_stamp old.calls (max floor before.last)) ≡ true) (sym makes)
+    (taken_by (takes_call old (max floor before.last)) (λ e. room (inl e)))) in
+    let longer = made_long book.made (made_by before call pass floor moment ruling) in
     record {
       keeps =
-          subst (λ (x : Made). Reflects book.opening book.opened book.first book.capacity (book.made ++ x ∷ []) later after.last after.bytes (files_in after)) same
-          (subst (λ (l : ℕ). Reflects book.opening book.opened book.first book.capacity (book.made ++ one ∷ []) later l after.bytes (files_in after)) (sym takes.last)
-          (subst (λ (b : ℕ). Reflects book.opening book.opened book.first book.capacity (book.made ++ one ∷ []) later (max before.last floor + 1) b (files_in after)) (sym takes.kept) stepped));
-      folder = agrees-step book.first book.only start now now' mid (files_in after) call book.opened later ruling mid_agrees own steps stores;
+          subst (λ (x : Made). Reflects book.begin (book.made ++ x ∷ []) later after.last after.live (files_in after)) same
+          (subst (λ (l : ℕ). Reflects book.begin (book.made ++ one ∷ []) later l after.live (files_in after)) (sym takes.last) stepped);
+      folder = agrees-step book.begin.first book.only start now now' mid (files_in after) call book.begin.opened later ruling mid_agrees own steps stores;
       faults = rose-step began count count' book.made (made_by before call pass floor moment ruling) stands.faults le fault;
       timely = λ h.
-          subst (λ (x : Made). GoesByEntries book.opened (book.made ++ x ∷ []) (max book.time moment)) same (goes-push book.opened book.made one book.time (stands.timely h) refl);
+          subst (λ (x : Made). GoesByEntries book.begin.now (book.made ++ x ∷ []) (max book.time moment)) same (goes-push book.begin.now book.made one book.time (stands.timely h) refl);
       within =
-          let more : book.first + length book.made + 1 ≡ book.first + length (book.made ++ made_by before call pass floor moment ruling ∷ []) = let long = made_long book.made (made_by before call pass floor moment ruling) in omega (arith, long) in
-          let above : before.first ≤ book.first + length book.made = omega (arith, first) in
+          let more : most + 1 ≡ book.begin.first + (book.begin.last + length made') = omega (arith, longer) in
+          let above : before.first ≤ most = omega (arith, first) in
           subst (λ (n : ℕ). AreWithin n (files_in after)) more
-          (takes.within (book.first + length book.made) above (subst (AreWithin (book.first + length book.made)) (sym mid_is) mid_within));
+          (takes.within most above (subst (AreWithin most) (sym mid_is) mid_within));
       number = stands.number;
-      few =
-          let more = made_long book.made (made_by before call pass floor moment ruling) in
-          let old = stands.few in
-          let grown = takes.few in
-          let was = long_joined before.rack.files.items before.rack.locks.files in
-          let is = long_joined after.rack.files.items after.rack.locks.files in
-          omega (arith, more, old, grown, was, is);
-      places = let more = made_long book.made (made_by before call pass floor moment ruling) in let old = stands.places in below_full (length book.made) _ book.capacity more old room;
+      few = let few = takes.few in let is = long_joined after.rack.files.items after.rack.locks.files in omega (arith, few, is);
+      places = within_more book.limits.calls (length book.made) (max floor before.last) took (length made') longer;
+      low = low_more book.limits.calls (length book.made) (max floor before.last) took book.begin.last before.last after.last (let is = takes.last in omega (arith, is)) stands.low;
+      room = subst (λ (x : Made). live_ids (left_of book.begin (history_of (book.made ++ x ∷ []) later)).files ≤ book.limits.ids) same
+          (fits-step book.begin book.made book.time before.last live (files_in before) stands.keeps call pass floor moment ruling m book.limits.ids stands.room wants);
+      kept = takes.kept;
+      once = stands.once;
     }
 
 -- and after one that was refused
 pub stands-stays : {F : Type 0} (book : Book F) (before after : Ledger) (old new : Notes) (start now now' : Option Files) (began count count' : ℕ) (folder' : F)
-    → Stands book before.last (files_in before) before.bytes start now began count
-    → book.first ≡ before.first → Stays before after old new → folder.Keeps now now' → count ≤ count'
-    → Stands (record book { folder = folder' }) after.last (files_in after) after.bytes start now' began count'
+    → Stands book before.last (files_in before) before.live start now began count
+    → book.begin.first ≡ before.first → Stays before after old new → folder.Keeps now now' → count ≤ count'
+    → Stands (record book { folder = folder' }) after.last (files_in after) after.live start now' began count'
 stands-stays book before after old new start now now' began count count' folder' stands first stays keeps le =
-    let same : ShowsSame book.first (files_in before) (files_in after) = subst (λ (n : ℕ). ShowsSame n (files_in before) (files_in after)) (sym first) stays.files in
+    let same : ShowsSame book.begin.first (files_in before) (files_in after) = subst (λ (n : ℕ). ShowsSame n (files_in before) (files_in after)) (sym first) stays.files in
     record {
       keeps =
-          subst (λ (l : ℕ). Reflects book.opening book.opened book.first book.capacity book.made book.time l after.bytes (files_in after)) (sym stays.last)
-          (subst (λ (v : ℕ). Reflects book.opening book.opened book.first book.capacity book.made book.time before.last v (files_in after)) (sym stays.kept)
-          (keeps-stays book.opening book.opened book.first book.capacity book.made book.time before.last before.bytes (files_in before) (files_in after) stands.keeps same));
-      folder = agrees-stays book.first book.only start now now' (files_in before) (files_in after) stands.folder same keeps;
+          subst (λ (l : ℕ). Reflects book.begin book.made book.time l after.live (files_in after)) (sym stays.last)
+          (subst (λ (v : ℕ). Reflects book.begin book.made book.time before.last v (files_in after)) (sym stays.live)
+          (keeps-stays book.begin book.made book.time before.last before.live (files_in before) (files_in after) stands.keeps same));
+      folder = agrees-stays book.begin.first book.only start now now' (files_in before) (files_in after) stands.folder same keeps;
       faults = rose-stays began (faults_in book.made) count count' stands.faults le;
       timely = stands.timely;
-      within = stays.within (book.first + length book.made) stands.within;
+      within = stays.within (book.begin.first + (book.begin.last + length book.made)) stands.within;
       number = stands.number;
       few =
           let old = stands.few in
@@ -210,50 +265,56 @@ stands-stays book before after old new start now now' began count count' folder'
           let is = long_joined after.rack.files.items after.rack.locks.files in
           omega (arith, old, same, was, is);
       places = stands.places;
+      low = subst (IsLow book.limits.calls book.begin.last) (sym stays.last) stands.low;
+      room = stands.room;
+      kept = let kept = stands.kept in let is = stays.live in omega (arith, kept, is);
+      once = stands.once;
     }
 
 -- what holds of every shard
 pub lawful : {F : Type 0} (book : Book F) (last : ℕ) (files : List Whole) (bytes : ℕ) (start now : Option Files) (began count : ℕ)
     → Stands book last files bytes start now began count → IsLawful book start now began count
 lawful book last files bytes start now began count stands = record {
-  legal = Legal-tick book.opening book.opened book.first (items_of book.made) book.time stands.keeps.legal;
-  folder = agrees-state book.only start now (files_of book.first files) (state_of book.opening book.opened book.first book.made book.time).files (torn_in files) (is_torn book.made)
+  legal = Legal-tick book.begin (items_of book.made) book.time stands.keeps.legal;
+  folder = agrees-state book.only start now (files_of book.begin.first files) (state_of book.begin book.made book.time).files (torn_in files) (is_torn book.made)
       (λ name. sym (ap (λ (f : File). f.contents) (stands.keeps.shows name))) stands.keeps.torn stands.folder;
   faults = stands.faults;
   timely = stands.timely;
-  alone = λ h. legal-untimed book.opening book.opened book.first book.made book.time (stands.timely h).timely
-      (Legal-tick book.opening book.opened book.first (items_of book.made) book.time stands.keeps.legal);
+  alone = λ h. legal-untimed book.begin book.made book.time (stands.timely h).timely
+      (Legal-tick book.begin (items_of book.made) book.time stands.keeps.legal);
 }
+
+abbrev limits_of : Option ℕ → ℕ → Limits
+limits_of calls ids = record { calls = calls; ids = ids }
+
+same_limits : (calls calls' : Option ℕ) (ids ids' : ℕ) → calls ≡ calls' → ids ≡ ids' → limits_of calls ids ≡ limits_of calls' ids'
+same_limits calls calls' ids ids' c n = λ i. record { calls = c i; ids = n i }
 
 -- the book with a step is that of the parts after it
 pub book_step : {F : Type 0} (book : Book F) (before after : Ledger) (old new : Notes) (call : Call) (pass floor moment : ℕ) (ruling : Ruling) (folder' : F)
-    → book.opening ≡ old.opening → book.opened ≡ before.opened → book.first ≡ before.first → book.capacity ≡ before.capacity → book.made ≡ old.made → book.time ≡ before.time
+    → book.begin ≡ old.begin → book.limits ≡ record { calls = old.calls; ids = before.ids } → book.made ≡ old.made → book.time ≡ before.time
     → Takes before after old new call pass floor moment ruling
     → (record book { made = book.made ++ made_by before call pass floor moment ruling ∷ []; time = max book.time moment; folder = folder' })
-    ≡ record { only = book.only; opening = new.opening; opened = after.opened; first = after.first; capacity = after.capacity; made = new.made; time = after.time; ticked = book.ticked; start = book.start; folder = folder' }
-book_step book before after old new call pass floor moment ruling folder' opening opened first capacity made time takes =
-    let opening' = opening ∙ sym takes.keeps.opening in
-    let opened' = opened ∙ sym takes.opened in
-    let first' = first ∙ sym takes.first in
-    let capacity' = capacity ∙ sym takes.capacity in
+    ≡ record { only = book.only; begin = new.begin; limits = record { calls = new.calls; ids = after.ids }; made = new.made; time = after.time; ticked = book.ticked; start = book.start; folder = folder' }
+book_step book before after old new call pass floor moment ruling folder' begin limits made time takes =
+    let begin' = begin ∙ sym takes.keeps.begin in
+    let limits' : book.limits ≡ record { calls = new.calls; ids = after.ids } = limits ∙ same_limits old.calls new.calls before.ids after.ids (sym takes.keeps.calls) (sym takes.ids) in
     let made' : book.made ++ made_by before call pass floor moment ruling ∷ [] ≡ new.made =
     ap (λ (m : List Made). m ++ made_by before call pass floor moment ruling ∷ []) made ∙ sym takes.entries in
     let time' : max book.time moment ≡ after.time = ap (λ (t : ℕ). max t moment) time ∙ sym takes.time in
-    λ i. record { only = book.only; opening = opening' i; opened = opened' i; first = first' i; capacity = capacity' i; made = made' i; time = time' i; ticked = book.ticked; start = book.start; folder = folder' }
+    λ i. record { only = book.only; begin = begin' i; limits = limits' i; made = made' i; time = time' i; ticked = book.ticked; start = book.start; folder = folder' }
 
 pub book_stays : {F : Type 0} (book : Book F) (before after : Ledger) (old new : Notes) (folder' : F)
-    → book.opening ≡ old.opening → book.opened ≡ before.opened → book.first ≡ before.first → book.capacity ≡ before.capacity → book.made ≡ old.made → book.time ≡ before.time
+    → book.begin ≡ old.begin → book.limits ≡ record { calls = old.calls; ids = before.ids } → book.made ≡ old.made → book.time ≡ before.time
     → Stays before after old new
     → (record book { folder = folder' })
-    ≡ record { only = book.only; opening = new.opening; opened = after.opened; first = after.first; capacity = after.capacity; made = new.made; time = after.time; ticked = book.ticked; start = book.start; folder = folder' }
-book_stays book before after old new folder' opening opened first capacity made time stays =
-    let opening' = opening ∙ sym stays.noted.opening in
-    let opened' = opened ∙ sym stays.opened in
-    let first' = first ∙ sym stays.first in
-    let capacity' = capacity ∙ sym stays.capacity in
+    ≡ record { only = book.only; begin = new.begin; limits = record { calls = new.calls; ids = after.ids }; made = new.made; time = after.time; ticked = book.ticked; start = book.start; folder = folder' }
+book_stays book before after old new folder' begin limits made time stays =
+    let begin' = begin ∙ sym stays.noted.begin in
+    let limits' : book.limits ≡ record { calls = new.calls; ids = after.ids } = limits ∙ same_limits old.calls new.calls before.ids after.ids (sym stays.noted.calls) (sym stays.ids) in
     let made' = made ∙ sym stays.noted.made in
     let time' = time ∙ sym stays.time in
-    λ i. record { only = book.only; opening = opening' i; opened = opened' i; first = first' i; capacity = capacity' i; made = made' i; time = time' i; ticked = book.ticked; start = book.start; folder = folder' }
+    λ i. record { only = book.only; begin = begin' i; limits = limits' i; made = made' i; time = time' i; ticked = book.ticked; start = book.start; folder = folder' }
 
 pub rose-begin : (began count : ℕ) → began ≤ count → RoseBy began (faults_in []) count
 rose-begin began count le = omega (arith, le)
@@ -261,24 +322,31 @@ rose-begin began count le = omega (arith, le)
 -- when time goes on, and the locks that are over have ended
 pub stands-tick : {F : Type 0} (book : Book F) (ledger : Ledger) (start now : Option Files) (began count moment time : ℕ) (ss : List Standing) (ticked : Bool) → IsMoment moment
     → time ≡ max book.time moment → ss ≡ all_ended time ledger.rack.locks.files → ticked ≡ true
-    → Stands book ledger.last (files_in ledger) ledger.bytes start now began count
-    → Stands (record book { time = time; ticked = ticked }) ledger.last (joined ledger.rack.files.items ss) ledger.bytes start now began count
+    → Stands book ledger.last (files_in ledger) ledger.live start now began count
+    → Stands (record book { time = time; ticked = ticked }) ledger.last (joined ledger.rack.files.items ss) ledger.live start now began count
 stands-tick book ledger start now began count moment time ss ticked m time_is ss_is ticks stands =
     let files = ledger.rack.files.items in
-    let ended = all_ended time ledger.rack.locks.files in
-    let bytes = ledger.bytes in
-    let passed : Reflects book.opening book.opened book.first book.capacity book.made time ledger.last bytes (files_in ledger) =
-    subst (λ (t : ℕ). Reflects book.opening book.opened book.first book.capacity book.made t ledger.last bytes (files_in ledger)) (sym time_is)
-    (keeps-tick book.opening book.opened book.first book.capacity book.made book.time ledger.last bytes (files_in ledger) stands.keeps moment m) in
+    let live = ledger.live in
+    let passed : Reflects book.begin book.made time ledger.last live (files_in ledger) =
+    subst (λ (t : ℕ). Reflects book.begin book.made t ledger.last live (files_in ledger)) (sym time_is)
+    (keeps-tick book.begin book.made book.time ledger.last live (files_in ledger) stands.keeps moment m) in
     record {
-      keeps = subst (λ (l : List Standing). Reflects book.opening book.opened book.first book.capacity book.made time ledger.last bytes (joined files l)) (sym ss_is)
-          (keeps-ended book.opening book.opened book.first book.capacity book.made time ledger.last bytes files ledger.rack.locks.files passed);
-      folder = agrees-state book.only start now (files_of book.first (files_in ledger)) (files_of book.first (joined files ss)) (torn_in (files_in ledger)) (torn_in (joined files ss))
-          (λ name. contents_any book.first files ss ledger.rack.locks.files name) (λ name. torn_any files ledger.rack.locks.files ss name) stands.folder;
+      keeps = subst (λ (l : List Standing). Reflects book.begin book.made time ledger.last live (joined files l)) (sym ss_is)
+          (keeps-gone false book.begin book.made time ledger.last live files ledger.rack.locks.files passed);
+      folder = agrees-state book.only start now (files_of book.begin.first (files_in ledger)) (files_of book.begin.first (joined files ss)) (torn_in (files_in ledger)) (torn_in (joined files ss))
+          (λ name. contents_any book.begin.first files ss ledger.rack.locks.files name) (λ name. torn_any files ledger.rack.locks.files ss name) stands.folder;
       faults = stands.faults;
       timely = λ h. absurd (cc (h, ticks));
-      within = within_any (book.first + length book.made) files ledger.rack.locks.files ss stands.within;
+      within = within_any (book.begin.first + (book.begin.last + length book.made)) files ledger.rack.locks.files ss stands.within;
       number = stands.number;
       few = let few = stands.few in let was = long_joined files ledger.rack.locks.files in let is = long_joined files ss in omega (arith, few, was, is);
       places = stands.places;
+      low = stands.low;
+      room =
+          let less = fits-tick book.begin book.made book.time moment in
+          let fits = stands.room in
+          let is = ap (λ (t : ℕ). live_ids (left_of book.begin (history_of book.made t)).files) time_is in
+          omega (arith, less, fits, is);
+      kept = stands.kept;
+      once = stands.once;
     }

@@ -1,6 +1,7 @@
 -- What a step makes of the locks.
-use Rattle.std.proofs.Common.{◌≡◌, ◌≢◌, inl, inr, ◌<◌, ◌≤◌, ℕ, zero, suc, Bool, true, false, if◌then◌else◌, List, [], ◌∷◌, ◌++◌, length, Option, None, Some, is_some, option_map, unwrap_or, nat_le, ◌+◌, refl, sym, ap, subst, ◌∙◌, arith, slice_get}
+use Rattle.std.proofs.Common.{◌≡◌, ◌≢◌, ◌⊎◌, inl, inr, ◌<◌, ◌≤◌, ℕ, zero, suc, Bool, true, false, if◌then◌else◌, List, [], ◌∷◌, ◌++◌, length, map, Option, None, Some, is_some, option_map, unwrap_or, nat_le, ◌+◌, refl, sym, ap, subst, ◌∙◌, arith, slice_get}
 use Rattle.std.proofs.lemmas.Bool.Decides.{eqb_tells, nat_tests}
+use Rattle.std.proofs.lemmas.List.{length-map}
 use Rattle.std.proofs.lemmas.Option.{slice_get-map, none-some}
 use Rattle.std.specs.Str.{bytes_eq}
 use Rattle.wopi_model.specs.declared.locks.Lock.{Lock}
@@ -17,13 +18,14 @@ use Rattle.lock_machine.specs.Changes.{held_as, left_by, spent_as, taken_by}
 use Rattle.lock_machine.specs.declared.change.Change.{Change}
 use Rattle.lock_machine.specs.declared.change.Change.TheVariants as change
 use Rattle.wopi_model.specs.Moment.{lock_life}
-use Rattle.wopi_model.specs.Settle.{standing, is_over}
-use Rattle.kept_locks.specs.Locks.{Standing, Locks, unlocked, ended_at, all_ended, stepped, with_lock}
+use Rattle.wopi_model.specs.Settle.{standing, is_over, with_spent}
+use Rattle.wopi_model.proofs.Settling.{still-still}
+use Rattle.kept_locks.specs.Locks.{Standing, Locks, unlocked, ended_at, purged_at, all_ended, all_purged, stepped, with_lock}
 use Rattle.kept_locks.specs.Ties.{BeganBy, GoesOn, Spends, renewed, renewed_at}
 use Rattle.host_core.specs.Effects.{taken_of}
-use Rattle.host_core.specs.Turns.{LockFollows, AllStand, AreAsOf}
+use Rattle.host_core.specs.Turns.{LockFollows, AllStand, AreAsOf, all_gone, gone_at}
 use Rattle.host_core.specs.Whole.{standing_at}
-use Rattle.host_core.proofs.Joining.{stands_at, stands_ended}
+use Rattle.host_core.proofs.Joining.{stands_at, stands_ended, stands_gone}
 
 pub follows_same : (lock : Option Lock) (now : ℕ) → LockFollows lock lock now
 follows_same None now = tt
@@ -50,28 +52,48 @@ stood (Some lock) now one e = go (is_over lock now) e where
   go true h = cc
   go false h = h
 
-mapped : (now : ℕ) (o : Option Standing) (file : Standing) → option_map (ended_at now) o ≡ Some file → (s : Standing) × (o ≡ Some s) × (ended_at now s ≡ file)
-mapped now None file e = absurd (cc)
-mapped now (Some s) file e = (s, refl, cc)
+-- a change of what stands leaves the lock or ends it
+module _ (change : Standing → Standing) (moment : ℕ) (ends : (s : Standing) (lock : Lock) → (change s).lock ≡ Some lock → s.lock ≡ Some lock) where
+  mapped : (o : Option Standing) (file : Standing) → option_map change o ≡ Some file → (s : Standing) × (o ≡ Some s) × (change s ≡ file)
+  mapped None file e = absurd (cc)
+  mapped (Some s) file e = (s, refl, cc)
+
+  began_changed : (ss : List Standing) → BeganBy moment ss → BeganBy moment (map change ss)
+  began_changed ss began = λ number file lock at is.
+      let (s, there, changed) = mapped (slice_get ss number) file (sym (slice_get-map change ss number) ∙ at) in
+      began number s lock there (ends s lock (ap (λ (x : Standing). x.lock) changed ∙ is))
 
 -- locks that end are no longer there
 pub began_ended : (ss : List Standing) (now moment : ℕ) → BeganBy moment ss → BeganBy moment (all_ended now ss)
-began_ended ss now moment began = λ number file lock at is.
-    let (s, there, ended) = mapped now (slice_get ss number) file (sym (slice_get-map (ended_at now) ss number) ∙ at) in
-    began number s lock there (stood s.lock now lock (ap (λ (x : Standing). x.lock) ended ∙ is))
+began_ended ss now moment began = began_changed (ended_at now) moment (λ s lock. stood s.lock now lock) ss began
 
-there_ended : (ss : List Standing) (number now : ℕ) → number < length ss → slice_get (all_ended now ss) number ≡ Some (ended_at now (standing_at ss number))
-there_ended ss number now lt = slice_get-map (ended_at now) ss number ∙ ap (option_map (ended_at now)) (stands_at ss number lt)
+pub began_gone : (purged : Bool) (ss : List Standing) (now moment : ℕ) → BeganBy moment ss → BeganBy moment (all_gone purged now ss)
+began_gone false ss now moment began = began_ended ss now moment began
+began_gone true ss now moment began = began_changed (purged_at now) moment (λ s lock is. is) (all_ended now ss) (began_ended ss now moment began)
 
-pub goes_on : (ss : List Standing) (number now : ℕ) (lock : Option Lock) → number < length ss → BeganBy now ss → LockFollows (standing (standing_at ss number).lock now) lock now → GoesOn (all_ended now ss) number lock
-goes_on ss number now None lt began follows = tt
-goes_on ss number now (Some lock) lt began follows = go (standing (standing_at ss number).lock now) refl follows where
-  new : lock.since ≡ now → GoesOn (all_ended now ss) number (Some lock)
-  new e = inr (subst (λ (m : ℕ). BeganBy m (all_ended now ss)) (sym e) (began_ended ss now now began))
+pub long_gone : (purged : Bool) (now : ℕ) (ss : List Standing) → length (all_gone purged now ss) ≡ length ss
+long_gone false now ss = length-map ss (ended_at now)
+long_gone true now ss = length-map (all_ended now ss) (purged_at now) ∙ length-map ss (ended_at now)
 
-  go : (old : Option Lock) → standing (standing_at ss number).lock now ≡ old → LockFollows old (Some lock) now → GoesOn (all_ended now ss) number (Some lock)
+pub lock_gone : (purged : Bool) (now : ℕ) (s : Standing) → (gone_at purged now s).lock ≡ standing s.lock now
+lock_gone false now s = refl
+lock_gone true now s = refl
+
+there_gone : (purged : Bool) (ss : List Standing) (number now : ℕ) → number < length ss → slice_get (all_gone purged now ss) number ≡ Some (gone_at purged now (standing_at ss number))
+there_gone purged ss number now lt =
+    let long = long_gone purged now ss in
+    stands_at (all_gone purged now ss) number (omega (arith, lt, long)) ∙ ap (λ (s : Standing). Some s) (stands_gone purged now ss number)
+
+pub goes_on : (purged : Bool) (ss : List Standing) (number now : ℕ) (lock : Option Lock) → number < length ss → BeganBy now ss → LockFollows (standing (standing_at ss number).lock now) lock now
+    → GoesOn (all_gone purged now ss) number lock
+goes_on purged ss number now None lt began follows = tt
+goes_on purged ss number now (Some lock) lt began follows = go (standing (standing_at ss number).lock now) refl follows where
+  new : lock.since ≡ now → GoesOn (all_gone purged now ss) number (Some lock)
+  new e = inr (subst (λ (m : ℕ). BeganBy m (all_gone purged now ss)) (sym e) (began_gone purged ss now now began))
+
+  go : (old : Option Lock) → standing (standing_at ss number).lock now ≡ old → LockFollows old (Some lock) now → GoesOn (all_gone purged now ss) number (Some lock)
   go None e h = new h
-  go (Some held) e (inl same) = inl (ended_at now (standing_at ss number), held, there_ended ss number now lt, e, same)
+  go (Some held) e (inl same) = inl (gone_at purged now (standing_at ss number), held, there_gone purged ss number now lt, lock_gone purged now (standing_at ss number) ∙ e, same)
   go (Some held) e (inr h) = new h
 
 pub stands_set : (ss : List Standing) (number : ℕ) (lock : Option Lock) (spend : Option Spent) (now : ℕ) → number < length ss
@@ -152,12 +174,21 @@ renewed_stands : (since until number : ℕ) (ss : List Standing) → number < le
 renewed_stands since until number ss lt = ap (λ (o : Option Standing). option_and_then (λ file. option_map (renewed since until) file.lock) o) (stands_at ss number lt)
 
 -- what becomes of a lock, where those that are over have ended
-pub left_ended : (old : List Standing) (number now : ℕ) (becomes : Change) (taken : Option (List ℕ))
-    → left_by becomes (standing_at (all_ended now old) number).lock taken ≡ left_by becomes (standing (standing_at old number).lock now) taken
-left_ended old number now becomes taken = ap (λ (s : Standing). left_by becomes s.lock taken) (stands_ended now old number)
+pub left_gone : (purged : Bool) (old : List Standing) (number now : ℕ) (becomes : Change) (taken : Option (List ℕ))
+    → left_by becomes (standing_at (all_gone purged now old) number).lock taken ≡ left_by becomes (standing (standing_at old number).lock now) taken
+left_gone purged old number now becomes taken =
+    ap (λ (s : Standing). left_by becomes s.lock taken) (stands_gone purged now old number) ∙ ap (λ (l : Option Lock). left_by becomes l taken) (lock_gone purged now (standing_at old number))
 
-pub spent_ended : (old : List Standing) (number now : ℕ) (until : Option ℕ) → spent_as (standing_at (all_ended now old) number).lock until ≡ spent_as (standing (standing_at old number).lock now) until
-spent_ended old number now until = ap (λ (s : Standing). spent_as s.lock until) (stands_ended now old number)
+pub spent_gone : (purged : Bool) (old : List Standing) (number now : ℕ) (until : Option ℕ)
+    → spent_as (standing_at (all_gone purged now old) number).lock until ≡ spent_as (standing (standing_at old number).lock now) until
+spent_gone purged old number now until =
+    ap (λ (s : Standing). spent_as s.lock until) (stands_gone purged now old number) ∙ ap (λ (l : Option Lock). spent_as l until) (lock_gone purged now (standing_at old number))
+
+-- a step leaves the same, whether ids have gone or not
+pub stepped_gone : (purged : Bool) (lock : Option Lock) (spend : Option Spent) (now : ℕ) (s : Standing) → stepped lock spend now (gone_at purged now s) ≡ stepped lock spend now (ended_at now s)
+stepped_gone false lock spend now s = refl
+stepped_gone true lock spend now s =
+    ap (λ (l : List Spent). record { lock = lock; spent = with_spent spend l }) (still-still (ended_at now s).spent now now (omega arith))
 
 no_moment : (until : Option ℕ) → is_some until ≡ false → until ≡ None
 no_moment None e = refl
@@ -226,6 +257,17 @@ pub stand_ended : (ss : List Standing) (now : ℕ) → AllStand now (all_ended n
 stand_ended ss now number =
     let is = stands_ended now ss number in
     ap (λ (s : Standing). standing s.lock now) is ∙ stands_twice (standing_at ss number).lock now ∙ sym (ap (λ (s : Standing). s.lock) is)
+
+pub stand_gone : (purged : Bool) (ss : List Standing) (now : ℕ) → AllStand now (all_gone purged now ss)
+stand_gone purged ss now number =
+    let is = stands_gone purged now ss number in
+    let lock : (standing_at (all_gone purged now ss) number).lock ≡ standing (standing_at ss number).lock now = ap (λ (s : Standing). s.lock) is ∙ lock_gone purged now (standing_at ss number) in
+    ap (λ (l : Option Lock). standing l now) lock ∙ stands_twice (standing_at ss number).lock now ∙ sym lock
+
+-- which of both made place
+pub gone_by : (old new : List Standing) (now : ℕ) → (new ≡ all_ended now old) ⊎ (new ≡ all_purged now (all_ended now old)) → (purged : Bool) × (new ≡ all_gone purged now old)
+gone_by old new now (inl e) = (false, e)
+gone_by old new now (inr e) = (true, e)
 
 -- nor when one of them became another one
 pub stand_set : (ss : List Standing) (number : ℕ) (lock : Option Lock) (spend : Option Spent) (now : ℕ) → number < length ss → standing lock now ≡ lock → AllStand now ss

@@ -151,20 +151,6 @@ fn copy_file(alloc: Global, file: &KeptFile) -> Result<OpeningFile, Memory>
     })
 }
 
-/// How many bytes the files have.
-fn size_of(files: &[KeptFile]) -> u64
-    requires { sum_by (λ file. length file.1) (opening_listed files.now) < 2 ^ 64 }
-    ensures { result ≡ sum_by (λ file. length file.1) (opening_listed files.now) }
-{
-    let mut size = 0;
-    for file in files {
-        if let Some(contents) = &file.contents {
-            size += contents.as_slice().len() as u64;
-        }
-    }
-    size
-}
-
 /// The files as they stand at the opening, whose contents they share.
 fn copy_files(alloc: Global, files: &[KeptFile]) -> Result<Vec<OpeningFile>, Memory>
     ensures { IfOk result (λ copies. files_listed copies.items ≡ opening_listed files.now) }
@@ -210,6 +196,7 @@ impl<F: Folder> Store for Kept<F> {
         &mut self,
         alloc: Global,
         opening: &Vec<KeptFile>,
+        bytes: u64,
         opened: u64,
         first: u64,
         calls: u32,
@@ -226,7 +213,7 @@ impl<F: Folder> Store for Kept<F> {
         self.opened = opened;
         self.first = first;
         self.calls = calls;
-        self.bytes = size_of(opening);
+        self.bytes = bytes;
         self.entries = entries;
         self.saved = None;
         Ok(())
@@ -280,7 +267,10 @@ impl<F: Folder> Store for Kept<F> {
     }
 
     fn takes_call(&self, stamp: u64) -> bool {
-        self.entries.len() < self.calls as u64 && stamp < u64::MAX
+        if self.entries.len() >= self.calls as u64 {
+            return false;
+        }
+        stamp < u64::MAX
     }
 
     fn takes_bytes(&self, size: u64) -> bool {

@@ -1,5 +1,5 @@
 //! A folder in which a shard's entries are noted.
-ghost use Rattle.std.specs.Prelude.{◌≡◌, ◌≤◌, ◌++◌, ◌∷◌, [], length, sum_by, true, None, Some, Option, ℕ, Err, IfOk, OnOk, OnErr, IsErrOf};
+ghost use Rattle.std.specs.Prelude.{◌≡◌, ◌≤◌, ◌++◌, ◌∷◌, [], length, sum_by, true, IfSome, None, Some, Option, ℕ, Err, IfOk, OnOk, OnErr, IsErrOf};
 ghost use Rattle.outside.specs.Faults.{Rose};
 ghost use Rattle.outside.specs.Folder.{Keeps, Replaces, OpensOnly, Removes};
 ghost use Rattle.host_core.specs.Entries.{Asked, asked_as, ruled};
@@ -27,20 +27,23 @@ pub trait Store: Folder {
     /// How many entries it takes, where it is opened for that number of calls. A store that keeps none has no bound.
     ghost bound: { ℕ → Option ℕ };
 
-    /// Begins anew with the files of an opening, and takes the room for the entries of so many calls where it keeps them.
+    /// Begins anew with the files of an opening, which have so many bytes, and takes the room for the entries of so many calls where it keeps them.
     fn open(
         &mut self,
         alloc: Global,
         opening: &Vec<KeptFile>,
+        bytes: u64,
         opened: u64,
         first: u64,
         calls: u32,
     ) -> Result<(), Memory>
-        requires fits { sum_by (λ file. length file.1) (opening_listed opening.now.items) ≤ most_kept }
+        requires size { bytes ≡ sum_by (λ file. length file.1) (opening_listed opening.now.items) }
+        requires fits { bytes ≤ most_kept }
         ensures begin { OnOk result ((notes self.new).begin ≡ new_life (opening_listed opening.now.items) opened first) }
         ensures made { OnOk result ((notes self.new).made ≡ []) }
         ensures begun { OnOk result ((notes self.new).begun ≡ None) }
         ensures calls { OnOk result ((notes self.new).calls ≡ bound calls) }
+        ensures few { OnOk result (IfSome (bound calls) (λ most. most ≤ calls)) }
         ensures files { Keeps (Self.files self.old) (Self.files self.new) }
         ensures never_falls { Self.faults self.old ≤ Self.faults self.new };
 

@@ -4,7 +4,7 @@ ghost use Rattle.outside.specs.Folder.{Keeps};
 ghost use Rattle.outside.specs.Faults.{Rose};
 ghost use Rattle.wopi_model.specs.Moment.{IsMoment};
 ghost use Rattle.wopi_model.specs.Begin.{new_life};
-ghost use Rattle.wopi_model.specs.Host.{FullFrom};
+ghost use Rattle.wopi_model.specs.Host.{FullFrom, most_kept};
 ghost use Rattle.wopi_model.specs.Shard.{Opening, last_from, stamps, entries, AreNames};
 ghost use Rattle.host_core.specs.Whole.{standing_at};
 ghost use Rattle.kept_locks.specs.Locks.{unlocked};
@@ -69,7 +69,7 @@ impl<F: Store> Model for Shard<F> {
     ghost use Rattle.host_core.specs.Chains.{KeepsChains};
     ghost use Rattle.host_core.specs.Ledger.{files_in, IsTied};
 
-    ghost invariant = { λ s. Stands (book_of (F.notes s.folder) s) s.ledger.last (files_in s.ledger) s.ledger.bytes (F.files s.start.value) (F.files s.folder) (F.faults s.start.value) (F.faults s.folder) × IsTied s.ledger (F.notes s.folder) × KeepsChains s.ledger (book_of (F.notes s.folder) s) };
+    ghost invariant = { λ s. Stands (book_of (F.notes s.folder) s) s.ledger.last (files_in s.ledger) s.ledger.live (F.files s.start.value) (F.files s.folder) (F.faults s.start.value) (F.faults s.folder) × IsTied s.ledger (F.notes s.folder) × KeepsChains s.ledger (book_of (F.notes s.folder) s) };
 }
 
 impl<F: Store> Shard<F> {
@@ -118,7 +118,7 @@ impl<F: Store> Shard<F> {
             Ok(stock) => stock,
             Err(fault) => return Err((folder, fault)),
         };
-        match folder.open(alloc, &stock.files, opened, first, ids) {
+        match folder.open(alloc, &stock.files, stock.bytes, opened, first, ids) {
             Ok(()) => {}
             Err(_) => return Err((folder, StartFault::Memory)),
         }
@@ -328,6 +328,8 @@ impl<F: Store> Shard<F> {
         requires long { length stock.files.items ≤ length locks.files }
         requires room { ids < locks.room }
         requires calls { (F.notes folder).calls ≡ F.bound ids }
+        requires bounded { IfSome (F.bound ids) (λ most. most ≤ ids) }
+        requires fits { stock.bytes ≤ most_kept }
         requires made { (F.notes folder).made ≡ [] }
         requires ended { (F.notes folder).begun ≡ None }
         requires listed { (F.notes folder).begin ≡ new_life (opening_listed stock.files.items) opened first }

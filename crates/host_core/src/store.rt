@@ -40,7 +40,7 @@ pub fn take(alloc: Global, contents: &mut Bytes) -> Bytes
 }
 
 /// How many bytes there are.
-fn size_of(former: Option<&Contents>) -> u64
+pub fn size_of(former: Option<&Contents>) -> u64
     ensures { result ≡ bytes_of (option_map (λ contents. contents.now) former) }
 {
     match former {
@@ -57,7 +57,8 @@ fn has_room<F: Store>(folder: &F, live: u64, contents: &Bytes, former: Option<&C
     if !folder.takes_bytes(size) {
         return false;
     }
-    live.saturating_add(size) <= MOST_KEPT.saturating_add(size_of(former))
+    let all = u128::from(live) + u128::from(size);
+    all <= u128::from(MOST_KEPT) + u128::from(size_of(former))
 }
 
 /// Writes contents to the store, which takes them. Where it fails they stay, and an `Err` leaves the folder.

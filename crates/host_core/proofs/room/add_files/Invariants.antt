@@ -9,7 +9,7 @@ invariant-count l =
     ((number : ℕ) → standing_at l.locks.files number ≡ unlocked)
     × AreAsOf 0 l.locks
     × (l.count ≤ length l.locks.files)
-    × (l.locks.spare ≡ l.initial.locks.spare)
+    × (l.locks.room ≡ l.initial.locks.room)
 
 abbrev pub decreases-count : goal.decreases-count
 decreases-count l = l.files - l.count

@@ -1,6 +1,7 @@
 use Rattle.std.proofs.Common.{ℕ, List, ap, sym, subst, ◌∙◌, arith}
 use Rattle.name_index.specs.Index.{number_of}
-use Rattle.host_core.specs.Names.{place_in}
+use Rattle.host_core.specs.Names.{AreOnce, place_in}
+use Rattle.host_core.specs.Steps.{room_of}
 use Rattle.kept_locks.specs.Locks.{all_ended}
 use Rattle.host_core.specs.Files.{BeganAtMoment}
 use Rattle.host_core.proofs.Joining.{long_joined}
@@ -37,7 +38,7 @@ returns-in-Some-clause-long g c =
 pub returns-in-Some-clause-room : goal.returns-in-Some-clause-room
 returns-in-Some-clause-room g c =
     onok_map c.step_met.result _ _
-    (λ kept. room_raw c.args.terms.first c.args.self.now.files.items c.args.self.now.locks.files c.args.call.now.name c.args.terms.kept c.args.call.now c.args.terms.opened c.args.terms.time (kept c.args.terms.first).steps.room)
+    (λ kept. room_raw c.args.terms.first c.args.self.now.files.items c.args.self.now.locks.files (kept c.args.terms.first).purged c.args.call.now.name (room_of c.args.terms.live (g.F.Store.notes c.args.folder.now)) c.args.call.now c.args.terms.opened c.args.terms.time (kept c.args.terms.first).steps.fits)
     c.step_met.ensures.ok
 
 pub returns-in-None-clause-few : goal.returns-in-None-clause-few
@@ -55,7 +56,7 @@ returns-in-None-clause-long g c =
 pub returns-in-None-clause-room : goal.returns-in-None-clause-room
 returns-in-None-clause-room g c =
     onok_map c.step_unmet.result _ _
-    (λ kept. room_raw c.args.terms.first c.args.self.now.files.items c.args.self.now.locks.files c.args.call.now.name c.args.terms.kept c.args.call.now c.args.terms.opened c.args.terms.time kept.steps.room)
+    (λ kept. room_raw c.args.terms.first c.args.self.now.files.items c.args.self.now.locks.files kept.purged c.args.call.now.name (room_of c.args.terms.live (g.F.Store.notes c.args.folder.now)) c.args.call.now c.args.terms.opened c.args.terms.time kept.steps.fits)
     c.step_unmet.ensures.ok
 
 pub returns-in-Some-clause-ok : goal.returns-in-Some-clause-ok
@@ -67,3 +68,6 @@ returns-in-Some-clause-err g c = iferr_map c.step_met.result _ _ (λ why kept. k
 pub returns-in-Some-clause-numbered : goal.returns-in-Some-clause-numbered
 returns-in-Some-clause-numbered g c = λ name.
     ap (λ (index : List (List ℕ × ℕ)). number_of index name) c.step_met.ensures.index ∙ c.requires.numbered name ∙ sym (ap (λ (names : List (List ℕ)). place_in names name) c.step_met.ensures.names)
+
+pub returns-in-Some-clause-once : goal.returns-in-Some-clause-once
+returns-in-Some-clause-once g c = λ once. subst AreOnce (sym c.step_met.ensures.names) once

@@ -1,6 +1,7 @@
-use Rattle.std.proofs.Common.{◌≡◌, ◌≤◌, ◌^◌, ap, arith}
+use Rattle.std.proofs.Common.{◌≡◌, ◌≤◌, ◌-◌, ◌^◌, ap, arith}
 use Rattle.std.proofs.lemmas.List.{length-set}
 use Rattle.kept_locks.specs.Locks.{Locks}
+use Rattle.host_core.specs.Steps.{room_of}
 use Rattle.host_core.specs.Whole.{seen, standing_at, joined}
 use Rattle.host_core.proofs.Joining.{get_joined, long_joined}
 use Rattle.host_core.proofs.Meeting.{met_all, met_stopped, place_below, locked_turn, locked_same, within_at}
@@ -11,32 +12,32 @@ pub step_file-requires-clause-ready : goal.step_file-requires-clause-ready
 step_file-requires-clause-ready g c =
     let lt = place_below c.args.self.now.files.items c.args.self.now.locks.files c.args.call.now.name c.args.number c.requires.place in
     let long = c.requires.ready.locked.long in
-    record { here = omega (arith, lt, long); spare = c.requires.ready.spare; as_of = c.requires.ready.locked.as_of }
+    record { here = omega (arith, lt, long); places = c.requires.ready.places; room = c.requires.ready.room; as_of = c.requires.ready.locked.as_of }
 
 pub returns-in-Ok-clause-ok : goal.returns-in-Ok-clause-ok
 returns-in-Ok-clause-ok g c = λ first.
     let turns = c.in-Ok.ensures.turns in
     record {
-      steps = met_all first (g.F.Folder.files c.args.folder.now) (g.F.Folder.files c.step_file.new.folder) c.args.terms.kept (g.F.Store.notes c.args.folder.now).saved (g.F.Store.notes c.step_file.new.folder).saved
+      purged = turns.purged;
+      steps = met_all first (g.F.Folder.files c.args.folder.now) (g.F.Folder.files c.step_file.new.folder) (room_of c.args.terms.live (g.F.Store.notes c.args.folder.now)) (g.F.Store.notes c.args.folder.now).saved (g.F.Store.notes c.step_file.new.folder).saved
           (g.F.Folder.faults c.args.folder.now) (g.F.Folder.faults c.step_file.new.folder) c.args.self.now.files.items c.args.number c.index_mut-file.result.now c.step_file.new.file
           c.args.self.now.locks c.step_file.new.locks c.args.call.now c.args.terms.opened c.args.terms.time c.step_file.new.carried c.requires.place c.index_mut-file.ensures.value turns c.in-Ok.ensures.ok;
       locked = locked_turn c.args.self.now.files.items _ c.args.self.now.locks c.step_file.new.locks c.args.number c.args.terms.time c.args.terms.time c.requires.ready.locked
           (place_below c.args.self.now.files.items c.args.self.now.locks.files c.args.call.now.name c.args.number c.requires.place) (length-set c.args.self.now.files.items c.args.number _) turns;
       stand = turns.stand;
-      spare = turns.spare;
+      places = turns.room;
     }
 
 pub returns-in-Err-clause-err : goal.returns-in-Err-clause-err
 returns-in-Err-clause-err g c = λ first.
     let same = c.in-Err.ensures.same in
-    let spare : c.step_file.new.locks.spare ≡ c.args.self.now.locks.spare = ap (λ (l : Locks). l.spare) same in
     record {
-      stops = met_stopped first (g.F.Folder.files c.args.folder.now) (g.F.Folder.files c.step_file.new.folder) c.args.terms.kept (g.F.Store.notes c.args.folder.now).saved (g.F.Store.notes c.step_file.new.folder).saved
+      stops = met_stopped first (g.F.Folder.files c.args.folder.now) (g.F.Folder.files c.step_file.new.folder) (room_of c.args.terms.live (g.F.Store.notes c.args.folder.now)) (g.F.Store.notes c.args.folder.now).saved (g.F.Store.notes c.step_file.new.folder).saved
           c.args.self.now.files.items c.args.number c.index_mut-file.result.now c.step_file.new.file c.args.self.now.locks c.step_file.new.locks
           c.args.call.now c.args.terms.opened c.args.terms.time c.in-Err.why c.requires.place c.index_mut-file.ensures.value same c.in-Err.ensures.err;
       locked = λ time locked. locked_same c.args.self.now.files.items _ c.args.self.now.locks c.step_file.new.locks time (length-set c.args.self.now.files.items c.args.number _) same locked;
       stand = λ n. ap (λ (l : Locks). standing_at l.files n) same;
-      spare = omega (arith, spare);
+      places = ap (λ (l : Locks). l.room) same;
       light = c.in-Err.ensures.light;
     }
 
@@ -59,7 +60,7 @@ step_file-requires-clause-version g c =
     let ss = c.args.self.now.locks.files in
     let lt = place_below files ss c.args.call.now.name c.args.number c.requires.place in
     let long = long_joined files ss in
-    let le : c.index_mut-file.result.now.version ≤ 2 ^ 63 =
-    within_at (2 ^ 63) (joined files ss) c.args.number (seen c.index_mut-file.result.now c.args.self.now.locks c.args.number) c.requires.within
+    let le : c.index_mut-file.result.now.version ≤ 2 ^ 64 - 2 =
+    within_at (2 ^ 64 - 2) (joined files ss) c.args.number (seen c.index_mut-file.result.now c.args.self.now.locks c.args.number) c.requires.within
     (get_joined files c.args.number c.index_mut-file.result.now ss c.index_mut-file.ensures.value) (omega (arith, lt, long)) in
     omega (arith, le)

@@ -1,6 +1,6 @@
-use Rattle.std.proofs.Common.{List, sym, subst, ◌∙◌, arith}
+use Rattle.std.proofs.Common.{false, List, sym, subst, ◌∙◌, arith}
 use Rattle.kept_locks.specs.Locks.{Standing, all_ended}
-use Rattle.host_core.specs.Steps.{StepsAll}
+use Rattle.host_core.specs.Steps.{StepsAll, room_of}
 use Rattle.host_core.specs.Turns.{AllStand}
 use Rattle.host_core.specs.Whole.{joined}
 use Rattle.host_core.proofs.Absent.{absent_steps}
@@ -15,18 +15,18 @@ returns-clause-ok g c =
     let kept = c.args.self.now.files.items in
     let old = c.args.self.now.locks.files in
     let ended = all_ended c.args.terms.time old in
-    let bytes = c.args.terms.kept in
+    let room = room_of c.args.terms.live (g.F.Store.notes c.args.folder.now) in
     let v = (g.F.Store.notes c.args.folder.now).saved in
     let is = c.step_absent.ensures.locks in
-    let spare = c.step_absent.ensures.spare in
     record {
-      steps = subst (λ (l : List Standing). StepsAll c.args.terms.first files files bytes v v count count (joined kept ended) (joined kept l) c.args.call.now c.args.terms.opened c.args.terms.time c.step_absent.new.carried) (sym is)
-          (absent_steps c.args.terms.first files bytes v count (joined kept ended) c.args.call.now c.args.terms.opened c.args.terms.time c.step_absent.new.carried
+      purged = false;
+      steps = subst (λ (l : List Standing). StepsAll c.args.terms.first files files room v v count count (joined kept ended) (joined kept l) c.args.call.now c.args.terms.opened c.args.terms.time c.step_absent.new.carried) (sym is)
+          (absent_steps c.args.terms.first files room v count (joined kept ended) c.args.call.now c.args.terms.opened c.args.terms.time c.step_absent.new.carried
           (none_any kept old ended c.args.call.now.name c.requires.place) (sym c.is_create.ensures ∙ c.if-is_create.false)
           (c.step_absent.ensures.ruling c.args.terms.first) c.step_absent.ensures.back);
       locked = locked_ended kept c.args.self.now.locks c.step_absent.new.locks c.args.terms.time c.args.terms.time c.requires.ready.locked (omega arith) is c.step_absent.ensures.latest c.step_absent.ensures.chains;
       stand = subst (AllStand c.args.terms.time) (sym is) (stand_ended old c.args.terms.time);
-      spare = omega (arith, spare);
+      places = c.step_absent.ensures.room;
     }
 
 pub step_new-requires-clause-create : goal.step_new-requires-clause-create

@@ -1,7 +1,12 @@
-use Rattle.std.proofs.Common.{◌≡◌, ◌+◌, ℕ, List, [], Option, length, refl, sym, ap, subst, ◌∙◌, arith}
+use Rattle.std.proofs.Common.{◌≡◌, ◌<◌, ◌≤◌, ◌^◌, ◌+◌, max, ℕ, List, [], map, Option, IfSome, length, refl, sym, ap, subst, ◌∙◌, arith}
 use Rattle.outside.specs.Faults.{RoseBy}
-use Rattle.wopi_model.specs.Shard.{Opening}
-use Rattle.host_core.specs.Names.{AreWithin}
+use Rattle.wopi_model.specs.Begin.{Begin, new_life}
+use Rattle.wopi_model.specs.Lives.{left_of, live_ids}
+use Rattle.wopi_model.proofs.Fullness.{all-settled-ids, opening-ids}
+use Rattle.host_core.specs.Entries.{history_of}
+use Rattle.host_core.proofs.Rising.{begun_low, begun_within}
+use Rattle.host_core.specs.Opening.{IsFirstVersion}
+use Rattle.host_core.specs.Names.{AreOnce, AreWithin}
 use Rattle.host_core.specs.Entries.{Made}
 use Rattle.host_core.specs.Files.{files_of, torn_in}
 use Rattle.host_core.specs.Notes.{opening_listed}
@@ -15,7 +20,7 @@ use Rattle.host_core.specs.Times.{GoesByEntries}
 use Rattle.host_core.proofs.Chaining.{with_chains}
 use Rattle.host_core.proofs.History.{keeps-start}
 use Rattle.host_core.proofs.Standing.{rose-begin, lawful}
-use Rattle.host_core.proofs.Starting.{agrees_start, free_joined, free_locked}
+use Rattle.host_core.proofs.Starting.{agrees_start, begun_names, free_joined, free_locked, sorted_once}
 use Rattle.host_core.proofs.shard.Shard.assemble.Goals as goal
 
 pub invariant_of-result : goal.invariant_of-result
@@ -29,53 +34,71 @@ invariant_of-result g c =
     let start = c.args.start.value in
     let none : length notes.made ≡ 0 = ap (λ (m : List Made). length m) c.requires.made in
     let few = c.requires.stock.few in
-    let most = c.requires.capacity in
     let size = long_joined stock.files.items [] in
     let after : Ledger = record {
       alloc = c.args.alloc;
       opened = c.args.opened;
       first = c.args.first;
-      capacity = c.args.capacity;
+      ids = c.args.ids;
       time = c.args.opened;
       last = 0;
-      bytes = stock.bytes;
+      live = stock.bytes;
       rack = record { files = stock.files; index = stock.index; locks = c.args.locks };
     } in
     let book : Book _ = record {
       only = c.of.result.value;
-      opening = notes.opening;
-      opened = c.args.opened;
-      first = c.args.first;
-      capacity = c.args.capacity;
+      begin = notes.begin;
+      limits = record { calls = notes.calls; ids = c.args.ids };
       made = notes.made;
       time = c.args.opened;
       ticked = c.of-ticked.result.value;
       start = start;
       folder = c.args.folder;
     } in
-    let same : c.args.first ≡ c.args.first + length notes.made = omega (arith, none) in
+    let last_is : notes.begin.last ≡ 0 = ap (λ (b : Begin). b.last) c.requires.listed in
+    let same : c.args.first ≡ c.args.first + (notes.begin.last + length notes.made) = omega (arith, none, last_is) in
+    let begin = new_life opening c.args.opened c.args.first in
+    let started : Reflects notes.begin notes.made c.args.opened 0 stock.bytes kept =
+    subst (λ (b : Begin). Reflects b notes.made c.args.opened 0 stock.bytes kept) (sym c.requires.listed)
+    (subst (λ (m : List Made). Reflects begin m c.args.opened 0 stock.bytes kept) (sym c.requires.made)
+    (keeps-start opening c.args.opened c.args.first stock.bytes kept c.requires.moment c.requires.stock.files c.requires.stock.torn c.requires.stock.kept)) in
+    let agrees : Agrees c.of.result.value (files start) (files c.args.folder) (files_of c.args.first kept) (torn_in kept) =
+    subst (λ (only : Option ℕ). Agrees only (files start) (files c.args.folder) (files_of c.args.first kept) (torn_in kept)) (sym c.of.ensures)
+    (agrees_start c.args.first c.args.only (files start) (files c.args.folder) opening kept c.requires.opening c.requires.same c.requires.stock.files) in
+    let few_ids : c.args.ids < 2 ^ 32 = search in
+    let first_is : c.args.first ≡ notes.begin.first = sym (ap (λ (b : Begin). b.first) c.requires.listed) in
+    let goes : GoesByEntries c.args.opened notes.made c.args.opened =
+    subst (λ (m : List Made). GoesByEntries c.args.opened m c.args.opened) (sym c.requires.made) (record { timely = tt; time_is = refl }) in
+    let within : AreWithin (c.args.first + (notes.begin.last + length notes.made)) kept = subst (λ (n : ℕ). AreWithin n kept) same c.requires.stock.within in
     with_chains after notes book (files start) (files c.args.folder) (faults start) (faults c.args.folder) refl (
     subst (λ (l : List Whole). Stands book 0 l stock.bytes (files start) (files c.args.folder) (faults start) (faults c.args.folder))
     (sym (free_joined stock.files.items c.args.locks.files c.requires.none))
     (record {
-      keeps = subst (λ (o : Opening). Reflects o c.args.opened c.args.first c.args.capacity notes.made c.args.opened 0 stock.bytes kept) (sym c.requires.listed)
-          (subst (λ (m : List Made). Reflects opening c.args.opened c.args.first c.args.capacity m c.args.opened 0 stock.bytes kept) (sym c.requires.made)
-          (keeps-start opening c.args.opened c.args.first c.args.capacity stock.bytes kept c.requires.moment c.requires.stock.files c.requires.stock.torn c.requires.stock.kept));
-      folder = subst (λ (only : Option ℕ). Agrees only (files start) (files c.args.folder) (files_of c.args.first kept) (torn_in kept)) (sym c.of.ensures)
-          (agrees_start c.args.first c.args.only (files start) (files c.args.folder) opening kept c.requires.opening c.requires.same c.requires.stock.files);
+      keeps = started;
+      folder = subst (λ (n : ℕ). Agrees c.of.result.value (files start) (files c.args.folder) (files_of n kept) (torn_in kept)) first_is agrees;
       faults = subst (λ (m : List Made). RoseBy (faults start) (faults_in m) (faults c.args.folder)) (sym c.requires.made) (rose-begin (faults start) (faults c.args.folder) c.requires.faults);
-      timely = λ _. subst (λ (m : List Made). GoesByEntries c.args.opened m c.args.opened) (sym c.requires.made) (record { timely = tt; time_is = refl });
-      within = subst (λ (n : ℕ). AreWithin n kept) same c.requires.stock.within;
-      number = c.requires.first;
-      few = omega (arith, none, few, most, size);
-      places = omega (arith, none);
+      timely = λ _. subst (λ (b : Begin). GoesByEntries b.now notes.made c.args.opened) (sym c.requires.listed) goes;
+      within = subst (λ (n : ℕ). AreWithin (n + (notes.begin.last + length notes.made)) kept) first_is within;
+      number = subst IsFirstVersion first_is c.requires.first;
+      few = omega (arith, few, size);
+      places = begun_within notes.calls (length notes.made) none;
+      low = begun_low notes.calls c.args.ids notes.begin.last few_ids last_is (subst (λ (o : Option ℕ). IfSome o (λ most. most ≤ c.args.ids)) (sym c.requires.calls) c.requires.bounded);
+      room =
+          let live : live_ids notes.begin.files ≡ 0 = ap (λ (b : Begin). live_ids b.files) c.requires.listed ∙ opening-ids opening c.args.first in
+          let is = ap (λ (m : List Made). live_ids (left_of notes.begin (history_of m c.args.opened)).files) c.requires.made in
+          let settles = all-settled-ids notes.begin.files (max notes.begin.now c.args.opened) in
+          omega (arith, live, is, settles);
+      kept = c.requires.fits;
+      once = subst AreOnce (sym (ap (λ (b : Begin). map (λ file. file.0) b.files) c.requires.listed ∙ begun_names opening c.args.opened c.args.first)) (sorted_once (map (λ file. file.0) opening) c.requires.opening.ordered);
     })
     ) (record {
       numbered = c.requires.stock.numbered;
       locked = free_locked stock.files.items c.args.locks c.args.opened c.requires.none c.requires.as_of c.requires.long;
       stand = λ number. ap (λ (s : Standing). standing s.lock c.args.opened) (c.requires.none number) ∙ sym (ap (λ (s : Standing). s.lock) (c.requires.none number));
-      spare = let spare = c.requires.spare in omega (arith, spare);
-      slots = c.requires.slots;
+      once = subst AreOnce (sym c.requires.stock.names) (sorted_once (map (λ file. file.0) opening) c.requires.opening.ordered);
+      room = c.requires.room;
+      opened = sym (ap (λ (b : Begin). b.opened) c.requires.listed);
+      first = first_is;
       ended = c.requires.ended;
     })
 

@@ -11,5 +11,5 @@ returns-clause-lawful g c =
     let faults = g.F.Folder.faults in
     let inside = c.self.inside in
     subst (λ book. IsLawful book (files book.start) (files book.folder) (faults book.start) (faults book.folder)) c.self.view_is
-    (lawful (book_of (g.F.Store.notes inside.folder) inside) inside.ledger.last (files_in inside.ledger) inside.ledger.bytes
+    (lawful (book_of (g.F.Store.notes inside.folder) inside) inside.ledger.last (files_in inside.ledger) inside.ledger.live
     (files inside.start.value) (files inside.folder) (faults inside.start.value) (faults inside.folder) c.self.invariant.0)

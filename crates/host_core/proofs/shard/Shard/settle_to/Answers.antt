@@ -15,8 +15,8 @@ invariant_of-self g c =
     let inside = c.self.inside in
     let ledger = inside.ledger in
     let tied = c.self.invariant.1 in
-    let more = c.settle.ensures.spare in
-    let spare = tied.spare in
+    let same = c.settle.ensures.room in
+    let room = tied.room in
     let after : Ledger = record ledger { time = c.max-self-inside.result; rack = record ledger.rack { locks = c.settle.new.self } } in
     with_chains after (g.F.Store.notes inside.folder) (record (book_of (g.F.Store.notes inside.folder) inside) { time = c.max-self-inside.result; ticked = c.of.result.value }) (files inside.start.value) (files inside.folder) (faults inside.start.value) (faults inside.folder) refl (
     stands-tick (book_of (g.F.Store.notes inside.folder) inside) ledger (files inside.start.value) (files inside.folder) (faults inside.start.value) (faults inside.folder) c.args.moment
@@ -25,8 +25,10 @@ invariant_of-self g c =
       numbered = tied.numbered;
       locked = locked_ended ledger.rack.files.items ledger.rack.locks _ ledger.time _ tied.locked (let is = c.max-self-inside.ensures in omega (arith, is)) c.settle.ensures.files c.settle.ensures.latest c.settle.ensures.chains;
       stand = subst (AllStand c.max-self-inside.result) (sym c.settle.ensures.files) (stand_ended ledger.rack.locks.files c.max-self-inside.result);
-      spare = omega (arith, more, spare);
-      slots = tied.slots;
+      once = tied.once;
+      room = omega (arith, same, room);
+      opened = tied.opened;
+      first = tied.first;
       ended = tied.ended;
     })
 
@@ -35,5 +37,5 @@ returns-clause-lawful g c =
     let files = g.F.Folder.files in
     let faults = g.F.Folder.faults in
     let inside = c.self.inside in
-    lawful _ inside.ledger.last _ inside.ledger.bytes
+    lawful _ inside.ledger.last _ inside.ledger.live
     (files inside.start.value) (files inside.folder) (faults inside.start.value) (faults inside.folder) (invariant_of-self g c).0
