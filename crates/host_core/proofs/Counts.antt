@@ -170,7 +170,7 @@ module _ (f : File → ℕ) (other : File) (none : f other ≡ 0) where
       let put = sum-put f other none x.0 other ys in
       let here : f x.1 ≡ f (at_name other ys x.0) = sym (ap (λ (b : Bool). f (if b then x.1 else at_name other xs x.0)) (same_self x.0)) ∙ each x.0 in
       let rest = sum_same xs (put_name x.0 other ys) once.1 (once_put x.0 other ys twice)
-          (λ n. behind n (bytes_eq x.0 n) refl (each n) ∙ sym (ap f (at-put other x.0 other ys n))) in
+      (λ n. behind n (bytes_eq x.0 n) refl (each n) ∙ sym (ap f (at-put other x.0 other ys n))) in
       let sum = sum_by-cons (λ (one : List ℕ × File). f one.1) x xs in
       omega (arith, put, here, rest, sum, none)
     where

@@ -206,7 +206,7 @@ stands-step book before after old new start now now' began count count' call pas
     ap (λ (t : ℕ). places_at t before.rack.locks.files) same_time
     ∙ places_are book.begin book.made book.time before.last live before.rack.files.items before.rack.locks.files stands.keeps stands.once tied.once tied.locked.beyond moment in
     let wants : decision (settled (files_of book.begin.first (files_in before) call.name) later) call book.begin.opened later ≡ Accept
-        → begins_lock (settled (files_of book.begin.first (files_in before) call.name) later) call.act ≡ true → live_ids (found_at book.begin (history_of book.made book.time) moment).files < book.limits.ids =
+    → begins_lock (settled (files_of book.begin.first (files_in before) call.name) later) call.act ≡ true → live_ids (found_at book.begin (history_of book.made book.time) moment).files < book.limits.ids =
     λ accepts locks. less_by book.limits.ids (live_ids (found_at book.begin (history_of book.made book.time) moment).files) (λ all. room (inr (inr (
       subst (λ (n : ℕ). WantsPlace (files_of n (files_in before) call.name) call before.opened (max before.time moment)) first
           (subst (λ (o : ℕ). WantsPlace (files_of book.begin.first (files_in before) call.name) call o (max before.time moment)) opened
