@@ -2,7 +2,7 @@ use Rattle.mokdrai.proofs.main.Goals as goal
 
 pub run-status-requires-clause-once : goal.run-status-requires-clause-once
 run-status-requires-clause-once g c κs = λ found.
-    c.in-Ok-world.ensures.once found.2.folder (c.asked_by-asked.ensures.once found.0 found.1 found.2)
+    c.in-Ok-world.ensures.once found.3.folder (c.asked_by-asked.ensures.once found.0 found.1 found.2 found.3)
 
 pub run-status-requires-clause-serve : goal.run-status-requires-clause-serve
 run-status-requires-clause-serve g c κs = λ keys base ask row. c.in-Ok-world.ensures.serve row.folder ask (c.asked_by-asked.ensures.serve keys base ask row)
