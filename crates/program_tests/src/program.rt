@@ -2,6 +2,7 @@
 mod answers;
 mod audits;
 mod chunks;
+mod crowds;
 mod demos;
 mod edit_faults;
 mod edits;
