@@ -1,5 +1,5 @@
 -- What a store has noted.
-use Rattle.std.specs.Prelude.{◌≡◌, ◌==◌, ℕ, List, map, unwrap_or, [], Option, None, option_map, if◌then◌else◌}
+use Rattle.std.specs.Prelude.{◌≡◌, ◌==◌, ℕ, List, map, unwrap_or, [], Option, None, Some, option_map, if◌then◌else◌}
 use Rattle.wopi_model.specs.Shard.{Opening}
 use Rattle.host_core.specs.declared.file.KeptFile.{KeptFile}
 use Rattle.host_core.specs.Entries.{Made, Asked, brought_by}
@@ -20,6 +20,10 @@ pub record Notes : Type 0 where
   pub begun : Option Asked
   pub saved : Option Brought
   pub most : ℕ
+
+-- an entry was begun, whose call is of that name
+abbrev pub IsBegunOn : Notes → List ℕ → Type 0
+IsBegunOn notes name = (one : Asked) × (notes.begun ≡ Some one) × (one.call.name ≡ name)
 
 -- the files of an opening
 abbrev pub opening_listed : List KeptFile → Opening

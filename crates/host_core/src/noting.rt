@@ -4,7 +4,7 @@ ghost use Rattle.outside.specs.Faults.{Rose};
 ghost use Rattle.outside.specs.Folder.{Keeps, Replaces, OpensOnly, Removes};
 ghost use Rattle.host_core.specs.Entries.{Asked, asked_as, ruled};
 ghost use Rattle.host_core.specs.Entry.{is_status};
-ghost use Rattle.host_core.specs.Notes.{Notes, opening_listed, saved_in, StaysNoted, KeepsOpen};
+ghost use Rattle.host_core.specs.Notes.{Notes, IsBegunOn, opening_listed, saved_in, StaysNoted, KeepsOpen};
 
 use crate::contents::Contents;
 use crate::entry::Beginning;
@@ -42,7 +42,7 @@ pub trait Store: Folder {
         ensures files { Keeps (Self.files self.old) (Self.files self.new) }
         ensures never_falls { Self.faults self.old ≤ Self.faults self.new };
 
-    /// The name then holds the contents, and the call that was begun is to be told that version. The contents are taken, and given
+    /// The name is that of the call that was begun. It then holds the contents, and the call is to be told that version. The contents are taken, and given
     /// as they are to stand with their file; `former` stood there before. After a fault only this name is open, and
     /// the contents stay.
     fn save(
@@ -53,6 +53,7 @@ pub trait Store: Folder {
         contents: &mut Bytes,
         former: Option<&Contents>,
     ) -> Result<Contents, OutFault>
+        requires begun { IsBegunOn (notes self.old) name.now }
         ensures live { IfOk result (λ live. live ≡ contents.old) }
         ensures back { OnErr result (contents.new ≡ contents.old) }
         ensures replaced { OnOk result (Replaces (Self.files self.old) (Self.files self.new) name.now contents.old) }
@@ -64,8 +65,9 @@ pub trait Store: Folder {
         ensures unsaved { OnErr result ((notes self.new).saved ≡ (notes self.old).saved) }
         ensures noted { StaysNoted (notes self.old) (notes self.new) };
 
-    /// The name is gone. After a fault only this name is open.
+    /// The name is that of the call that was begun. It is gone then. After a fault only this name is open.
     fn clear(&mut self, name: &str) -> Result<(), Failed>
+        requires begun { IsBegunOn (notes self.old) name.now }
         ensures removed { OnOk result (Removes (Self.files self.old) (Self.files self.new) name.now) }
         ensures torn { OpensOnly (Self.files self.old) (Self.files self.new) name.now }
         ensures never_falls { Self.faults self.old ≤ Self.faults self.new }

@@ -45,6 +45,7 @@ pub fn step_to(
     ensures spare { chains.old.spare ≤ chains.new.spare }
     ensures counted { IsCounted chains.old trail 2 → IsCounted chains.new result 0 }
     ensures left { LeavesFew chains.new trail result }
+    ensures fresh { result.purged ≡ true → result.left ≡ result.count }
 {
     if trail.purged && now < trail.as_of {
         let (chain, count) = purge(chains, index, file, trail.chain, now);
@@ -85,6 +86,7 @@ fn purge_hidden(
     ensures spare { chains.old.spare ≤ chains.new.spare }
     ensures counted { IsCounted chains.new result 0 }
     ensures left { LeavesFew chains.new trail result }
+    ensures fresh { result.left ≡ result.count }
 {
     let (chain, count) = purge(chains, index, file, trail.chain, trail.as_of);
     Trail {
@@ -115,6 +117,7 @@ pub fn purge_to(
     ensures spare { chains.old.spare ≤ chains.new.spare }
     ensures counted { IsCounted chains.old trail 2 → IsCounted chains.new result 0 }
     ensures left { LeavesFew chains.new trail result }
+    ensures fresh { result.left ≡ result.count }
 {
     let stepped = step_to(chains, index, file, trail, now);
     if stepped.purged {

@@ -121,3 +121,6 @@ end-requires-clause-begun g c =
       c.step_files.ensures.noted.begun ∙ c.begin.ensures.begun,
       made_saved c.args.call.now.act ruling _ _ c.begin.ensures.saved c.in-Ok.ensures.ok.steps.kept,
     )
+
+pub step_files-requires-clause-noted : goal.step_files-requires-clause-noted
+step_files-requires-clause-noted g c = (asked_as (c.max-stamp.result + 1) c.args.pass c.args.moment c.max-now.result c.args.call.now, c.begin.ensures.begun, refl)
