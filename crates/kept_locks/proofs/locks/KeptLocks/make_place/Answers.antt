@@ -1,6 +1,7 @@
 use Rattle.std.proofs.Common.{◌≡◌, List, map, ap, subst, ◌∙◌, arith}
 use Rattle.kept_locks.specs.Locks.{LeavesAll, Standing, all_ended, all_purged, held_in, ids_in, ids_of}
 use Rattle.kept_locks.proofs.Counted.{leaves_next}
+use Rattle.kept_locks.proofs.Falling.{falls_fresh, falls_next}
 use Rattle.kept_locks.proofs.Placing.{places_are}
 use Rattle.kept_locks.proofs.locks.KeptLocks.make_place.Goals as goal
 
@@ -54,3 +55,10 @@ returns-clause-left c =
     leaves_next c.args.self.now.left c.settle.new.self.left c.purge.new.self.left ended ended
     (subst (λ (files : List Standing). LeavesAll c.args.self.now.left c.settle.new.self.left files) c.settle.ensures.files c.settle.ensures.left)
     (subst (λ (files : List Standing). LeavesAll c.settle.new.self.left c.purge.new.self.left files) c.settle.ensures.files c.purge.ensures.left) (λ n. omega arith)
+
+pub returns-clause-falls : goal.returns-clause-falls
+returns-clause-falls c =
+    let first = c.args.self.now in
+    let mid = c.settle.new.self in
+    let last = c.purge.new.self in
+    falls_next first.left mid.left last.left first.chains mid.chains last.chains c.settle.ensures.falls (falls_fresh mid.left last.left mid.chains last.chains c.purge.ensures.fresh)
