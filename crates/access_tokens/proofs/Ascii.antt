@@ -17,7 +17,7 @@ use Rattle.access_tokens.specs.Keys.{IsKeyNumber}
 use Rattle.access_tokens.specs.declared.keys.Keys.{Keys}
 use Rattle.access_tokens.specs.TokenText.{IsWritable, head_text, period, rights_of, signed_text, mac_of, token_text}
 
-all_ascii : (test : ℕ → Bool) → ((byte : ℕ) → test byte ≡ true → byte < 128) → (text : List ℕ) → list_all test text ≡ true → IsAscii text
+pub all_ascii : (test : ℕ → Bool) → ((byte : ℕ) → test byte ≡ true → byte < 128) → (text : List ℕ) → list_all test text ≡ true → IsAscii text
 all_ascii test low [] all i = omega arith
 all_ascii test low (byte ∷ text) all zero = low byte (and_parts (test byte) (list_all test text) all).0
 all_ascii test low (byte ∷ text) all (suc i) = all_ascii test low text (and_parts (test byte) (list_all test text) all).1 i

@@ -5,6 +5,8 @@ pub mod Hmac
 pub mod Key
 pub mod Keys
 pub mod Marks
+pub mod Origins
+pub mod OriginTests
 pub mod Remembering
 pub mod Signed
 pub mod TokenText

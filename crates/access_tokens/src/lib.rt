@@ -18,6 +18,7 @@
 //! [`RecentTokens::read`] does where there is some: without it a text is read and not remembered.
 //!
 //! [`push_address`] appends the address of a file, which carries a token for it, and [`mint_into`] a token alone.
+//! [`is_origin`] tells whether a text is the origin of a page.
 //! Other signed texts with the same fields at their end are made and read of the pieces that stand here:
 //! [`split_field`], [`tail_of`], [`claims_of`] and [`check_code`] read them, [`push_field`], [`push_number`],
 //! [`push_claims`] and [`push_code`] write them.
@@ -37,6 +38,7 @@ mod mac;
 mod marks;
 mod minting;
 mod numbers;
+mod origin;
 mod pushing;
 mod reading;
 mod remembering;
@@ -52,6 +54,7 @@ pub use life::live;
 pub use mac::hmac;
 pub use minting::{mint, mint_into};
 pub use numbers::{key_number_read, moment_read};
+pub use origin::is_origin;
 pub use pushing::{push_code, push_field, push_number};
 pub use reading::read;
 pub use remembering::RecentTokens;

@@ -13,7 +13,7 @@ use Rattle.wopi_text.specs.Ids.{id_of}
 use Rattle.access_tokens.specs.Keys.{bare}
 use Rattle.access_tokens.specs.TokenText.{rights_of}
 use Rattle.command_words.specs.Laws.{GoodFrontsGoOn}
-use Rattle.command_words.specs.Lines.{AllFit, Allows, Fits, IsLine, MayFollow, can_end, is_replay, is_single, next_behind, next_in, next_of, next_of_once, next_of_serve, next_option, next_value, option_rule, ruled_or, rules_of}
+use Rattle.command_words.specs.Lines.{AllFit, Allows, Fits, IsLine, MayFollow, can_end, is_replay, is_single, next_behind, next_in, next_of, next_of_editor, next_of_once, next_of_origin, next_of_serve, next_option, next_value, option_rule, ruled_or, rules_of}
 use Rattle.command_words.specs.Rules.{Keeps}
 use Rattle.command_words.specs.declared.lines.Next.{Next}
 use Rattle.command_words.specs.declared.lines.Next.TheVariants as next
@@ -68,6 +68,7 @@ sample rule.Journal = 49 ∷ []
 sample rule.Each = 49 ∷ []
 sample rule.First = 49 ∷ []
 sample rule.Links = 49 ∷ []
+sample rule.Origin = codes "http://a"
 
 sample_keeps : (r : Rule) → Keeps r (sample r)
 sample_keeps rule.Folder = lit< tt
@@ -93,6 +94,17 @@ sample_keeps rule.Journal = refl
 sample_keeps rule.Each = refl
 sample_keeps rule.First = refl
 sample_keeps rule.Links = refl
+sample_keeps rule.Origin = record {
+  secure = false;
+  host = letter;
+  port = 80;
+  some = lit< tt;
+  letters = refl;
+  least = lit< tt;
+  most = lit≤ tt;
+  text_is = refl;
+  short = lit≤ tt;
+}
 
 -- ---- one word more
 
@@ -187,18 +199,35 @@ option_kinds [] = inl refl
 option_kinds (name ∷ []) = value_kinds (option_rule name)
 option_kinds (name ∷ value ∷ options) = option_kinds options
 
+origin_kinds : (words : List (List ℕ)) → Kinds (next_of_origin words) (λ v. next_of_origin (words ++ v ∷ []))
+origin_kinds [] = inr (rule.Origin, refl, λ v. refl)
+origin_kinds (origin ∷ words) = option_kinds words
+
+editor_kinds : (words : List (List ℕ)) → Kinds (next_of_editor words) (λ v. next_of_editor (words ++ v ∷ []))
+editor_kinds [] = inl refl
+editor_kinds (name ∷ words) =
+    elim (bytes_eq name (codes "--origin"))
+    as (λ b. Kinds (if b then next_of_origin words else next_option (name ∷ words))
+    (λ v. if b then next_of_origin (words ++ v ∷ []) else next_option (name ∷ (words ++ v ∷ [])))) [
+      | true ↦ origin_kinds words
+      | false ↦ option_kinds (name ∷ words)
+    ]
+
 serve_kinds : (words : List (List ℕ)) → Kinds (next_of_serve words) (λ v. next_of_serve (words ++ v ∷ []))
 serve_kinds [] = inl refl
 serve_kinds (word ∷ words) =
     elim (bytes_eq word (codes "--editor"))
-    as (λ b. Kinds (next_option (if b then words else word ∷ words)) (λ v. next_option (if b then words ++ v ∷ [] else word ∷ (words ++ v ∷ [])))) [
-      | true ↦ option_kinds words
+    as (λ b. Kinds (if b then next_of_editor words else next_option (word ∷ words))
+    (λ v. if b then next_of_editor (words ++ v ∷ []) else next_option (word ∷ (words ++ v ∷ [])))) [
+      | true ↦ editor_kinds words
       | false ↦ option_kinds (word ∷ words)
     ]
 
 once_kinds : (words : List (List ℕ)) → Kinds (next_of_once words) (λ v. next_of_once (words ++ v ∷ []))
 once_kinds [] = inl refl
-once_kinds (word ∷ words) = inl refl
+once_kinds (word ∷ []) = inl refl
+once_kinds (word ∷ name ∷ []) = inr (rule.Origin, refl, λ v. refl)
+once_kinds (word ∷ name ∷ origin ∷ words) = inl refl
 
 behind_kinds : (name : List ℕ) (words : List (List ℕ)) → Kinds (next_behind name words) (λ v. next_behind name (words ++ v ∷ []))
 unfolding next_behind

@@ -5,13 +5,13 @@ use Rattle.std.specs.Str.{bytes_eq}
 use Rattle.command_words.specs.declared.around.Around.{Around}
 use Rattle.command_words.specs.declared.options.Kind.{Kind}
 use Rattle.command_words.specs.declared.options.Kind.TheVariants as kind
-use Rattle.command_words.specs.Meaning.{IsAround, IsDefault, MeansBehind, MeansEdit, MeansOf, MeansServe, MeansShort, MeansWhole, kind_of, short_for}
+use Rattle.command_words.specs.Meaning.{IsAround, IsDefault, MeansBehind, MeansEdit, MeansOf, MeansServe, MeansShort, MeansWhole, kind_of, short_for, origin_words, run_options_of}
 use Rattle.command_words.specs.Options.{is_flag, takes}
 use Rattle.command_words.specs.Parts.{Parts, halved, lacks_value, parted_of}
 use Rattle.command_words.specs.Values.{number_of, text_of}
 use Rattle.command_words.specs.Laws.{AreRunOptions, IsAsBefore, IsPlain, NothingOfBeforeChanges, NothingOfBeforeIsRefused}
 use Rattle.command_words.proofs.OptionLemmas.{not_true, plain_no_flag, plain_untaken, same_bytes}
-use Rattle.command_words.proofs.PartLemmas.{no_values, options_halved, options_parted, plain_halved, plain_parted, run_no_flag, run_options_stay, run_taken, second}
+use Rattle.command_words.proofs.PartLemmas.{no_origin, no_values, options_halved, options_parted, plain_halved, plain_parted, run_no_flag, run_options_stay, run_taken, second}
 use Rattle.command_words.proofs.PartingSteps.{lacks_place}
 
 abbrev parts_as : List (List ℕ) → List (List ℕ) → Parts
@@ -63,10 +63,16 @@ name_is name k is =
 abbrev Stays : List (List ℕ) → List (List ℕ) → Around → Type 0
 Stays words meant around = (meant ≡ words) × IsDefault around
 
+-- those options are the words that the program reads itself
+run_words_stay : (places options : List (List ℕ)) → AreRunOptions options → codes "serve" ∷ (places ++ (origin_words options ++ run_options_of options)) ≡ codes "serve" ∷ (places ++ options)
+run_words_stay places options are =
+    ap (λ (l : List (List ℕ)). codes "serve" ∷ (places ++ (l ++ run_options_of options))) (no_origin options are)
+    ∙ ap (λ (l : List (List ℕ)). codes "serve" ∷ (places ++ l)) (run_options_stay options are)
+
 serve_stays : (places options : List (List ℕ)) (meant : List (List ℕ)) (around : Around) → AreRunOptions options → MeansServe (parts_as places options) meant around
     → Stays (codes "serve" ∷ (places ++ options)) meant around
 serve_stays places options meant around are means =
-    (means.words_are ∙ ap (λ (l : List (List ℕ)). codes "serve" ∷ (places ++ l)) (run_options_stay options are), as_default options false around are means.around_is)
+    (means.words_are ∙ run_words_stay places options are, as_default options false around are means.around_is)
 
 three_no : (places : List (List ℕ)) (own : List ℕ) → length places ≢ 3 → (if length places == 3 then places ++ (own ∷ []) else places) ≡ places
 three_no places own not_three =
@@ -152,7 +158,7 @@ serve_means : (moment : ℕ) (own : List ℕ) (places options : List (List ℕ))
     → Behind moment own kind.Serve (places ++ options) (codes "serve" ∷ (places ++ options)) around
 serve_means moment own places options around plain are default =
     let whole : MeansServe (parts_as places options) (codes "serve" ∷ (places ++ options)) around = record {
-      words_are = ap (λ (l : List (List ℕ)). codes "serve" ∷ (places ++ l)) (sym (run_options_stay options are));
+      words_are = sym (run_words_stay places options are);
       around_is = of_default options around are default;
     } in (
       all_lack kind.Serve places options plain ∙ ap (λ (l : List (List ℕ)). lacks_value kind.Serve l) (options_halved options are) ∙ options_lack options are,

@@ -54,7 +54,9 @@ around_hyphen word is =
 
 takes_hyphen : (k : Kind) (word : List ℕ) → takes k word ≡ true → HasHyphen word
 unfolding takes
-takes_hyphen kind.Serve word is = or_cases (is_run_option word) (is_around_option word) (run_hyphen word) (around_hyphen word) is
+takes_hyphen kind.Serve word is =
+    or_cases (is_run_option word || is_around_option word) (bytes_eq word (codes "--origin"))
+    (or_cases (is_run_option word) (is_around_option word) (run_hyphen word) (around_hyphen word)) (named_hyphen word (codes "--origin") refl) is
 takes_hyphen kind.Edit word is =
     or_cases (bytes_eq word (codes "--file") || bytes_eq word (codes "--nonce")) (bytes_eq word (codes "--idle"))
     (or_cases (bytes_eq word (codes "--file")) (bytes_eq word (codes "--nonce")) (named_hyphen word (codes "--file") refl) (named_hyphen word (codes "--nonce") refl))

@@ -6,7 +6,7 @@ use Rattle.command_words.specs.declared.options.Kind.{Kind}
 use Rattle.command_words.specs.declared.options.Kind.TheVariants as kind
 use Rattle.command_words.specs.Options.{is_around_option, is_flag, is_run_option, takes}
 use Rattle.command_words.specs.Parts.{Parts, halved, halves, parted_of, with_flag, with_option, with_place}
-use Rattle.command_words.specs.Meaning.{run_options_of}
+use Rattle.command_words.specs.Meaning.{origin_words, run_options_of}
 use Rattle.command_words.specs.Values.{values_of}
 use Rattle.command_words.specs.Laws.{AreRunOptions, IsPlain}
 use Rattle.command_words.proofs.OptionLemmas.{of_run_name, plain_no_flag, plain_untaken, plain_whole}
@@ -65,7 +65,7 @@ run_no_flag name is = of_run_name (λ word. (bytes_eq word (codes "--verbose") |
 
 pub run_taken : (name : List ℕ) → is_run_option name ≡ true → takes kind.Serve name ≡ true
 unfolding takes
-run_taken name is = ap (λ b. b || is_around_option name) is
+run_taken name is = ap (λ b. b || is_around_option name || bytes_eq name (codes "--origin")) is
 
 pub options_parted : (options : List (List ℕ)) → AreRunOptions options → parted_of kind.Serve options ≡ record { places = []; options = options; flags = [] }
 options_parted [] are = refl
@@ -78,6 +78,14 @@ run_options_stay [] are = refl
 run_options_stay (name ∷ []) are = absurd are
 run_options_stay (name ∷ value ∷ options) are =
     ap (λ b. if b then name ∷ value ∷ run_options_of options else run_options_of options) are.0 ∙ ap (λ (l : List (List ℕ)). name ∷ value ∷ l) (run_options_stay options are.2)
+
+-- no origin is among them
+pub no_origin : (options : List (List ℕ)) → AreRunOptions options → origin_words options ≡ []
+no_origin [] are = refl
+no_origin (name ∷ []) are = absurd are
+no_origin (name ∷ value ∷ options) are =
+    let apart : bytes_eq name (codes "--origin") ≡ false = of_run_name (λ word. bytes_eq word (codes "--origin") ≡ false) refl refl refl refl name are.0 in
+    ap (λ t. if t then name ∷ value ∷ origin_words options else origin_words options) apart ∙ no_origin options are.2
 
 -- an option of another name has no value among them
 pub no_values : (other : List ℕ) → bytes_eq (codes "--journal") other ≡ false → bytes_eq (codes "--each") other ≡ false → bytes_eq (codes "--first") other ≡ false

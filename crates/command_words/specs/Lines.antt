@@ -42,10 +42,16 @@ option_rule name =
     else if bytes_eq name (codes "--links") then Some rule.Links
     else None
 
--- the words behind `--editor`, where that stands at their front, or all of them
+-- the words behind `--origin` and its value, where these stand at their front, or all of them
+abbrev pub behind_origin : List (List ℕ) → List (List ℕ)
+behind_origin [] = []
+behind_origin (name ∷ []) = name ∷ []
+behind_origin (name ∷ origin ∷ words) = if bytes_eq name (codes "--origin") then words else name ∷ origin ∷ words
+
+-- the words behind `--editor` and those that go with it, where it stands at their front, or all of them
 abbrev pub behind_editor : List (List ℕ) → List (List ℕ)
 behind_editor [] = []
-behind_editor (word ∷ words) = if bytes_eq word (codes "--editor") then words else word ∷ words
+behind_editor (word ∷ words) = if bytes_eq word (codes "--editor") then behind_origin words else word ∷ words
 
 -- the names of options, each of which is followed by its value
 abbrev pub names_of : List (List ℕ) → List (List ℕ)
@@ -63,15 +69,27 @@ next_option [] = next.Option
 next_option (name ∷ []) = next_value (option_rule name)
 next_option (name ∷ value ∷ words) = next_option words
 
+-- behind `--origin` of `serve`
+abbrev pub next_of_origin : List (List ℕ) → Next
+next_of_origin [] = next.Word rule.Origin
+next_of_origin (origin ∷ words) = next_option words
+
+-- behind `--editor` of `serve`
+abbrev pub next_of_editor : List (List ℕ) → Next
+next_of_editor [] = next.OriginOrOption
+next_of_editor (name ∷ words) = if bytes_eq name (codes "--origin") then next_of_origin words else next_option (name ∷ words)
+
 -- behind WORKERS of `serve`
 abbrev pub next_of_serve : List (List ℕ) → Next
 next_of_serve [] = next.EditorOrOption
-next_of_serve (word ∷ words) = next_option (behind_editor (word ∷ words))
+next_of_serve (word ∷ words) = if bytes_eq word (codes "--editor") then next_of_editor words else next_option (word ∷ words)
 
 -- behind BASE of `once`
 abbrev pub next_of_once : List (List ℕ) → Next
 next_of_once [] = next.Editor
-next_of_once (word ∷ words) = next.End
+next_of_once (word ∷ []) = next.Origin
+next_of_once (word ∷ name ∷ []) = next.Word rule.Origin
+next_of_once (word ∷ name ∷ origin ∷ words) = next.End
 
 -- behind the words of a command that have rules
 unfoldable pub next_behind : List ℕ → List (List ℕ) → Next
@@ -94,6 +112,9 @@ next_of (name ∷ words) = next_in name words
 abbrev pub is_editor_or_option : List ℕ → Bool
 is_editor_or_option word = bytes_eq word (codes "--editor") || is_some (option_rule word)
 
+abbrev pub is_origin_or_option : List ℕ → Bool
+is_origin_or_option word = bytes_eq word (codes "--origin") || is_some (option_rule word)
+
 -- the options among the words of `serve`, behind those that have rules
 abbrev pub options_of : List (List ℕ) → List (List ℕ)
 options_of words = behind_editor (drop 6 words)
@@ -108,6 +129,8 @@ Allows next.Command words word = IsTrue (is_command word)
 Allows (next.Word rule) words word = Keeps rule word
 Allows next.Editor words word = IsTrue (bytes_eq word (codes "--editor"))
 Allows next.EditorOrOption words word = IsTrue (is_editor_or_option word)
+Allows next.Origin words word = IsTrue (bytes_eq word (codes "--origin"))
+Allows next.OriginOrOption words word = IsTrue (is_origin_or_option word)
 Allows next.Option words word = IsTrue (is_new_option (options_of words) word)
 Allows next.End words word = ⊥
 
@@ -120,6 +143,8 @@ can_end next.Command = false
 can_end (next.Word rule) = false
 can_end next.Editor = true
 can_end next.EditorOrOption = true
+can_end next.Origin = true
+can_end next.OriginOrOption = true
 can_end next.Option = true
 can_end next.End = true
 

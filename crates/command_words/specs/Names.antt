@@ -28,6 +28,7 @@ name_of_rule rule.Journal = codes "--journal"
 name_of_rule rule.Each = codes "--each"
 name_of_rule rule.First = codes "--first"
 name_of_rule rule.Links = codes "--links"
+name_of_rule rule.Origin = codes "--origin"
 
 -- what a word is called that may stand there
 unfoldable pub name_of : Next → List ℕ
@@ -35,5 +36,7 @@ name_of next.Command = codes "a command"
 name_of (next.Word rule) = name_of_rule rule
 name_of next.Editor = codes "the word"
 name_of next.EditorOrOption = codes "an option"
+name_of next.Origin = codes "the word"
+name_of next.OriginOrOption = codes "an option"
 name_of next.Option = codes "an option"
 name_of next.End = codes "the word"

@@ -14,7 +14,7 @@ is_around_option word = bytes_eq word (codes "--listen") || bytes_eq word (codes
 
 -- behind it a value stands
 unfoldable pub takes : Kind → List ℕ → Bool
-takes kind.Serve word = is_run_option word || is_around_option word
+takes kind.Serve word = is_run_option word || is_around_option word || bytes_eq word (codes "--origin")
 takes kind.Edit word = bytes_eq word (codes "--file") || bytes_eq word (codes "--nonce") || bytes_eq word (codes "--idle")
 takes kind.Token word = bytes_eq word (codes "--file") || bytes_eq word (codes "--user") || bytes_eq word (codes "--for")
 takes kind.Ctoken word = bytes_eq word (codes "--user") || bytes_eq word (codes "--for")

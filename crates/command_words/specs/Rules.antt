@@ -9,6 +9,7 @@ use Rattle.wopi_model.specs.Moment.{IsMoment}
 use Rattle.wopi_model.specs.User.{IsUser}
 use Rattle.access_tokens.specs.Addresses.{is_base}
 use Rattle.access_tokens.specs.Keys.{IsWordOf}
+use Rattle.access_tokens.specs.Origins.{IsOrigin}
 use Rattle.access_tokens.specs.TokenText.{rights_of}
 use Rattle.access_tokens.specs.declared.keys.Keys.{Keys}
 use Rattle.command_words.specs.Explaining.{is_visible}
@@ -66,3 +67,4 @@ Keeps rule.Journal word = IsTrue (is_number 1 32768 word)
 Keeps rule.Each word = IsTrue (is_number 1 1000000 word)
 Keeps rule.First word = IsTrue (is_number 1 1000000000000000000 word)
 Keeps rule.Links word = IsTrue (is_number 1 1024 word)
+Keeps rule.Origin word = IsOrigin word

@@ -3,7 +3,7 @@ ghost use Rattle.std.specs.Prelude.{◌≡◌, ◌↔◌, ◌<◌, IsTrue, lengt
 ghost use Rattle.std.specs.List.{list_any};
 ghost use Rattle.std.specs.Str.{bytes_eq};
 ghost use Rattle.command_words.specs.Names.{name_of};
-ghost use Rattle.command_words.specs.Lines.{Allows, can_end, is_command, is_editor_or_option, is_new_option, is_replay, is_single, behind_editor, may_end, names_of, next_behind, next_in, next_of, next_of_once, next_of_serve, next_option, next_value, option_rule, options_of, rules_of};
+ghost use Rattle.command_words.specs.Lines.{Allows, can_end, is_command, is_editor_or_option, is_new_option, is_replay, is_single, behind_editor, behind_origin, is_origin_or_option, may_end, names_of, next_behind, next_in, next_of, next_of_editor, next_of_once, next_of_origin, next_of_serve, next_option, next_value, option_rule, options_of, rules_of};
 
 use crate::rules::Rule;
 
@@ -18,6 +18,10 @@ pub(crate) enum Next {
     Editor,
     /// `--editor`, or an option of `serve`, or no word.
     EditorOrOption,
+    /// `--origin`, or no word.
+    Origin,
+    /// `--origin`, or an option of `serve`, or no word.
+    OriginOrOption,
     /// An option of `serve` that doesn't stand there yet, or no word.
     Option,
     /// No word.
@@ -121,14 +125,30 @@ fn option_rule(name: &str) -> Option<Rule>
     }
 }
 
-/// The words behind `--editor`, where that stands at their front, or all of them.
+/// The words behind `--origin` and its value, where these stand at their front, or all of them.
+fn behind_origin(words: &[String]) -> &[String]
+    ensures { map string_bytes result.now ≡ behind_origin (map string_bytes words.now) }
+{
+    match words {
+        [name, _, rest @ ..] => {
+            if name.as_str() == "--origin" {
+                return rest;
+            }
+            words
+        }
+        [_] => words,
+        [] => words,
+    }
+}
+
+/// The words behind `--editor` and those that go with it, where it stands at their front, or all of them.
 fn behind_editor(words: &[String]) -> &[String]
     ensures { map string_bytes result.now ≡ behind_editor (map string_bytes words.now) }
 {
     match words {
         [word, rest @ ..] => {
             if word.as_str() == "--editor" {
-                return rest;
+                return behind_origin(rest);
             }
             words
         }
@@ -161,19 +181,68 @@ fn next_option(options: &[String]) -> Next
     }
 }
 
+/// What may stand behind `--origin` of `serve` and these.
+fn next_of_origin(words: &[String]) -> Next
+    ensures { result ≡ next_of_origin (map string_bytes words.now) }
+{
+    match words {
+        [_, rest @ ..] => next_option(rest),
+        [] => Next::Word(Rule::Origin),
+    }
+}
+
+/// What may stand behind `--editor` of `serve` and these.
+fn next_of_editor(words: &[String]) -> Next
+    ensures { result ≡ next_of_editor (map string_bytes words.now) }
+{
+    match words {
+        [name, rest @ ..] => {
+            if name.as_str() == "--origin" {
+                return next_of_origin(rest);
+            }
+            next_option(words)
+        }
+        [] => Next::OriginOrOption,
+    }
+}
+
+/// What may stand behind the words of `serve` that have rules, and these.
+fn next_of_serve(words: &[String]) -> Next
+    ensures { result ≡ next_of_serve (map string_bytes words.now) }
+{
+    match words {
+        [word, rest @ ..] => {
+            if word.as_str() == "--editor" {
+                return next_of_editor(rest);
+            }
+            next_option(words)
+        }
+        [] => Next::EditorOrOption,
+    }
+}
+
+/// What may stand behind the words of `once` that have rules, and these.
+fn next_of_once(words: &[String]) -> Next
+    ensures { result ≡ next_of_once (map string_bytes words.now) }
+{
+    match words {
+        [] => Next::Editor,
+        [_] => Next::Origin,
+        [_, _] => Next::Word(Rule::Origin),
+        [_, _, _, ..] => Next::End,
+    }
+}
+
 /// What may stand behind the words of a command that have rules, and these.
 #[tactic(auto, unfolding(crate::specs::Lines::next_behind))]
 fn next_behind(name: &str, words: &[String]) -> Next
     ensures { result ≡ next_behind name.now (map string_bytes words.now) }
 {
     if name == "serve" {
-        if words.is_empty() {
-            return Next::EditorOrOption;
-        }
-        return next_option(behind_editor(words));
+        return next_of_serve(words);
     }
-    if name == "once" && words.is_empty() {
-        return Next::Editor;
+    if name == "once" {
+        return next_of_once(words);
     }
     Next::End
 }
@@ -206,6 +275,13 @@ fn is_editor_or_option(word: &str) -> bool
     word == "--editor" || option_rule(word).is_some()
 }
 
+/// Whether the word is an option of `serve`, or `--origin`.
+fn is_origin_or_option(word: &str) -> bool
+    ensures { result ≡ is_origin_or_option word.now }
+{
+    word == "--origin" || option_rule(word).is_some()
+}
+
 /// Whether the word is an option of `serve` that isn't among these.
 fn is_new_option(options: &[String], word: &str) -> bool
     ensures { result ≡ is_new_option (map string_bytes options.now) word.now }
@@ -233,6 +309,8 @@ impl Next {
             Next::Word(rule) => return rule.is_met(word),
             Next::Editor => return word == "--editor",
             Next::EditorOrOption => return is_editor_or_option(word),
+            Next::Origin => return word == "--origin",
+            Next::OriginOrOption => return is_origin_or_option(word),
             Next::Option => return is_new_option(options_of(words), word),
             Next::End => return false,
         }
@@ -248,6 +326,8 @@ impl Next {
             Next::Word(rule) => rule.name(),
             Next::Editor => "the word",
             Next::EditorOrOption => "an option",
+            Next::Origin => "the word",
+            Next::OriginOrOption => "an option",
             Next::Option => "an option",
             Next::End => "the word",
         }
@@ -260,6 +340,8 @@ impl Next {
             Next::Word(rule) => rule.text(),
             Next::Editor => NO_WORD,
             Next::EditorOrOption => OPTIONS,
+            Next::Origin => NO_WORD,
+            Next::OriginOrOption => OPTIONS,
             Next::Option => OPTIONS,
             Next::End => NO_WORD,
         }
@@ -274,6 +356,8 @@ impl Next {
             Next::Word(_) => false,
             Next::Editor => true,
             Next::EditorOrOption => true,
+            Next::Origin => true,
+            Next::OriginOrOption => true,
             Next::Option => true,
             Next::End => true,
         }
@@ -286,7 +370,7 @@ const COMMANDS: &str =
 
 /// That of an option of `serve`.
 const OPTIONS: &str =
-    "--journal, --each, --first, --links, --listen, --idle, --patience, --grace, --verbose or --editor, each once";
+    "--journal, --each, --first, --links, --listen, --idle, --patience, --grace, --verbose, --editor or, beside --editor, --origin, each once";
 
 /// That of a word behind the last one.
 const NO_WORD: &str = "no word stands there";

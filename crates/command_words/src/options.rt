@@ -33,7 +33,7 @@ pub(crate) fn takes(kind: Kind, word: &str) -> bool
     ensures { result ≡ takes kind word.now }
 {
     match kind {
-        Kind::Serve => is_run_option(word) || is_around_option(word),
+        Kind::Serve => is_run_option(word) || is_around_option(word) || word == "--origin",
         Kind::Edit => word == "--file" || word == "--nonce" || word == "--idle",
         Kind::Token => word == "--file" || word == "--user" || word == "--for",
         Kind::Ctoken => word == "--user" || word == "--for",

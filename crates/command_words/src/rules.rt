@@ -12,7 +12,7 @@ ghost use Rattle.command_words.specs.Explaining.{is_visible};
 ghost use Rattle.command_words.specs.Names.{name_of_rule};
 ghost use Rattle.command_words.specs.Rules.{HasPort, IsMomentWord, Keeps, is_nonce, is_number, is_visible_word, splits_at};
 
-use access_tokens::{Keys, User, may_write, moment_read};
+use access_tokens::{Keys, User, is_origin, may_write, moment_read};
 use wopi_text::{FileName, decimal_read, id_read};
 
 /// What a word has to be.
@@ -40,6 +40,7 @@ pub(crate) enum Rule {
     Each,
     First,
     Links,
+    Origin,
 }
 
 /// Whether each byte is a visible character of ASCII.
@@ -209,6 +210,7 @@ impl Rule {
             Rule::Each => return is_number(word, 1, 1_000_000),
             Rule::First => return is_number(word, 1, 1_000_000_000_000_000_000),
             Rule::Links => return is_number(word, 1, 1024),
+            Rule::Origin => return is_origin(word),
         }
     }
 
@@ -240,6 +242,7 @@ impl Rule {
             Rule::Each => "--each",
             Rule::First => "--first",
             Rule::Links => "--links",
+            Rule::Origin => "--origin",
         }
     }
 
@@ -271,6 +274,8 @@ impl Rule {
             Rule::Each => "a number from 1 to 1000000, without leading zeros",
             Rule::First => "a number from 1 to 1000000000000000000, without leading zeros",
             Rule::Links => "a number from 1 to 1024, without leading zeros",
+            Rule::Origin =>
+                "http:// or https://, a host in lower case, and a port where it isn't the scheme's own; at most 200 characters, and no path",
         }
     }
 }

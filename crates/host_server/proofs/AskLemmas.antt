@@ -51,13 +51,13 @@ info_act (op.Relock old id) body is = absurd (cc is)
 info_act (op.PutRelative target) body is = absurd (cc is)
 info_act op.Delete body is = absurd (cc is)
 
-module _ (editor : Bool) (ask : Ask) (token : Token) (body : List ℕ) (moment : ℕ) (always : Sight → Type 0) (old new : Sight) where
+module _ (editor : Bool) (origin : Option (List ℕ)) (ask : Ask) (token : Token) (body : List ℕ) (moment : ℕ) (always : Sight → Type 0) (old new : Sight) where
   -- a call under copies of the name and of the token
   pub act_tells : (name : List ℕ) (held : Token) (a : Act) → name ≡ ask.file → held ≡ token → act_of ask.op body ≡ Some a → (r : Result Answer Memory)
-      → Tells (TellsCall editor (record { name = name; token = held; act = a }) moment) always old new r → TellsAct editor ask token body moment always old new r
+      → Tells (TellsCall editor origin (record { name = name; token = held; act = a }) moment) always old new r → TellsAct editor origin ask token body moment always old new r
   act_tells name held a named same is r tells =
-      let under = subst (λ (t : Token). Tells (TellsCall editor (record { name = name; token = t; act = a }) moment) always old new r) same tells in
-      (a, is, subst (λ (n : List ℕ). Tells (TellsCall editor (record { name = n; token = token; act = a }) moment) always old new r) named under)
+      let under = subst (λ (t : Token). Tells (TellsCall editor origin (record { name = name; token = t; act = a }) moment) always old new r) same tells in
+      (a, is, subst (λ (n : List ℕ). Tells (TellsCall editor origin (record { name = n; token = token; act = a }) moment) always old new r) named under)
 
   pub copy_asked_tells : (desk : Desk) (source : List ℕ) (target : Target) → source ≡ ask.file → ask.op ≡ op.PutRelative target → (r : Result Answer Memory)
       → Tells (Copied desk (record { source = source; token = token; target = target; contents = body; moment = moment })) always old new r

@@ -32,14 +32,14 @@ use Rattle.host_server.specs.Turns.{AnswersTo}
 use Rattle.host_server.proofs.DeedLemmas.{Does-nil}
 
 -- what is told of CheckFileInfo's ruling, and of another one
-pub info_of_call : (editor : Bool) (call : Call) (ruling : Ruling) (name : List ℕ) (token : Token) → name ≡ call.name → token ≡ call.token → is_info call.act ≡ true
-    → info_told_to editor name token ruling ≡ told_of_to editor call ruling
-info_of_call editor call ruling name token named held is =
-    ap (λ n. info_told_to editor n token ruling) named ∙ ap (λ t. info_told_to editor call.name t ruling) held
-    ∙ sym (ap (λ info. if info then info_told_to editor call.name call.token ruling else ruling_told ruling) is)
+pub info_of_call : (editor : Bool) (origin : Option (List ℕ)) (call : Call) (ruling : Ruling) (name : List ℕ) (token : Token) → name ≡ call.name → token ≡ call.token → is_info call.act ≡ true
+    → info_told_to editor origin name token ruling ≡ told_of_to editor origin call ruling
+info_of_call editor origin call ruling name token named held is =
+    ap (λ n. info_told_to editor origin n token ruling) named ∙ ap (λ t. info_told_to editor origin call.name t ruling) held
+    ∙ sym (ap (λ info. if info then info_told_to editor origin call.name call.token ruling else ruling_told ruling) is)
 
-pub ruling_of_call : (editor : Bool) (call : Call) (ruling : Ruling) → is_info call.act ≡ false → ruling_told ruling ≡ told_of_to editor call ruling
-ruling_of_call editor call ruling is = sym (ap (λ info. if info then info_told_to editor call.name call.token ruling else ruling_told ruling) is)
+pub ruling_of_call : (editor : Bool) (origin : Option (List ℕ)) (call : Call) (ruling : Ruling) → is_info call.act ≡ false → ruling_told ruling ≡ told_of_to editor origin call ruling
+ruling_of_call editor origin call ruling is = sym (ap (λ info. if info then info_told_to editor origin call.name call.token ruling else ruling_told ruling) is)
 
 -- what is told in one relation is told in a wider one
 begun_wider : (P Q : List Deed → Answer → Type 0) → ((deeds : List Deed) (a : Answer) → P deeds a → Q deeds a) → (deeds : List Deed) → IsBegun P deeds → IsBegun Q deeds
@@ -62,16 +62,16 @@ module _ (always : Sight → Type 0) (old new : Sight) where
   pub tells_nothing : (P : List Deed → Answer → Type 0) (fault : Memory) → Does always old new [] → Tells P always old new (Err fault)
   tells_nothing P fault does = ([], does, inl refl)
 
-  module _ (editor : Bool) (call : Call) (moment : ℕ) where
-    pub ruled_tells : (ruling : Ruling) (back : Option (List ℕ)) (r : Result Answer Memory) → Calls always old new call moment (RuledCall ruling back) → IfOk r (λ a. a ≡ told_of_to editor call ruling)
-        → Tells (TellsCall editor call moment) always old new r
+  module _ (editor : Bool) (origin : Option (List ℕ)) (call : Call) (moment : ℕ) where
+    pub ruled_tells : (ruling : Ruling) (back : Option (List ℕ)) (r : Result Answer Memory) → Calls always old new call moment (RuledCall ruling back) → IfOk r (λ a. a ≡ told_of_to editor origin call ruling)
+        → Tells (TellsCall editor origin call moment) always old new r
     ruled_tells ruling back r (entry, of, is, returned, does) said =
-        let same : told_to editor entry ≡ told_of_to editor call ruling = ap (λ c. told_of_to editor c entry.ruling) of.0 ∙ ap (told_of_to editor call) is in
-        tells_whole (TellsCall editor call moment) (Made entry ∷ []) (told_of_to editor call ruling) r does (calls.ruled entry of refl (sym same)) said
+        let same : told_to editor origin entry ≡ told_of_to editor origin call ruling = ap (λ c. told_of_to editor origin c entry.ruling) of.0 ∙ ap (told_of_to editor origin call) is in
+        tells_whole (TellsCall editor origin call moment) (Made entry ∷ []) (told_of_to editor origin call ruling) r does (calls.ruled entry of refl (sym same)) said
 
-    pub full_tells : (r : Result Answer Memory) → Calls always old new call moment Full → IfOk r (λ a. a ≡ journal_full) → Tells (TellsCall editor call moment) always old new r
+    pub full_tells : (r : Result Answer Memory) → Calls always old new call moment Full → IfOk r (λ a. a ≡ journal_full) → Tells (TellsCall editor origin call moment) always old new r
     full_tells r (full, does) said =
-        tells_whole (TellsCall editor call moment) (Blocked call moment old new ∷ []) journal_full r does (calls.full old new full refl refl) said
+        tells_whole (TellsCall editor origin call moment) (Blocked call moment old new ∷ []) journal_full r does (calls.full old new full refl refl) said
 
 module _ (editor : Bool) (desk : Desk) (ask : Ask) (body : List ℕ) (moment : ℕ) (always : Sight → Type 0) where
   pub dead_tells : (s : Sight) (a : Answer) → ((token : Token) → ¬ (IsSigned desk.keys ask.token token)) → a ≡ status_only 401
@@ -79,11 +79,11 @@ module _ (editor : Bool) (desk : Desk) (ask : Ask) (body : List ℕ) (moment : �
   dead_tells s a none said = ([], Does-nil always s, answering.unauthorized none refl said)
 
   pub call_tells : (token : Token) (asked : Act) → IsSigned desk.keys ask.token token → act_of ask.op body ≡ Some asked → (old new : Sight) (r : Result Answer Memory)
-      → Tells (TellsCall editor (call_of ask token asked) moment) always old new r → Tells (RuledTo editor desk ask body moment) always old new r
+      → Tells (TellsCall editor desk.origin (call_of ask token asked) moment) always old new r → Tells (RuledTo editor desk ask body moment) always old new r
   call_tells token asked signed act old new r =
-      tells_wider always old new (TellsCall editor (call_of ask token asked) moment) (RuledTo editor desk ask body moment) is_ruled r
+      tells_wider always old new (TellsCall editor desk.origin (call_of ask token asked) moment) (RuledTo editor desk ask body moment) is_ruled r
     where
-      is_ruled : (deeds : List Deed) (a : Answer) → TellsCall editor (call_of ask token asked) moment deeds a → RuledTo editor desk ask body moment deeds a
+      is_ruled : (deeds : List Deed) (a : Answer) → TellsCall editor desk.origin (call_of ask token asked) moment deeds a → RuledTo editor desk ask body moment deeds a
       is_ruled deeds a (calls.ruled entry of is said) = answering.ruled token asked entry signed act of is said
       is_ruled deeds a (calls.full before after full is said) = answering.full token asked before after signed act full is said
 

@@ -37,7 +37,7 @@ copying_of ask token target body moment =
 pub data RuledTo (editor : Bool) (desk : Desk) (ask : Ask) (body : List ℕ) (moment : ℕ) (deeds : List Deed) (a : Answer) : Type 0 where
   unauthorized : ((token : Token) → ¬ (IsSigned desk.keys ask.token token)) → deeds ≡ [] → a ≡ status_only 401 → RuledTo editor desk ask body moment deeds a
   ruled : (token : Token) (asked : Act) (entry : Entry) → IsSigned desk.keys ask.token token → act_of ask.op body ≡ Some asked
-      → IsOf (call_of ask token asked) moment entry → deeds ≡ Made entry ∷ [] → a ≡ told_to editor entry → RuledTo editor desk ask body moment deeds a
+      → IsOf (call_of ask token asked) moment entry → deeds ≡ Made entry ∷ [] → a ≡ told_to editor desk.origin entry → RuledTo editor desk ask body moment deeds a
   full : (token : Token) (asked : Act) (before after : Sight) → IsSigned desk.keys ask.token token → act_of ask.op body ≡ Some asked
       → IsFull (call_of ask token asked) moment before after
       → deeds ≡ Blocked (call_of ask token asked) moment before after ∷ [] → a ≡ journal_full → RuledTo editor desk ask body moment deeds a

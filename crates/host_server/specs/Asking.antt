@@ -1,5 +1,5 @@
 -- What is told of an operation, by its kind.
-use Rattle.std.specs.Prelude.{ℕ, ◌≡◌, Bool, true, false, List, Some, Result}
+use Rattle.std.specs.Prelude.{ℕ, ◌≡◌, Bool, true, false, List, Option, Some, Result}
 use Rattle.wopi_text.specs.declared.faults.Memory.{Memory}
 use Rattle.wopi_model.specs.declared.token.Token.{Token}
 use Rattle.wopi_model.specs.declared.calls.Act.{Act}
@@ -26,9 +26,9 @@ is_copy (op.PutRelative target) = true
 is_copy _ = false
 
 -- the call of the one act that was asked for is told
-abbrev pub TellsAct : Bool → Ask → Token → List ℕ → ℕ → (Sight → Type 0) → Sight → Sight → Result Answer Memory → Type 0
-TellsAct editor ask token body moment always old new result =
-    (asked : Act) × (act_of ask.op body ≡ Some asked) × Tells (TellsCall editor (call_of ask token asked) moment) always old new result
+abbrev pub TellsAct : Bool → Option (List ℕ) → Ask → Token → List ℕ → ℕ → (Sight → Type 0) → Sight → Sight → Result Answer Memory → Type 0
+TellsAct editor origin ask token body moment always old new result =
+    (asked : Act) × (act_of ask.op body ≡ Some asked) × Tells (TellsCall editor origin (call_of ask token asked) moment) always old new result
 
 -- a PutRelativeFile was asked for, and is told
 abbrev pub TellsCopy : Desk → Ask → Token → List ℕ → ℕ → (Sight → Type 0) → Sight → Sight → Result Answer Memory → Type 0

@@ -1,5 +1,5 @@
 -- What one call does, and what is told of it.
-use Rattle.std.specs.Prelude.{◌≡◌, ◌⊎◌, ℕ, Bool, List, [], ◌∷◌, ◌++◌, Result, Ok, Err}
+use Rattle.std.specs.Prelude.{◌≡◌, ◌⊎◌, ℕ, Bool, List, [], ◌∷◌, ◌++◌, Option, Result, Ok, Err}
 use Rattle.wopi_text.specs.declared.faults.Memory.{Memory}
 use Rattle.wopi_model.specs.declared.calls.Call.{Call}
 use Rattle.wopi_model.specs.Shard.{Entry}
@@ -18,11 +18,11 @@ Calls always old new call moment (Ruled ruling back) =
 Calls always old new call moment Full = IsFull call moment old new × Does always old new (Blocked call moment old new ∷ [])
 Calls always old new call moment NoMemory = Does always old new []
 
--- an answer tells what became of a call, by whether the host serves editors
-pub data TellsCall (editor : Bool) (call : Call) (moment : ℕ) (deeds : List Deed) (a : Answer) : Type 0 where
-  ruled : (entry : Entry) → IsOf call moment entry → deeds ≡ Made entry ∷ [] → a ≡ told_to editor entry → TellsCall editor call moment deeds a
+-- an answer tells what became of a call, by whether the host serves editors, and in which page
+pub data TellsCall (editor : Bool) (origin : Option (List ℕ)) (call : Call) (moment : ℕ) (deeds : List Deed) (a : Answer) : Type 0 where
+  ruled : (entry : Entry) → IsOf call moment entry → deeds ≡ Made entry ∷ [] → a ≡ told_to editor origin entry → TellsCall editor origin call moment deeds a
   full : (before after : Sight) → IsFull call moment before after → deeds ≡ Blocked call moment before after ∷ [] → a ≡ journal_full
-      → TellsCall editor call moment deeds a
+      → TellsCall editor origin call moment deeds a
 
 -- where memory ran out, nothing was done, or the first deeds of some answer
 abbrev pub IsBegun : (List Deed → Answer → Type 0) → List Deed → Type 0

@@ -1,4 +1,4 @@
--- What a host that serves editors answers beyond what every host does. (MS-WOPI, CheckFileInfo, has the members that a body has beside the others, and says of each what it tells; that the token may stand in an Authorization field is RFC 6750, 2.1; what HEAD and OPTIONS are told is RFC 9110, 9.3.2 and 9.3.7; which of them stand, what an editor is told of a host's health, and that OPTIONS tells the same of each target, is own.)
+-- What a host that serves editors answers beyond what every host does. (MS-WOPI, CheckFileInfo, has the members that a body has beside the others, PostMessageOrigin among them, and says of each what it tells; that the token may stand in an Authorization field is RFC 6750, 2.1; what HEAD and OPTIONS are told is RFC 9110, 9.3.2 and 9.3.7; which of them stand, what an editor is told of a host's health, and that OPTIONS tells the same of each target, is own.)
 use Rattle.std.specs.Prelude.{ℕ, Bool, true, false, not, ◌&&◌, ◌==◌, if◌then◌else◌, List, [], ◌∷◌, length, codes, drop, Option, None, Some, option_and_then}
 use Rattle.std.specs.Str.{bytes_eq}
 use Rattle.serde_json.specs.Data.{Data, Members, boolean, number, unsigned, string, object, member, no_members, put}
@@ -13,14 +13,20 @@ use Rattle.put_relative.specs.CopyNames.{ending_of}
 use Rattle.file_info.specs.declared.info.Info.{Info}
 use Rattle.file_info.specs.Info.{info_text}
 
--- the members of a file's answer to an editor: those of every answer, and what kind of file it is, that it can't be renamed, and whether and
--- under which name the user may change it
-abbrev pub editor_json : Info → Data
-editor_json info =
+-- the member that tells the origin of the page which the editor stands in, where there is one, in front of these
+abbrev pub with_origin : Option (List ℕ) → Members → Members
+with_origin None others = others
+with_origin (Some origin) others = member (codes "PostMessageOrigin") (string origin) others
+
+-- the members of a file's answer to an editor: those of every answer, and what kind of file it is, that it can't be renamed, whether and
+-- under which name the user may change it, and with which page the editor speaks
+abbrev pub editor_json : Option (List ℕ) → Info → Data
+editor_json origin info =
     object
     (member (codes "BaseFileName") (string info.name)
     (member (codes "FileExtension") (string (ending_of info.name))
     (member (codes "OwnerId") (string info.owner)
+    (with_origin origin
     (member (codes "ReadOnly") (boolean (not info.can_write))
     (member (codes "Size") (number (unsigned info.size))
     (member (codes "SupportsDeleteFile") (boolean true)
@@ -35,7 +41,7 @@ editor_json info =
     (member (codes "UserFriendlyName") (string info.user)
     (member (codes "UserId") (string info.user)
     (member (codes "Version") (string info.version)
-    no_members)))))))))))))))))
+    no_members))))))))))))))))))
 
 -- members beside others, each at its place
 abbrev pub with_members : List (List ℕ × Data) → Members → Members
@@ -61,12 +67,12 @@ user_members info =
     ∷ (codes "UserCanWrite", boolean info.can_write) ∷ (codes "UserFriendlyName", string info.user) ∷ (codes "UserId", string info.user) ∷ []
 
 -- the body of that answer, written without spaces
-abbrev pub editor_text : Info → List ℕ
-editor_text info = compact_text (editor_json info)
+abbrev pub editor_text : Option (List ℕ) → Info → List ℕ
+editor_text origin info = compact_text (editor_json origin info)
 
--- the body of CheckFileInfo's answer, by whether the host serves editors
-abbrev pub info_body : Bool → Info → List ℕ
-info_body editor info = if editor then editor_text info else info_text info
+-- the body of CheckFileInfo's answer, by whether the host serves editors, and in which page
+abbrev pub info_body : Bool → Option (List ℕ) → Info → List ℕ
+info_body editor origin info = if editor then editor_text origin info else info_text info
 
 -- what a value bears behind the scheme, which is compared without regard to ASCII case
 abbrev pub behind_scheme : List ℕ → Option (List ℕ)

@@ -1,5 +1,5 @@
 -- What is told of a call. (MS-WOPI, CheckFileInfo; what the body says where a shard is full, and the name of the owner, are own.)
-use Rattle.std.specs.Prelude.{ℕ, Bool, true, false, List, None, codes, unwrap_or, ◌==◌, if◌then◌else◌}
+use Rattle.std.specs.Prelude.{ℕ, Bool, true, false, List, Option, None, codes, unwrap_or, ◌==◌, if◌then◌else◌}
 use Rattle.wopi_model.specs.declared.token.Token.{Token}
 use Rattle.wopi_model.specs.declared.calls.Act.{Act}
 use Rattle.wopi_model.specs.declared.calls.Act.TheVariants as act
@@ -32,28 +32,28 @@ abbrev pub is_info : Act → Bool
 is_info act.Info = true
 is_info _ = false
 
--- The answer that tells CheckFileInfo's ruling, by whether the host serves editors: where it is accepted the body has the version, and no field
+-- The answer that tells CheckFileInfo's ruling, by whether the host serves editors, and in which page: where it is accepted the body has the version, and no field
 -- of the reply has it.
-abbrev pub info_told_to : Bool → List ℕ → Token → Ruling → Answer
-info_told_to editor name token ruling =
+abbrev pub info_told_to : Bool → Option (List ℕ) → List ℕ → Token → Ruling → Answer
+info_told_to editor origin name token ruling =
     if ruling.status == 200
-    then record (ruling_told ruling) { version = None; kind = Json; body = info_body editor (info_of name token (unwrap_or ruling.version 0) ruling.size) }
+    then record (ruling_told ruling) { version = None; kind = Json; body = info_body editor origin (info_of name token (unwrap_or ruling.version 0) ruling.size) }
     else ruling_told ruling
 
 -- the answer that tells what a call was ruled
-abbrev pub told_of_to : Bool → Call → Ruling → Answer
-told_of_to editor call ruling = if is_info call.act then info_told_to editor call.name call.token ruling else ruling_told ruling
+abbrev pub told_of_to : Bool → Option (List ℕ) → Call → Ruling → Answer
+told_of_to editor origin call ruling = if is_info call.act then info_told_to editor origin call.name call.token ruling else ruling_told ruling
 
 -- the answer that tells an entry
-abbrev pub told_to : Bool → Entry → Answer
-told_to editor entry = told_of_to editor entry.call entry.ruling
+abbrev pub told_to : Bool → Option (List ℕ) → Entry → Answer
+told_to editor origin entry = told_of_to editor origin entry.call entry.ruling
 
 -- the same of a host that serves no editors
 abbrev pub info_told : List ℕ → Token → Ruling → Answer
-info_told = info_told_to false
+info_told = info_told_to false None
 
 abbrev pub told_of : Call → Ruling → Answer
-told_of = told_of_to false
+told_of = told_of_to false None
 
 abbrev pub told : Entry → Answer
-told = told_to false
+told = told_to false None

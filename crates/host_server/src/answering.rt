@@ -1,5 +1,5 @@
 //! Requests answered by calls on files, and by listings of them.
-ghost use Rattle.std.specs.Prelude.{◌≡◌, Bool, IfOk, IfSome, IsSome, Some, true, false};
+ghost use Rattle.std.specs.Prelude.{◌≡◌, ℕ, Bool, List, Option, IfOk, IfSome, IsSome, Some, true, false};
 ghost use Rattle.wopi_model.specs.Moment.{IsMoment};
 ghost use Rattle.access_tokens.specs.Remembering.{Remembers};
 ghost use Rattle.access_tokens.specs.TokenText.{IsWritable};
@@ -82,7 +82,7 @@ fn make_and_tell<C: Caller>(
     requires moment { IsMoment moment }
     requires alone { is_copy ask.now.op ≡ false }
     requires other { asks_info ask.now.op ≡ false }
-    ensures tells { (editor : Bool) → TellsAct editor ask.now token body moment C.always (C.sight caller.old) (C.sight caller.new) result }
+    ensures tells { (editor : Bool) (origin : Option (List ℕ)) → TellsAct editor origin ask.now token body moment C.always (C.sight caller.old) (C.sight caller.new) result }
     ensures basis { C.basis caller.new ≡ C.basis caller.old }
     ensures references { C.references caller.new ≡ C.references caller.old }
 {
@@ -99,6 +99,7 @@ fn make_and_tell<C: Caller>(
 fn check_file_info<C: Caller>(
     alloc: Global,
     caller: &mut C,
+    desk: &Desk,
     editor: bool,
     ask: &Ask,
     token: Token,
@@ -107,7 +108,7 @@ fn check_file_info<C: Caller>(
 ) -> Result<Answer, Memory>
     requires moment { IsMoment moment }
     requires info { asks_info ask.now.op ≡ true }
-    ensures tells { TellsAct editor ask.now token body moment C.always (C.sight caller.old) (C.sight caller.new) result }
+    ensures tells { TellsAct editor desk.now.origin ask.now token body moment C.always (C.sight caller.old) (C.sight caller.new) result }
     ensures basis { C.basis caller.new ≡ C.basis caller.old }
     ensures references { C.references caller.new ≡ C.references caller.old }
 {
@@ -119,7 +120,7 @@ fn check_file_info<C: Caller>(
         act: Act::Info,
     };
     match make(caller, call, moment) {
-        Called::Ruled { ruling, back: _ } => info_told(alloc, editor, &ask.file, &token, ruling),
+        Called::Ruled { ruling, back: _ } => info_told(alloc, editor, &desk.origin, &ask.file, &token, ruling),
         Called::Full => journal_full(alloc),
         Called::Memory => Err(Memory),
     }
@@ -186,7 +187,7 @@ fn answer_ask<C: Caller>(
         return copy_asked(alloc, caller, desk, ask, token, body, moment);
     }
     if is_info(&ask.op) {
-        return check_file_info(alloc, caller, editor, ask, token, body, moment);
+        return check_file_info(alloc, caller, desk, editor, ask, token, body, moment);
     }
     make_and_tell(alloc, caller, ask, token, body, moment)
 }

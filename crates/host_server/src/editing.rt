@@ -1,10 +1,11 @@
 //! What a host that serves editors answers beyond what every host does.
-ghost use Rattle.std.specs.Prelude.{◌≡◌, IfOk, OnOk};
+ghost use Rattle.std.specs.Prelude.{◌≡◌, IfOk, IfSome, OnOk};
 ghost use Rattle.std.specs.Option.{option_copied};
 ghost use Rattle.serde_json.specs.Data.{boolean, string, put as with_member};
 ghost use Rattle.serde_json.specs.View.{members_view, view};
 ghost use Rattle.std.specs.Str.{IsUtf8};
 ghost use Rattle.file_info.specs.Info.{HasTexts};
+ghost use Rattle.access_tokens.specs.Origins.{IsOrigin};
 ghost use Rattle.host_server.specs.Editing.{as_get, asks_head, asks_health, asks_options, bearer_in, behind_scheme, editor_json, file_members, info_body, is_get, is_head, is_options, joined, judged_as, refused_status, supports_members, token_taken, user_members, with_members};
 
 use crate::address::text_of;
@@ -79,27 +80,44 @@ fn put_user(alloc: Global, map: &mut Map<String, Value>, info: &Info) -> Result<
     put_text(alloc, map, "UserId", user)
 }
 
-/// What the body of CheckFileInfo's answer tells an editor.
-fn editor_value(alloc: Global, info: &Info) -> Result<Value, AllocError>
-    requires { HasTexts info.now }
-    ensures { IfOk result (λ value. view value ≡ editor_json info.now) }
+/// What the body of CheckFileInfo's answer tells an editor in a page of that origin.
+fn editor_value(
+    alloc: Global,
+    origin: &Option<Bytes>,
+    info: &Info,
+) -> Result<Value, AllocError>
+    requires texts { HasTexts info.now }
+    requires page { IfSome origin.now IsOrigin }
+    ensures { IfOk result (λ value. view value ≡ editor_json origin.now info.now) }
 {
     let mut map = Map::new(alloc);
     put_file(alloc, &mut map, info)?;
     put_supports(alloc, &mut map)?;
     put_user(alloc, &mut map, info)?;
-    Ok(Value::Object(map))
+    match origin {
+        None => return Ok(Value::Object(map)),
+        Some(origin) => {
+            put_text(alloc, &mut map, "PostMessageOrigin", text_of(origin.as_slice()))?;
+            return Ok(Value::Object(map));
+        }
+    }
 }
 
-/// The body of CheckFileInfo's answer, by whether the host serves editors.
-pub fn info_body(alloc: Global, editor: bool, info: &Info) -> Result<Bytes, Memory>
-    requires { HasTexts info.now }
-    ensures { IfOk result (λ text. text ≡ info_body editor info.now) }
+/// The body of CheckFileInfo's answer, by whether the host serves editors, and in which page.
+pub fn info_body(
+    alloc: Global,
+    editor: bool,
+    origin: &Option<Bytes>,
+    info: &Info,
+) -> Result<Bytes, Memory>
+    requires texts { HasTexts info.now }
+    requires page { IfSome origin.now IsOrigin }
+    ensures { IfOk result (λ text. text ≡ info_body editor origin.now info.now) }
 {
     if !editor {
         return info_text(alloc, info);
     }
-    let value = editor_value(alloc, info)?;
+    let value = editor_value(alloc, origin, info)?;
     Ok(Bytes::from_vec(value.to_vec(alloc)?))
 }
 

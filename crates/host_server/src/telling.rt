@@ -1,7 +1,8 @@
 //! Rulings told as answers.
-ghost use Rattle.std.specs.Prelude.{◌≡◌, ◌==◌, [], IfOk, codes, unwrap_or, if◌then◌else◌};
+ghost use Rattle.std.specs.Prelude.{◌≡◌, ◌==◌, [], IfOk, IfSome, codes, unwrap_or, if◌then◌else◌};
 ghost use Rattle.wopi_headers.specs.declared.answer.BodyKind.TheVariants.{Plain};
 ghost use Rattle.file_info.specs.Info.{HasTexts};
+ghost use Rattle.access_tokens.specs.Origins.{IsOrigin};
 ghost use Rattle.wopi_acts.specs.Answers.{status_only, kind_of_contents, ruling_told};
 ghost use Rattle.host_server.specs.Telling.{journal_full, info_of, info_told_to};
 
@@ -107,16 +108,18 @@ fn info_of(
     })
 }
 
-/// The answer that tells CheckFileInfo's ruling, by whether the host serves editors. Its body has the
-/// version, and no field has it.
+/// The answer that tells CheckFileInfo's ruling, by whether the host serves editors, and in which page. Its body
+/// has the version, and no field has it.
 pub fn info_told(
     alloc: Global,
     editor: bool,
+    origin: &Option<Bytes>,
     name: &FileName,
     token: &Token,
     ruling: Ruling,
 ) -> Result<Answer, Memory>
-    ensures { IfOk result (λ a. a ≡ info_told_to editor name.now token.now ruling) }
+    requires { IfSome origin.now IsOrigin }
+    ensures { IfOk result (λ a. a ≡ info_told_to editor origin.now name.now token.now ruling) }
 {
     let accepted = ruling.status == 200;
     let version = ruling.version.unwrap_or(0);
@@ -126,7 +129,7 @@ pub fn info_told(
         let info = info_of(alloc, name, token, version, size)?;
         answer.version = None;
         answer.kind = BodyKind::Json;
-        answer.body = info_body(alloc, editor, &info)?;
+        answer.body = info_body(alloc, editor, origin, &info)?;
     }
     Ok(answer)
 }

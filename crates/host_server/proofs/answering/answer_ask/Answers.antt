@@ -45,7 +45,7 @@ pub returns-clause-tells : goal.returns-clause-tells
 returns-clause-tells g c =
     let same : c.in_ok-judged.judged ≡ token_taken c.args.editor c.args.fields.now c.args.ask.now.token =
     c.in_ok-judged.ensures ∙ ap (token_taken c.args.editor c.args.fields.now) c.replace-text.ensures.value in
-    let told = c.make_and_tell.ensures.tells c.args.editor in
+    let told = c.make_and_tell.ensures.tells c.args.editor c.args.desk.now.origin in
     let signed = subst (λ (t : List ℕ). IsSigned c.args.desk.now.keys t c.in-Some.token) same ((c.in-Some.ensures.exact c.in-Some.token).0 refl) in
     call_tells c.args.editor c.args.desk.now (asked_with c.args.editor c.args.fields.now c.args.ask.now) c.args.body c.args.moment g.C.Caller.always c.in-Some.token told.0 signed told.1
     (g.C.Caller.sight c.args.caller.now) (g.C.Caller.sight c.make_and_tell.new.caller) c.make_and_tell.result told.2
