@@ -17,7 +17,8 @@ fn own_port(secure: bool) -> u64
 fn is_host_byte(byte: u8) -> bool
     ensures { result ≡ is_host_byte byte }
 {
-    byte.is_ascii_lowercase() || (byte.is_ascii_digit() || (byte == b'-' || (byte == b'.' || byte == b'_')))
+    byte.is_ascii_lowercase()
+        || (byte.is_ascii_digit() || (byte == b'-' || (byte == b'.' || byte == b'_')))
 }
 
 /// How many bytes of a host stand at the front.

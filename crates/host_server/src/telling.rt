@@ -1,8 +1,8 @@
 //! Rulings told as answers.
-ghost use Rattle.std.specs.Prelude.{◌≡◌, ◌==◌, [], IfOk, IfSome, codes, unwrap_or, if◌then◌else◌};
+ghost use Rattle.std.specs.Prelude.{◌≡◌, ◌==◌, [], IfOk, codes, unwrap_or, if◌then◌else◌};
 ghost use Rattle.wopi_headers.specs.declared.answer.BodyKind.TheVariants.{Plain};
 ghost use Rattle.file_info.specs.Info.{HasTexts};
-ghost use Rattle.access_tokens.specs.Origins.{IsOrigin};
+ghost use Rattle.host_server.specs.Editing.{MayTell};
 ghost use Rattle.wopi_acts.specs.Answers.{status_only, kind_of_contents, ruling_told};
 ghost use Rattle.host_server.specs.Telling.{journal_full, info_of, info_told_to};
 
@@ -118,7 +118,7 @@ pub fn info_told(
     token: &Token,
     ruling: Ruling,
 ) -> Result<Answer, Memory>
-    requires { IfSome origin.now IsOrigin }
+    requires { MayTell origin.now }
     ensures { IfOk result (λ a. a ≡ info_told_to editor origin.now name.now token.now ruling) }
 {
     let accepted = ruling.status == 200;

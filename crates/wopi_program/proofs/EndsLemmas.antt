@@ -53,5 +53,5 @@ at_serve law journal opened first opened_is first_is legal desktop client ending
 module _ {S K F N D C L : Type 0} (m : Meanings S K F N D C L) where
   pub all_legal : (journals : List (JournalView F)) → AllByRecursion (WasServed m) journals → AllByRecursion IsLegal (map journal_of journals)
   all_legal [] served = tt
-  all_legal (journal ∷ journals) ((keys, base, ask, ends, old, new, one), served) =
+  all_legal (journal ∷ journals) ((keys, base, origin, ask, ends, old, new, one), served) =
       (journal_legal journal one.desk.opened ask.first one.journal_is.opened_is one.journal_is.first_is one.journal_is.legal, all_legal journals served)

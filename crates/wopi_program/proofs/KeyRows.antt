@@ -7,14 +7,6 @@ use Rattle.access_tokens.specs.declared.keys.Keys.{Keys}
 use Rattle.wopi_program.specs.declared.command.Command.TheVariants.{Token}
 use Rattle.wopi_program.specs.Words.{IsOnceRow, IsRow, words_of}
 
--- words are no row of `once` without `--editor` where its third word writes no keys
-pub once_refused : (words : List (List ℕ)) (word folder key_word base : List ℕ) → words ≡ word ∷ folder ∷ key_word ∷ base ∷ []
-    → ((keys : Keys) → ¬ IsWordOf keys key_word) → (keys : Keys) (base : List ℕ) → ¬ IsOnceRow words keys base false
-once_refused words word folder key_word base are denied keys base' row =
-    let same : word ∷ folder ∷ key_word ∷ base ∷ [] ≡ codes "once" ∷ row.folder ∷ row.key_word ∷ base' ∷ [] = sym are ∙ row.words_are in
-    let third : row.key_word ≡ key_word = cc same in
-    denied keys (subst (IsWordOf keys) third row.keys_are)
-
 -- words are no row of `token` where its second word and those behind it don't write keys and a token
 token_refused : (words rest : List (List ℕ)) (word key_word user name : List ℕ) → words ≡ word ∷ key_word ∷ user ∷ name ∷ rest
     → ((keys : Keys) (token : model.Token) → IsWordOf keys key_word → IsWritable token → user ∷ name ∷ rest ≢ words_of token)

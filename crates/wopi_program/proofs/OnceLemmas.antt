@@ -72,8 +72,8 @@ module _ {S K F N D C L : Type 0} (m : Meanings S K F N D C L) where
       all_shown first.opening first.opened first.first (sight_of s.last) (sight_of first) [] s.serves.deeds
       (record { opening_is = refl; opened_is = refl; first_is = refl; calm = unticked; own_is = ap (λ (l : List Made). entries (items_of l)) none }) s.serves.makes.met
 
-  pub opens_and_serves : (desk : Desk) (keys : Keys) (base : List ℕ) (editor : Bool) (opened : ℕ) (end : ConnEnd) (folder folder' : F) (clock mid clock' : C) (old new : Outside S K F N D C)
-      (first : Book F) → desk.keys ≡ keys → desk.base ≡ base → desk.editor ≡ editor → desk.opened ≡ opened → Gives (m.work.moments clock) (m.work.moments mid) opened
+  pub opens_and_serves : (desk : Desk) (keys : Keys) (base : List ℕ) (editor : Bool) (origin : Option (List ℕ)) (opened : ℕ) (end : ConnEnd) (folder folder' : F) (clock mid clock' : C) (old new : Outside S K F N D C)
+      (first : Book F) → desk.keys ≡ keys → desk.base ≡ base → desk.editor ≡ editor → desk.origin ≡ origin → desk.opened ≡ opened → Gives (m.work.moments clock) (m.work.moments mid) opened
       → first ≡ record {
         only = None;
         opening = first.opening;
@@ -88,14 +88,15 @@ module _ {S K F N D C L : Type 0} (m : Meanings S K F N D C L) where
       }
       → IsOpening None (m.files folder) first.opening → Fits first.opening
       → ServesShard m desk end first folder' mid clock' old new
-      → OpensAndServes m keys base editor end folder folder' clock clock' old new
-  opens_and_serves desk keys base editor opened end folder folder' clock mid clock' old new first keys_are base_is editor_is opened_is times book opening fits serves = record {
+      → OpensAndServes m keys base editor origin end folder folder' clock clock' old new
+  opens_and_serves desk keys base editor origin opened end folder folder' clock mid clock' old new first keys_are base_is editor_is origin_is opened_is times book opening fits serves = record {
     desk = desk;
     mid = mid;
     first = first;
     keys_are = keys_are;
     base_is = base_is;
     editor_is = editor_is;
+    origin_is = origin_is;
     times = subst (Gives (m.work.moments clock) (m.work.moments mid)) (sym opened_is) times;
     opens = subst (λ n. IsFresh m folder n first) (sym opened_is) (record { book = book; opening = opening; fits = fits });
     serves = serves;
@@ -108,8 +109,8 @@ module _ {S K F N D C L : Type 0} (m : Meanings S K F N D C L) where
   }
 
   -- the same where the shard was opened over a store round the folder
-  pub kept_and_served : (desk : Desk) (keys : Keys) (base : List ℕ) (editor : Bool) (opened : ℕ) (end : ConnEnd) (folder kept folder' : F) (clock mid clock' : C) (old new : Outside S K F N D C)
-      (first : Book F) → kept ≡ folder → desk.keys ≡ keys → desk.base ≡ base → desk.editor ≡ editor → desk.opened ≡ opened → Gives (m.work.moments clock) (m.work.moments mid) opened
+  pub kept_and_served : (desk : Desk) (keys : Keys) (base : List ℕ) (editor : Bool) (origin : Option (List ℕ)) (opened : ℕ) (end : ConnEnd) (folder kept folder' : F) (clock mid clock' : C) (old new : Outside S K F N D C)
+      (first : Book F) → kept ≡ folder → desk.keys ≡ keys → desk.base ≡ base → desk.editor ≡ editor → desk.origin ≡ origin → desk.opened ≡ opened → Gives (m.work.moments clock) (m.work.moments mid) opened
       → first ≡ record {
         only = None;
         opening = first.opening;
@@ -124,18 +125,18 @@ module _ {S K F N D C L : Type 0} (m : Meanings S K F N D C L) where
       }
       → IsOpening None (m.files kept) first.opening → Fits first.opening
       → ServesShard m desk end first folder' mid clock' old new
-      → OpensAndServes m keys base editor end folder folder' clock clock' old new
-  kept_and_served desk keys base editor opened end folder kept folder' clock mid clock' old new first same keys_are base_is editor_is opened_is times book opening fits serves =
-      subst (λ (f : F). OpensAndServes m keys base editor end f folder' clock clock' old new) same
-      (opens_and_serves desk keys base editor opened end kept folder' clock mid clock' old new first keys_are base_is editor_is opened_is times book opening fits serves)
+      → OpensAndServes m keys base editor origin end folder folder' clock clock' old new
+  kept_and_served desk keys base editor origin opened end folder kept folder' clock mid clock' old new first same keys_are base_is editor_is origin_is opened_is times book opening fits serves =
+      subst (λ (f : F). OpensAndServes m keys base editor origin end f folder' clock clock' old new) same
+      (opens_and_serves desk keys base editor origin opened end kept folder' clock mid clock' old new first keys_are base_is editor_is origin_is opened_is times book opening fits serves)
 
   -- a run speaks of the streams alone, and of the folder and the clock that it was given
-  module _ (keys : Keys) (base : List ℕ) (editor : Bool) (folder folder' : F) (clock clock' : C) (old new old' new' : Outside S K F N D C)
+  module _ (keys : Keys) (base : List ℕ) (editor : Bool) (origin : Option (List ℕ)) (folder folder' : F) (clock clock' : C) (old new old' new' : Outside S K F N D C)
       (input_is : old.input ≡ old'.input) (input_then : new.input ≡ new'.input) (output_is : old.output ≡ old'.output) (output_then : new.output ≡ new'.output) where
-    moved : (end : ConnEnd) → OpensAndServes m keys base editor end folder folder' clock clock' old new → OpensAndServes m keys base editor end folder folder' clock clock' old' new'
+    moved : (end : ConnEnd) → OpensAndServes m keys base editor origin end folder folder' clock clock' old new → OpensAndServes m keys base editor origin end folder folder' clock clock' old' new'
     moved end served =
         let one = served.serves in
-        let At : S × S × K × K → Type 0 = λ z. OpensAndServes m keys base editor end folder folder' clock clock' (record old' { input = z.0; output = z.2 }) (record new' { input = z.1; output = z.3 }) in
+        let At : S × S × K × K → Type 0 = λ z. OpensAndServes m keys base editor origin end folder folder' clock clock' (record old' { input = z.0; output = z.2 }) (record new' { input = z.1; output = z.3 }) in
         let streams : (old.input, new.input, old.output, new.output) ≡ (old'.input, new'.input, old'.output, new'.output) =
         λ i. (input_is i, input_then i, output_is i, output_then i)
         in
@@ -146,6 +147,7 @@ module _ {S K F N D C L : Type 0} (m : Meanings S K F N D C L) where
           keys_are = served.keys_are;
           base_is = served.base_is;
           editor_is = served.editor_is;
+          origin_is = served.origin_is;
           times = served.times;
           opens = served.opens;
           serves = record { last = one.last; serves = one.serves; start = one.start; only = one.only; lawful = one.lawful; folder_is = one.folder_is };
@@ -155,18 +157,18 @@ module _ {S K F N D C L : Type 0} (m : Meanings S K F N D C L) where
         in
         subst At streams here
 
-    pub runs_moved : (end : OnceEnd) → OnceRuns m keys base editor end folder folder' clock clock' old new → OnceRuns m keys base editor end folder folder' clock clock' old' new'
+    pub runs_moved : (end : OnceEnd) → OnceRuns m keys base editor origin end folder folder' clock clock' old new → OnceRuns m keys base editor origin end folder folder' clock clock' old' new'
     runs_moved (Served end) served = moved end served
     runs_moved FolderFault none = none
     runs_moved (TooLarge name) none = none
     runs_moved Memory none = none
 
   -- nor does it speak of the notes
-  pub once_noted : (keys : Keys) (base base' : List ℕ) (editor : Bool) (end : OnceEnd) (old new : Outside S K F N D C) (notes : K) → base ≡ base' → OnceRunsIn m keys base editor end old new
-      → OnceRunsIn m keys base' editor end old (record new { notes = notes })
-  once_noted keys base base' editor end old new notes is ran =
+  pub once_noted : (keys : Keys) (base base' : List ℕ) (editor : Bool) (origin origin' : Option (List ℕ)) (end : OnceEnd) (old new : Outside S K F N D C) (notes : K) → base ≡ base' → origin ≡ origin' → OnceRunsIn m keys base editor origin end old new
+      → OnceRunsIn m keys base' editor origin' end old (record new { notes = notes })
+  once_noted keys base base' editor origin origin' end old new notes is same ran =
       let new' : Outside S K F N D C = record new { notes = notes } in
-      let noted : OnceRunsIn m keys base editor end old new' = record {
+      let noted : OnceRunsIn m keys base editor origin end old new' = record {
         folder = ran.folder;
         folder' = ran.folder';
         folders_are = ran.folders_are;
@@ -175,10 +177,10 @@ module _ {S K F N D C L : Type 0} (m : Meanings S K F N D C L) where
         clock' = ran.clock';
         clocks_are = ran.clocks_are;
         clocks_then = ran.clocks_then;
-        runs = runs_moved keys base editor ran.folder ran.folder' ran.clock ran.clock' old new old new' refl refl refl refl end ran.runs;
+        runs = runs_moved keys base editor origin ran.folder ran.folder' ran.clock ran.clock' old new old new' refl refl refl refl end ran.runs;
       }
       in
-      subst (λ b. OnceRunsIn m keys b editor end old new') is noted
+      subst (λ o. OnceRunsIn m keys base' editor o end old new') same (subst (λ b. OnceRunsIn m keys b editor origin end old new') is noted)
 
 pub untouched_noted : {S K F N D C : Type 0} (end : OnceEnd) (old new : Outside S K F N D C) (notes : K) → Untouched end old new
     → Untouched end old (record new { notes = notes })

@@ -7,6 +7,7 @@ use Rattle.host_core.specs.Opening.{most_first}
 use Rattle.access_tokens.specs.Addresses.{is_base}
 use Rattle.wopi_program.specs.declared.serve_words.ServeAsk.{ServeAsk}
 use Rattle.wopi_program.specs.declared.serve_words.ServeOptions.{ServeOptions}
+use Rattle.wopi_program.specs.EditorWords.{TellsOrigin, origin_told}
 use Rattle.wopi_program.specs.ServeWords.{IsServe, IsServeRow, asked_of, before_others, number_in, option_before, options_of, unless_told, with_each, with_first, with_journal, with_links}
 use Rattle.access_tokens.specs.declared.keys.Keys.{Keys}
 
@@ -114,7 +115,7 @@ module _ {A : Type 0} (f : A → List ℕ) where
 pub refused : (words : List (List ℕ)) (word folder port key_word base workers : List ℕ) (rest : List (List ℕ))
     → words ≡ word ∷ folder ∷ port ∷ key_word ∷ base ∷ workers ∷ rest
     → ((keys : Keys) (ask : ServeAsk) → word ≡ codes "serve" → 0 < length folder → IsWordOf keys key_word → is_base base ≡ true
-    → asked_of port workers rest ≡ Some ask → ⊥) → IsServe words → ⊥
+    → TellsOrigin rest → asked_of port workers rest ≡ Some ask → ⊥) → IsServe words → ⊥
 refused words word folder port key_word base workers rest are denied (keys, base', ask, row) =
     let same : word ∷ folder ∷ port ∷ key_word ∷ base ∷ workers ∷ rest ≡ codes "serve" ∷ row.folder ∷ row.port ∷ row.key_word ∷ base' ∷ row.workers ∷ row.options =
     sym are ∙ row.words_are in
@@ -126,8 +127,13 @@ refused words word folder port key_word base workers rest are denied (keys, base
     let w : row.workers ≡ workers = cc same in
     let o : row.options ≡ rest = cc same in
     denied keys ask a (subst (λ (l : List ℕ). 0 < length l) b row.folder_is) (subst (IsWordOf keys) d row.keys_are) (ap is_base (sym e) ∙ row.base_is)
+    (subst TellsOrigin o row.origin_is)
     (ap (λ (l : List ℕ). asked_of l workers rest) (sym p) ∙ ap (λ (l : List ℕ). asked_of row.port l rest) (sym w)
     ∙ ap (λ (l : List (List ℕ)). asked_of row.port row.workers l) (sym o) ∙ row.ask_is)
+
+-- what they tell of a page is read off them
+pub serve_page : (words : List (List ℕ)) (keys : Keys) (base : List ℕ) (ask : ServeAsk) (row : IsServeRow words keys base ask) → origin_told (drop 6 words) ≡ origin_told row.options
+serve_page words keys base ask row = ap (λ (l : List (List ℕ)). origin_told (drop 6 l)) row.words_are
 
 -- the words have these numbers alone
 pub ask_same : (words : List (List ℕ)) (keys : Keys) (base : List ℕ) (keys' : Keys) (base' : List ℕ) (ask ask' : ServeAsk) → IsServeRow words keys base ask → IsServeRow words keys' base' ask'

@@ -1,5 +1,5 @@
 -- An `edit` and the `serve` that it speaks with. (Own.)
-use Rattle.std.specs.Prelude.{◌≡◌, ℕ, List, map, Some}
+use Rattle.std.specs.Prelude.{◌≡◌, ℕ, List, map, Option, Some}
 use Rattle.std.specs.List.{slice_get}
 use Rattle.outside.specs.Stream.{Are}
 use Rattle.wopi_text.specs.FileName.{shard_of}
@@ -36,8 +36,8 @@ journal_of journal = record { opening = openings journal.parts; opened = journal
 -- a `serve` wrote this journal
 abbrev pub WasServed : {S K F N D C L : Type 0} → Meanings S K F N D C L → JournalView F → Type 0
 WasServed {S} {K} {F} {N} {D} {C} m journal =
-    (keys : Keys) × (base : List ℕ) × (ask : ServeAsk) × (ends : List WorkEnd) × (old : Outside S K F N D C) × (new : Outside S K F N D C)
-    × HasServed m keys base ask ends journal old new
+    (keys : Keys) × (base : List ℕ) × (origin : Option (List ℕ)) × (ask : ServeAsk) × (ends : List WorkEnd) × (old : Outside S K F N D C) × (new : Outside S K F N D C)
+    × HasServed m keys base origin ask ends journal old new
 
 -- each of these hosts opened behind the one before, over the contents that it had left in the shard of the client's file
 abbrev pub OpenOverIt : {F : Type 0} → JournalView F → List (JournalView F) → Client → Type 0

@@ -12,6 +12,7 @@ pub mod Passes
 pub mod Journal
 pub mod Serve
 pub mod Worked
+pub mod EditorWords
 pub mod ServeWords
 pub mod ServeEnds
 pub mod EditWords

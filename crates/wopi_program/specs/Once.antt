@@ -18,6 +18,7 @@ use Rattle.host_server.specs.Deeds.{made}
 use Rattle.wopi_program.specs.declared.outside_world.Outside.{Outside}
 use Rattle.wopi_program.specs.declared.once.OnceEnd.{OnceEnd}
 use Rattle.wopi_program.specs.declared.once.OnceEnd.TheVariants.{Served, FolderFault, TooLarge, Memory}
+use Rattle.wopi_program.specs.EditorWords.{origin_told}
 use Rattle.wopi_program.specs.Files.{AreShownIn}
 use Rattle.wopi_program.specs.Meanings.{Meanings}
 use Rattle.wopi_program.specs.Notes.{Notes, NotesFor}
@@ -103,13 +104,14 @@ module _ {S K F N D C L : Type 0} (m : Meanings S K F N D C L) where
 
   -- The clock's first moment opened the shard, and the connection was served by its later ones. The entries that were made are
   -- legal by themselves, from the opening: nobody set the shard's time beside them. Each listing shows the shard after those before it.
-  pub record OpensAndServes (keys : Keys) (base : List ℕ) (editor : Bool) (end : ConnEnd) (folder folder' : F) (clock clock' : C) (old new : Outside S K F N D C) : Type 0 where
+  pub record OpensAndServes (keys : Keys) (base : List ℕ) (editor : Bool) (origin : Option (List ℕ)) (end : ConnEnd) (folder folder' : F) (clock clock' : C) (old new : Outside S K F N D C) : Type 0 where
     pub desk : Desk
     pub mid : C
     pub first : Book F
     pub keys_are : desk.keys ≡ keys
     pub base_is : desk.base ≡ base
     pub editor_is : desk.editor ≡ editor
+    pub origin_is : desk.origin ≡ origin
     pub times : Gives (m.work.moments clock) (m.work.moments mid) desk.opened
     pub opens : IsFresh folder desk.opened first
     pub serves : ServesShard desk end first folder' mid clock' old new
@@ -124,15 +126,15 @@ module _ {S K F N D C L : Type 0} (m : Meanings S K F N D C L) where
     pub counts : m.folder_faults folder ≤ m.folder_faults folder'
 
   -- What a run did with the folder and the clock, by its end.
-  abbrev pub OnceRuns : Keys → List ℕ → Bool → OnceEnd → F → F → C → C → Outside S K F N D C → Outside S K F N D C → Type 0
-  OnceRuns keys base editor (Served end) folder folder' clock clock' old new = OpensAndServes keys base editor end folder folder' clock clock' old new
-  OnceRuns keys base editor FolderFault folder folder' clock clock' old new =
+  abbrev pub OnceRuns : Keys → List ℕ → Bool → Option (List ℕ) → OnceEnd → F → F → C → C → Outside S K F N D C → Outside S K F N D C → Type 0
+  OnceRuns keys base editor origin (Served end) folder folder' clock clock' old new = OpensAndServes keys base editor origin end folder folder' clock clock' old new
+  OnceRuns keys base editor origin FolderFault folder folder' clock clock' old new =
       Rose (m.folder_faults folder) (m.folder_faults folder') × OpensNone folder folder' clock clock'
-  OnceRuns keys base editor (TooLarge name) folder folder' clock clock' old new = IsTooLarge None (m.files folder) name × OpensNone folder folder' clock clock'
-  OnceRuns keys base editor Memory folder folder' clock clock' old new = OpensNone folder folder' clock clock'
+  OnceRuns keys base editor origin (TooLarge name) folder folder' clock clock' old new = IsTooLarge None (m.files folder) name × OpensNone folder folder' clock clock'
+  OnceRuns keys base editor origin Memory folder folder' clock clock' old new = OpensNone folder folder' clock clock'
 
   -- the same with the one folder and the one clock in their lists, in which they are again
-  pub record OnceRunsIn (keys : Keys) (base : List ℕ) (editor : Bool) (end : OnceEnd) (old new : Outside S K F N D C) : Type 0 where
+  pub record OnceRunsIn (keys : Keys) (base : List ℕ) (editor : Bool) (origin : Option (List ℕ)) (end : OnceEnd) (old new : Outside S K F N D C) : Type 0 where
     pub folder : F
     pub folder' : F
     pub folders_are : old.folders.items ≡ folder ∷ []
@@ -141,9 +143,9 @@ module _ {S K F N D C L : Type 0} (m : Meanings S K F N D C L) where
     pub clock' : C
     pub clocks_are : old.clocks.items ≡ clock ∷ []
     pub clocks_then : new.clocks.items ≡ clock' ∷ []
-    pub runs : OnceRuns keys base editor end folder folder' clock clock' old new
+    pub runs : OnceRuns keys base editor origin end folder folder' clock clock' old new
 
-  -- A run under the keys and the base of the words, for editors where they say so: what it did, the causes of the faults, the status's line on the notes; and all else
+  -- A run under the keys and the base of the words, for editors where they say so and with the origin that they tell: what it did, the causes of the faults, the status's line on the notes; and all else
   -- stays. No read that failed is passed over.
   pub record OnceRan (words : List (List ℕ)) (status : ℕ) (old new : Outside S K F N D C) : Type 0 where
     pub end : OnceEnd
@@ -151,7 +153,7 @@ module _ {S K F N D C L : Type 0} (m : Meanings S K F N D C L) where
     pub base : List ℕ
     pub editor : Bool
     pub row : IsOnceRow words keys base editor
-    pub runs : OnceRunsIn keys base editor end old new
+    pub runs : OnceRunsIn keys base editor (origin_told row.options) end old new
     pub untouched : Untouched end old new
     pub nothing_read : end ≡ Served conn.Memory → m.left new.input ≡ m.left old.input
     pub fine : status ≢ 3 → m.read_faults new.input ≡ m.read_faults old.input

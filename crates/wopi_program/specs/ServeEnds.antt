@@ -5,6 +5,7 @@ use Rattle.wopi_program.specs.declared.outside_world.Outside.{Outside}
 use Rattle.wopi_program.specs.declared.serve_words.ServeAsk.{ServeAsk}
 use Rattle.wopi_program.specs.declared.serving.ServeEnd.{ServeEnd}
 use Rattle.wopi_program.specs.declared.serving.ServeEnd.TheVariants as end
+use Rattle.wopi_program.specs.EditorWords.{origin_told}
 use Rattle.wopi_program.specs.Meanings.{Meanings}
 use Rattle.wopi_program.specs.Notes.{NotesFor}
 use Rattle.wopi_program.specs.Once.{TooLargeEnds}
@@ -23,7 +24,7 @@ ServeFinishes held count status old new (end.TooLarge name) = TooLargeEnds held 
 ServeFinishes held count status old new end.Memory = (status ≡ 6) × NotesFor held count status old new
 
 module _ {S K F N D C L : Type 0} (m : Meanings S K F N D C L) where
-  -- A run under the keys, the base and the numbers of the words: what it did, the cause of a write's fault, the status's line on the notes;
+  -- A run under the keys, the base, the origin and the numbers of the words: what it did, the cause of a write's fault, the status's line on the notes;
   -- and all else stays.
   pub record ServeRan (words : List (List ℕ)) (status : ℕ) (old new : Outside S K F N D C) : Type 0 where
     pub end : ServeEnd
@@ -31,7 +32,7 @@ module _ {S K F N D C L : Type 0} (m : Meanings S K F N D C L) where
     pub base : List ℕ
     pub ask : ServeAsk
     pub row : IsServeRow words keys base ask
-    pub runs : ServeRuns m keys base ask end old new
+    pub runs : ServeRuns m keys base (origin_told row.options) ask end old new
     pub write_cause : status ≡ 4 → Rose (m.write_faults old.output) (m.write_faults new.output)
     pub finishes : ServeFinishes m.held m.write_faults status old.notes new.notes end
     pub others : new ≡ record old { output = new.output; notes = new.notes; folders = new.folders; listeners = new.listeners; clocks = new.clocks }

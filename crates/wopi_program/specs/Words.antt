@@ -1,5 +1,5 @@
 -- The words of the command line, and the commands whose rows they are. (Own.)
-use Rattle.std.specs.Prelude.{◌≡◌, ◌<◌, ℕ, Bool, true, if◌then◌else◌, List, [], ◌∷◌, length, codes, decimal}
+use Rattle.std.specs.Prelude.{◌≡◌, ◌<◌, ℕ, Bool, true, List, [], ◌∷◌, length, codes, decimal}
 use Rattle.access_tokens.specs.Keys.{IsWordOf}
 use Rattle.access_tokens.specs.TokenText.{IsWritable, rights_of}
 use Rattle.access_tokens.specs.Addresses.{is_base}
@@ -9,19 +9,23 @@ use Rattle.wopi_program.specs.declared.command.Command.TheVariants as command
 use Rattle.wopi_program.specs.ContentsWords.{IsContents}
 use Rattle.wopi_program.specs.CtokenWords.{IsCtoken}
 use Rattle.wopi_program.specs.EditWords.{IsEdit}
+use Rattle.wopi_program.specs.EditorWords.{TellsOrigin, behind_editor, serves_editors}
 use Rattle.wopi_program.specs.ReplayWords.{IsReplay}
 use Rattle.wopi_program.specs.ServeWords.{IsServe}
 use Rattle.access_tokens.specs.declared.keys.Keys.{Keys}
 
--- the word behind BASE of a host that serves editors
-abbrev pub editor_words : Bool → List (List ℕ)
-editor_words editor = if editor then codes "--editor" ∷ [] else []
+-- the words for editors alone, or none
+abbrev pub AreOnceOptions : List (List ℕ) → Type 0
+AreOnceOptions options = (behind_editor options ≡ []) × TellsOrigin options
 
--- once FOLDER KEY BASE, and `--editor` where the host serves editors
+-- once FOLDER KEY BASE, and the words for editors where the host serves them
 pub record IsOnceRow (words : List (List ℕ)) (keys : Keys) (base : List ℕ) (editor : Bool) : Type 0 where
   pub folder : List ℕ
   pub key_word : List ℕ
-  pub words_are : words ≡ codes "once" ∷ folder ∷ key_word ∷ base ∷ editor_words editor
+  pub options : List (List ℕ)
+  pub words_are : words ≡ codes "once" ∷ folder ∷ key_word ∷ base ∷ options
+  pub options_are : AreOnceOptions options
+  pub editor_is : editor ≡ serves_editors options
   pub folder_is : 0 < length folder
   pub keys_are : IsWordOf keys key_word
   pub base_is : is_base base ≡ true

@@ -1,6 +1,6 @@
 //! What holds of two commands together, as contracts of functions that do nothing.
 ghost use Rattle.std.specs.List.{AllByRecursion};
-ghost use Rattle.std.specs.Prelude.{◌≡◌, ◌⊎◌, ◌∷◌, ◌++◌, ℕ, Bool, List, Some, length};
+ghost use Rattle.std.specs.Prelude.{◌≡◌, ◌⊎◌, ◌∷◌, ◌++◌, ℕ, Bool, List, Option, Some, length};
 ghost use Rattle.access_tokens.specs.declared.keys.Keys.{Keys};
 ghost use Rattle.save_session.specs.declared.input.Input.{Input};
 ghost use Rattle.wopi_client.specs.declared.desktop.Desktop.{Desktop};
@@ -45,10 +45,10 @@ pub fn edits_at_a_serve_are_safe<S, K, F, N, D, C, L>()
     ensures heard { (m : Meanings S K F N D C L) (words : List (List ℕ)) (status : ℕ) (old new : Outside S K F N D C) (client : Client)
         (edit : EditRan m words status old new) (run : IsRun m edit.first status old new) → edit.asked.nonce ≡ client.nonce →
         IsScriptHeard (desktop_of edit.first) client first_speaker edit.first run.commands run.ran.last run.ran.result run.ran.written run.ran.sent }
-    ensures safe { (m : Meanings S K F N D C L) (words : List (List ℕ)) (status : ℕ) (old new host host' : Outside S K F N D C) (keys : Keys) (base : List ℕ) (ask : ServeAsk)
+    ensures safe { (m : Meanings S K F N D C L) (words : List (List ℕ)) (status : ℕ) (old new host host' : Outside S K F N D C) (keys : Keys) (base : List ℕ) (origin : Option (List ℕ)) (ask : ServeAsk)
         (ends : List WorkEnd) (journal : JournalView F) (client : Client)
         (edit : EditRan m words status old new) (run : IsRun m edit.first status old new) →
-        HasServed m keys base ask ends journal host host' → (h : IsScriptHeard (desktop_of edit.first) client first_speaker edit.first run.commands run.ran.last run.ran.result run.ran.written run.ran.sent) →
+        HasServed m keys base origin ask ends journal host host' → (h : IsScriptHeard (desktop_of edit.first) client first_speaker edit.first run.commands run.ran.last run.ran.result run.ran.written run.ran.sent) →
         AreExchangedOver (desktop_of edit.first) client h.has.spoken (history_at journal client) →
         IsSafeFor client h.told (start_at journal client) (history_at journal client) }
 {
@@ -58,8 +58,8 @@ pub fn edits_at_a_serve_are_safe<S, K, F, N, D, C, L>()
 
 /// The same of any client's exchanges with a `serve`.
 pub fn exchanges_with_a_serve_are_safe<S, K, F, N, D, C, L>()
-    ensures { (m : Meanings S K F N D C L) (keys : Keys) (base : List ℕ) (ask : ServeAsk) (ends : List WorkEnd) (journal : JournalView F) (old new : Outside S K F N D C)
-        (desktop : Desktop) (client : Client) (ending : Ending) (spoken : List Spoken) (heard : List Input) → HasServed m keys base ask ends journal old new →
+    ensures { (m : Meanings S K F N D C L) (keys : Keys) (base : List ℕ) (origin : Option (List ℕ)) (ask : ServeAsk) (ends : List WorkEnd) (journal : JournalView F) (old new : Outside S K F N D C)
+        (desktop : Desktop) (client : Client) (ending : Ending) (spoken : List Spoken) (heard : List Input) → HasServed m keys base origin ask ends journal old new →
         Hears desktop client ending first_speaker spoken heard →
         AreExchangedOver desktop client spoken (history_at journal client) →
         IsSafeFor client (told_by client heard) (start_at journal client) (history_at journal client) }
@@ -83,8 +83,8 @@ pub fn exchanges_over_restarts_are_safe<S, K, F, N, D, C, L>()
 
 /// The same of a client's exchanges with a `once`.
 pub fn exchanges_with_a_once_are_safe<S, K, F, N, D, C, L>()
-    ensures { (m : Meanings S K F N D C L) (keys : Keys) (base : List ℕ) (editor : Bool) (end : ConnEnd) (folder folder' : F) (clock clock' : C) (old new : Outside S K F N D C)
-        (desktop : Desktop) (client : Client) (ending : Ending) (spoken : List Spoken) (heard : List Input) (served : OpensAndServes m keys base editor end folder folder' clock clock' old new) →
+    ensures { (m : Meanings S K F N D C L) (keys : Keys) (base : List ℕ) (editor : Bool) (origin : Option (List ℕ)) (end : ConnEnd) (folder folder' : F) (clock clock' : C) (old new : Outside S K F N D C)
+        (desktop : Desktop) (client : Client) (ending : Ending) (spoken : List Spoken) (heard : List Input) (served : OpensAndServes m keys base editor origin end folder folder' clock clock' old new) →
         Hears desktop client ending first_speaker spoken heard →
         AreExchangedOver desktop client spoken (history_by served.serves.serves.deeds) →
         IsSafeFor client (told_by client heard) (opened_shard served.first.opening served.desk.opened 1) (history_by served.serves.serves.deeds) }
@@ -96,8 +96,8 @@ pub fn exchanges_with_a_once_are_safe<S, K, F, N, D, C, L>()
 /// the worker whose number is the entry's pass. It is among the deeds that were done on that link for
 /// that message.
 pub fn entries_of_a_serve_come_of_messages<S, K, F, N, D, C, L>()
-    ensures { (m : Meanings S K F N D C L) (keys : Keys) (base : List ℕ) (ask : ServeAsk) (ends : List WorkEnd) (journal : JournalView F) (old new : Outside S K F N D C)
-        (served : HasServed m keys base ask ends journal old new) → AllByRecursion (λ one. CameOnLink m served.desk served.visits one.step) journal.merge }
+    ensures { (m : Meanings S K F N D C L) (keys : Keys) (base : List ℕ) (origin : Option (List ℕ)) (ask : ServeAsk) (ends : List WorkEnd) (journal : JournalView F) (old new : Outside S K F N D C)
+        (served : HasServed m keys base origin ask ends journal old new) → AllByRecursion (λ one. CameOnLink m served.desk served.visits one.step) journal.merge }
 {
     entries_come_of_messages();
 }
@@ -106,8 +106,8 @@ pub fn entries_of_a_serve_come_of_messages<S, K, F, N, D, C, L>()
 /// it. So it is of what its workers did, and of the bytes by which its output grew at status 0, and at 10,
 /// where a listener failed. A run has sixteen folders.
 pub fn journals_of_a_serve_are_legal<S, K, F: Folder, N, D, C, L>()
-    ensures served { (m : Meanings S K F N D C L) (keys : Keys) (base : List ℕ) (ask : ServeAsk) (ends : List WorkEnd) (journal : JournalView F) (old new : Outside S K F N D C) →
-        length old.folders.items ≡ 16 → HasServed m keys base ask ends journal old new → LegalText (text_told_by journal) }
+    ensures served { (m : Meanings S K F N D C L) (keys : Keys) (base : List ℕ) (origin : Option (List ℕ)) (ask : ServeAsk) (ends : List WorkEnd) (journal : JournalView F) (old new : Outside S K F N D C) →
+        length old.folders.items ≡ 16 → HasServed m keys base origin ask ends journal old new → LegalText (text_told_by journal) }
     ensures written { (m : Meanings S K F N D C L) (words : List (List ℕ)) (status : ℕ) (old new : Outside S K F N D C) (before : List ℕ) → length old.folders.items ≡ 16 →
         ServeEnds m words status old new → (status ≡ 0) ⊎ (status ≡ 10) → m.held old.output ≡ Some before →
         (bytes : List ℕ) × (text : JournalText) × (m.held new.output ≡ Some (before ++ bytes)) × IsLegalJournal bytes text }

@@ -21,6 +21,7 @@ mod ctoken_words;
 mod dispatch;
 mod edit;
 mod edit_words;
+mod editor_words;
 pub mod laws;
 mod notes;
 mod once;

@@ -1,13 +1,15 @@
 //! The command `once`: one connection over the input and the output, and one shard over the folder.
-ghost use Rattle.std.specs.Prelude.{◌≡◌, ◌≢◌, ◌≤◌, length, map, string_bytes, true, IfOk, None};
+ghost use Rattle.std.specs.Prelude.{◌≡◌, ◌≢◌, ◌≤◌, length, map, string_bytes, true, IfOk, IfSome, None};
 ghost use Rattle.outside.specs.Faults.{Rose};
 ghost use Rattle.host_core.specs.Single.{sight_of, SeesItsOwn};
 ghost use Rattle.access_tokens.specs.Addresses.{is_base};
+ghost use Rattle.access_tokens.specs.Origins.{IsOrigin};
 ghost use Rattle.host_server.specs.Connection.{Serves};
 ghost use Rattle.wopi_program.specs.Words.{IsRow};
 ghost use Rattle.wopi_program.specs.Notes.{NotesFor};
 ghost use Rattle.wopi_program.specs.Once.{OnceEnds, ServesShard, OnceRuns, OnceRunsIn, Untouched, end_of, Finishes, TooLargeEnds, too_large_line, over_folder, status_of};
 
+use crate::editor_words::{origin_copied, origin_told, words_from};
 use crate::once_words::once_words;
 use crate::telling::want;
 use crate::{Command, Meant, Outside, note};
@@ -102,12 +104,14 @@ fn once_over<S: Source, K: Sink, F: Folder, N: Listener, D: Dialer, C: Clock>(
     keys: Keys,
     base: Bytes,
     editor: bool,
+    origin: Option<Bytes>,
     folder: F,
     clock: &mut C,
     outside: &mut Outside<S, K, F, N, D, C>,
 ) -> (F, OnceEnd)
-    requires { is_base base ≡ true }
-    ensures runs { OnceRuns ⟦<Outside<S, K, F, N, D, C> as Meant<S, K, F, N, D, C, N::Link>>⟧.meanings keys base editor result.1 folder result.0 clock.old clock.new outside.old outside.new }
+    requires base { is_base base ≡ true }
+    requires page { IfSome origin IsOrigin }
+    ensures runs { OnceRuns ⟦<Outside<S, K, F, N, D, C> as Meant<S, K, F, N, D, C, N::Link>>⟧.meanings keys base editor origin result.1 folder result.0 clock.old clock.new outside.old outside.new }
     ensures others { outside.new ≡ record outside.old { input = outside.new.input; output = outside.new.output } }
     ensures untouched { Untouched result.1 outside.old outside.new }
     ensures fine { result.1 ≢ OnceEnd.Served ConnEnd.ReadFault → S.read_faults outside.new.input ≡ S.read_faults outside.old.input }
@@ -116,7 +120,7 @@ fn once_over<S: Source, K: Sink, F: Folder, N: Listener, D: Dialer, C: Clock>(
     ensures nothing_read { result.1 ≡ OnceEnd.Served ConnEnd.Memory → S.left outside.new.input ≡ S.left outside.old.input }
 {
     let opened = clock.now();
-    let desk = Desk::serving(keys, base, opened, editor);
+    let desk = Desk::serving(keys, base, opened, editor, origin);
     let store = Kept::new(alloc, folder);
     match Shard::start(alloc, store, None, CAPACITY, opened, 1) {
         Ok(shard) => {
@@ -136,12 +140,14 @@ fn once_in<S: Source, K: Sink, F: Folder, N: Listener, D: Dialer, C: Clock>(
     keys: Keys,
     base: Bytes,
     editor: bool,
+    origin: Option<Bytes>,
     outside: &mut Outside<S, K, F, N, D, C>,
 ) -> OnceEnd
     requires base { is_base base ≡ true }
+    requires page { IfSome origin IsOrigin }
     requires folders { length outside.old.folders.items ≡ 1 }
     requires clocks { length outside.old.clocks.items ≡ 1 }
-    ensures runs { OnceRunsIn ⟦<Outside<S, K, F, N, D, C> as Meant<S, K, F, N, D, C, N::Link>>⟧.meanings keys base editor result outside.old outside.new }
+    ensures runs { OnceRunsIn ⟦<Outside<S, K, F, N, D, C> as Meant<S, K, F, N, D, C, N::Link>>⟧.meanings keys base editor origin result outside.old outside.new }
     ensures others { outside.new
         ≡ record outside.old { input = outside.new.input; output = outside.new.output; folders = outside.new.folders; clocks = outside.new.clocks } }
     ensures untouched { Untouched result outside.old outside.new }
@@ -156,7 +162,7 @@ fn once_in<S: Source, K: Sink, F: Folder, N: Listener, D: Dialer, C: Clock>(
     let Some(mut clock) = outside.clocks.pop() else {
         unreachable!()
     };
-    let (folder, end) = once_over(alloc, keys, base, editor, folder, &mut clock, outside);
+    let (folder, end) = once_over(alloc, keys, base, editor, origin, folder, &mut clock, outside);
     outside.folders.push_reserved(folder);
     outside.clocks.push_reserved(clock);
     end
@@ -250,6 +256,9 @@ pub fn run_once<S: Source, K: Sink, F: Folder, N: Listener, D: Dialer, C: Clock>
     let Ok(base) = Bytes::from_slice(alloc, base.as_bytes()) else {
         return want(outside);
     };
-    let end = once_in(alloc, keys, base, editor, outside);
+    let Ok(origin) = origin_copied(alloc, origin_told(words_from(words, 4))) else {
+        return want(outside);
+    };
+    let end = once_in(alloc, keys, base, editor, origin, outside);
     finish(alloc, &mut outside.notes, &end)
 }

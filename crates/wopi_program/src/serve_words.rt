@@ -1,9 +1,10 @@
 //! The words of the command `serve`.
 ghost use Rattle.std.specs.Prelude.{◌≡◌, ◌≤◌, ◌^◌, ◌↔◌, ℕ, List, map, string_bytes, IfSome, IfNone, Some};
-ghost use Rattle.wopi_program.specs.ServeWords.{AreBounded, IsServe, IsServeRow, asked, asked_of, behind_editor, number_in, serves_editors, option_before, options_of, unless_told, with_each, with_first, with_journal, with_links};
+ghost use Rattle.wopi_program.specs.ServeWords.{AreBounded, IsServe, IsServeRow, asked, asked_of, number_in, option_before, options_of, unless_told, with_each, with_first, with_journal, with_links};
 ghost use Rattle.access_tokens.specs.declared.keys.Keys.{Keys};
 ghost use Rattle.host_core.specs.Opening.{most_first};
 
+use crate::editor_words::{behind_editor, serves_editors, tells_origin};
 use crate::once_words::is_base;
 use access_tokens::Keys;
 use host_core::MOST_FIRST;
@@ -224,31 +225,6 @@ fn asked(
     }
 }
 
-/// Whether `--editor` stands in front of these words.
-fn serves_editors(words: &[String]) -> bool
-    ensures { result ≡ serves_editors (map string_bytes words.now) }
-{
-    match words {
-        [] => false,
-        [word, ..] => word.as_str() == "--editor",
-    }
-}
-
-/// The words behind it, or all of them where it doesn't stand there.
-fn behind_editor(words: &[String]) -> &[String]
-    ensures { map string_bytes result.now ≡ behind_editor (map string_bytes words.now) }
-{
-    match words {
-        [] => words,
-        [word, rest @ ..] => {
-            if word.as_str() == "--editor" {
-                return rest;
-            }
-            words
-        }
-    }
-}
-
 /// The numbers of the port's word, of the workers' word and of those behind it.
 fn asked_of(port: &str, workers: &str, rest: &[String]) -> Option<ServeAsk>
     ensures value { result ≡ asked_of port.now workers.now (map string_bytes rest.now) }
@@ -281,6 +257,9 @@ pub(crate) fn serve_words(words: &[String]) -> Option<(Keys, &str, ServeAsk)>
                 return None;
             }
             if !is_base(base.as_str()) {
+                return None;
+            }
+            if !tells_origin(rest) {
                 return None;
             }
             let keys = Keys::read(key.as_bytes())?;

@@ -12,7 +12,7 @@ returns-clause-heard g c m words status old new client edit run nonce =
     (editor_of edit.asked client edit.first nonce edit.editor) run.ran.runs
 
 pub returns-clause-safe : goal.returns-clause-safe
-returns-clause-safe g c m words status old new host host' keys base ask ends journal client edit run served h crosses =
+returns-clause-safe g c m words status old new host host' keys base origin ask ends journal client edit run served h crosses =
     subst (λ (told : List Told). IsSafeFor client told (start_at journal client) (history_at journal client)) h.has.told_is
     (at_serve c.both_ends_are_safe.ensures.host journal served.desk.opened ask.first served.journal_is.opened_is served.journal_is.first_is served.journal_is.legal
     (desktop_of edit.first) client h.ending h.has.spoken h.has.heard h.has.heard_is crosses)

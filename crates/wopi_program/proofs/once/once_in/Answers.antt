@@ -12,6 +12,6 @@ returns-clause-runs g c = record {
   clock' = c.once_over-folder.new.clock;
   clocks_are = search rules;
   clocks_then = search rules;
-  runs = runs_moved _ c.args.keys c.args.base c.args.editor c.in-Some.folder c.once_over-folder.result.0 c.in-Some-pop.clock c.once_over-folder.new.clock _ _ _ _ refl refl refl refl
+  runs = runs_moved _ c.args.keys c.args.base c.args.editor c.args.origin c.in-Some.folder c.once_over-folder.result.0 c.in-Some-pop.clock c.once_over-folder.new.clock _ _ _ _ refl refl refl refl
       c.once_over-folder.result.1 c.once_over-folder.ensures.runs;
 }

@@ -9,7 +9,7 @@ returns-in_default-clause-runs g c =
 
 pub returns-in-Err-clause-runs : goal.returns-in-Err-clause-runs
 returns-in-Err-clause-runs g c =
-    runs_refused _ c.args.keys c.args.base c.args.ask c.first_moment-opened.result _ _ c.in-Err.refused.1 c.refused_end.result c.replace-folders.result.items
+    runs_refused _ c.args.keys c.args.base c.args.origin c.args.ask c.first_moment-opened.result _ _ c.in-Err.refused.1 c.refused_end.result c.replace-folders.result.items
     c.refused_end.ensures (λ i. (c.replace-folders.ensures.value i).items) refl refl c.in-Err.ensures.handed c.first_moment-opened.ensures.opens c.in-Err.ensures.blamed
 
 pub serve_opened-requires-clause-first : goal.serve_opened-requires-clause-first
@@ -20,6 +20,6 @@ serve_opened-requires-clause-first g c κs within =
 
 pub returns-in-Ok-keep-clause-runs : goal.returns-in-Ok-keep-clause-runs
 returns-in-Ok-keep-clause-runs g c =
-    runs _ c.args.keys c.args.base c.args.ask c.serving-desk.result c.first_moment-opened.result c.in-Ok-keep.begun.0 c.in-Ok-keep.begun.1 _ _ _
-    c.serving-desk.ensures.keys c.serving-desk.ensures.base c.serving-desk.ensures.editor c.serving-desk.ensures.opened c.first_moment-opened.ensures.opens refl refl
+    runs _ c.args.keys c.args.base c.args.origin c.args.ask c.serving-desk.result c.first_moment-opened.result c.in-Ok-keep.begun.0 c.in-Ok-keep.begun.1 _ _ _
+    c.serving-desk.ensures.keys c.serving-desk.ensures.base c.serving-desk.ensures.editor c.serving-desk.ensures.origin c.serving-desk.ensures.opened c.first_moment-opened.ensures.opens refl refl
     c.replace-folders.result.items (λ i. (c.replace-folders.ensures.value i).items) c.in-Ok-keep.ensures.starts c.serve_opened.result c.serve_opened.ensures.runs
