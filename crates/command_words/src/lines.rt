@@ -338,9 +338,9 @@ impl Next {
         match self {
             Next::Command => COMMANDS,
             Next::Word(rule) => rule.text(),
-            Next::Editor => NO_WORD,
+            Next::Editor => ONLY_EDITOR,
             Next::EditorOrOption => OPTIONS,
-            Next::Origin => NO_WORD,
+            Next::Origin => ONLY_ORIGIN,
             Next::OriginOrOption => OPTIONS,
             Next::Option => OPTIONS,
             Next::End => NO_WORD,
@@ -374,6 +374,11 @@ const OPTIONS: &str =
 
 /// That of a word behind the last one.
 const NO_WORD: &str = "no word stands there";
+
+/// Those of a word behind the last one that has to stand there.
+const ONLY_EDITOR: &str = "no word stands there but --editor";
+
+const ONLY_ORIGIN: &str = "no word stands there but --origin";
 
 /// Whether the words are `replay` alone.
 fn is_replay(words: &[String]) -> bool

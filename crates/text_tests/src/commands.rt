@@ -1,4 +1,5 @@
 //! The words of the commands, as people write them.
+use access_tokens::is_origin;
 use command_words::{Chance, Given, Refused, explain, meant, secret_place, span_of, wrong_line};
 use std::alloc::Global;
 use std::test::Fail;
@@ -31,7 +32,7 @@ fn line_of(alloc: Global, given: &Given) -> Result<String, Memory> {
 }
 
 /// Lines, and the words that the program reads.
-const MEANT: [[&str; 2]; 18] = [
+const MEANT: [[&str; 2]; 22] = [
     ["once . 4a http://localhost", "once . 4a http://localhost"],
     [
         "serve . 8880 4a http://localhost 2 --first 7 --each 3",
@@ -52,6 +53,22 @@ const MEANT: [[&str; 2]; 18] = [
     [
         "once . 4a http://localhost --editor",
         "once . 4a http://localhost --editor",
+    ],
+    [
+        "serve --origin https://cloud.example . 8880 --each=3 4a http://localhost 2 --editor",
+        "serve . 8880 4a http://localhost 2 --editor --origin https://cloud.example --each 3",
+    ],
+    [
+        "serve . 8880 4a http://localhost 2 --editor --origin=http://cloud:8080 --verbose",
+        "serve . 8880 4a http://localhost 2 --editor --origin http://cloud:8080",
+    ],
+    [
+        "serve . 8880 4a http://localhost 2 --each 3 --origin https://cloud.example",
+        "serve . 8880 4a http://localhost 2 --origin https://cloud.example --each 3",
+    ],
+    [
+        "once . 4a http://localhost --editor --origin https://cloud.example",
+        "once . 4a http://localhost --editor --origin https://cloud.example",
     ],
     [
         "edit localhost:8880 612e637376 t n1",
@@ -133,7 +150,7 @@ fn told(alloc: Global, line: &str) -> Result<Vec<u8>, Memory> {
 }
 
 /// Lines that are no command, and what begins the line that is told.
-const TOLD: [[&str; 2]; 24] = [
+const TOLD: [[&str; 2]; 32] = [
     ["frob", "a command frob: once, serve, edit"],
     ["once", "FOLDER is missing: the path of a folder"],
     ["once . 4a6 http://localhost", "KEY: 1 to 64 bytes in hex"],
@@ -172,6 +189,38 @@ const TOLD: [[&str; 2]; 24] = [
     [
         "serve . 8880 4a http://localhost 2 --editor --links 1025",
         "--links 1025: a number from 1 to 1024",
+    ],
+    [
+        "serve . 8880 4a http://localhost 2 --origin https://cloud.example",
+        "an option --origin: --journal, --each, --first, --links,",
+    ],
+    [
+        "serve . 8880 4a http://localhost 2 --editor --origin https://cloud.example/",
+        "--origin https://cloud.example/: http:// or https://, a host in lower case,",
+    ],
+    [
+        "serve . 8880 4a http://localhost 2 --editor --origin=https://cloud.example:443",
+        "--origin https://cloud.example:443: http:// or https://",
+    ],
+    [
+        "serve . 8880 4a http://localhost 2 --editor --origin http://a --origin http://b",
+        "an option --origin: --journal",
+    ],
+    [
+        "serve . 8880 4a http://localhost 2 --editor --origin",
+        "the value of the last option is missing",
+    ],
+    [
+        "once . 4a http://localhost --origin https://cloud.example",
+        "the word --origin: no word stands there",
+    ],
+    [
+        "once . 4a http://localhost --editor --origin",
+        "--origin is missing: http:// or https://",
+    ],
+    [
+        "once . 4a http://localhost --editor --origin https://cloud.example more",
+        "the word more: no word stands there",
     ],
     [
         "serve . 8880 4a http://localhost 2 --idle x",
@@ -261,6 +310,48 @@ fn a_time_has_a_unit(rt: HostRuntime) -> Result<(), Fail> {
         "99999999999999999d",
     ] {
         assert!(rt; span_of(word).is_none(), "{word}");
+    }
+    Ok(())
+}
+
+/// Texts that are the origin of a page.
+const ORIGINS: [&str; 6] = [
+    "http://a",
+    "https://cloud.example",
+    "https://cloud.example:8443",
+    "http://127.0.0.1:65535",
+    "https://my_page-2.example",
+    "http://cloud:443",
+];
+
+/// Texts that are none.
+const NO_ORIGINS: [&str; 17] = [
+    "",
+    "null",
+    "http://",
+    "https://:8443",
+    "https://cloud.example/",
+    "https://cloud.example/page",
+    "https://cloud.example:",
+    "https://cloud.example:0",
+    "https://cloud.example:08",
+    "https://cloud.example:443",
+    "http://cloud.example:80",
+    "https://cloud.example:65536",
+    "https://Cloud.example",
+    "HTTPS://cloud.example",
+    "ftp://cloud.example",
+    "https://ann@cloud.example",
+    "https://cloud.example\"",
+];
+
+#[test]
+fn an_origin_has_one_form(rt: HostRuntime) -> Result<(), Fail> {
+    for text in &ORIGINS {
+        assert!(rt; is_origin(text.as_bytes()), "{text}");
+    }
+    for text in &NO_ORIGINS {
+        assert!(rt; !is_origin(text.as_bytes()), "{text}");
     }
     Ok(())
 }

@@ -2,10 +2,10 @@
 use super::serve::ONE_WORKER;
 use super::{TOKEN, run_with, whole, words_of};
 use std::test::Fail;
-use wopi_program::{ServeAsk, serve_ask};
+use wopi_program::{ServeAsk, read_words, serve_ask};
 
 /// Words that are no command.
-const NO_COMMANDS: [&[&str]; 43] = [
+const NO_COMMANDS: [&[&str]; 48] = [
     &[],
     &["once", ".", "4a6", "http://localhost"],
     &["once", ".", "4a", "http://localhost/"],
@@ -17,6 +17,54 @@ const NO_COMMANDS: [&[&str]; 43] = [
         "http://localhost",
         "--editor",
         "--editor",
+    ],
+    &[
+        "once",
+        ".",
+        "4a",
+        "http://localhost",
+        "--origin",
+        "https://cloud.example",
+    ],
+    &[
+        "once",
+        ".",
+        "4a",
+        "http://localhost",
+        "--editor",
+        "--origin",
+    ],
+    &[
+        "once",
+        ".",
+        "4a",
+        "http://localhost",
+        "--editor",
+        "--origin",
+        "https://cloud.example/",
+    ],
+    &[
+        "serve",
+        ".",
+        "8880",
+        "4a",
+        "http://localhost",
+        "2",
+        "--origin",
+        "https://cloud.example",
+    ],
+    &[
+        "serve",
+        ".",
+        "8880",
+        "4a",
+        "http://localhost",
+        "2",
+        "--editor",
+        "--each",
+        "3",
+        "--origin",
+        "https://cloud.example",
     ],
     &[
         "serve",
@@ -196,8 +244,49 @@ fn the_options_of_serve_stand_in_any_order(rt: HostRuntime) -> Result<(), Fail> 
     Ok(())
 }
 
+/// Words of `serve` and of `once` for editors, which tell an origin.
+const TELLING: [&[&str]; 2] = [
+    &[
+        "serve",
+        ".",
+        "8880",
+        "4a",
+        "http://localhost",
+        "2",
+        "--editor",
+        "--origin",
+        "https://cloud.example:8443",
+        "--each",
+        "3",
+    ],
+    &[
+        "once",
+        ".",
+        "4a",
+        "http://localhost",
+        "--editor",
+        "--origin",
+        "http://cloud",
+    ],
+];
+
+#[test]
+fn an_origin_stands_behind_the_word_for_editors(rt: HostRuntime) -> Result<(), Fail> {
+    let alloc = rt.alloc();
+    for list in &TELLING {
+        let words = words_of(alloc, list)?;
+        assert!(rt; read_words(&words).is_some());
+    }
+    let [serve, _] = TELLING;
+    match serve_ask(&words_of(alloc, serve)?) {
+        Some(ask) => assert!(rt; ask.editor && ask.each == 3),
+        None => assert!(rt; false),
+    }
+    Ok(())
+}
+
 const HELP: &str =
-    "mokdrai once FOLDER KEY BASE [--editor]\n    answers the requests of the input on the output\nmokdrai serve FOLDER PORT KEY BASE WORKERS [--journal J] [--each C] [--first V]\n    answers the requests of many connections, and then writes the journal on the output\nmokdrai serve .. [--links N] [--listen ADDRESS] [--idle S] [--patience S] [--grace S] [--verbose] [--editor]\n    serves N connections at a time, at that address, with these limits in seconds\nmokdrai edit AUTHORITY ID TOKEN NONCE\n    runs the script of the input over a sheet at a host\nmokdrai edit AUTHORITY --file NAME TOKEN [--nonce NONCE] [--idle S]\n    does the same, with the name of the file and a nonce of its own\nmokdrai replay\n    runs the schedule of the input, and writes its trace on the output\nmokdrai replay SEED COUNT\n    runs a schedule that is made from two numbers, and writes its summary on the output\nmokdrai token KEY USER NAME RIGHTS SERIAL ISSUED EXPIRES\n    writes the text of an access token\nmokdrai token KEY --file NAME --user USER --for TIME [--write]\n    writes one that is issued now, and lasts for a time such as 10h\nmokdrai ctoken KEY USER RIGHTS SERIAL ISSUED EXPIRES\n    writes the text of a token of the container\nmokdrai ctoken KEY --user USER --for TIME [--write]\n    writes one that is issued now, and lasts for that time\nmokdrai upgrade\n    reads a journal from the input, and writes it in the second form on the output\nmokdrai audit\n    reads a journal from the input, and says whether it is legal, or its first line that isn't\nmokdrai contents ID VERSION\n    reads a journal from the input, and writes what the file had at that version on the output\nmokdrai --help\n    writes these lines\nmokdrai --version\n    writes the version\nKEY, and TOKEN of edit, may be @PATH: a file that only its owner may read\n";
+    "mokdrai once FOLDER KEY BASE [--editor [--origin URL]]\n    answers the requests of the input on the output\nmokdrai serve FOLDER PORT KEY BASE WORKERS [--journal J] [--each C] [--first V]\n    answers the requests of many connections, and then writes the journal on the output\nmokdrai serve .. [--links N] [--listen ADDRESS] [--idle S] [--patience S] [--grace S] [--verbose] [--editor [--origin URL]]\n    serves N connections at a time, at that address, with these limits in seconds\nmokdrai edit AUTHORITY ID TOKEN NONCE\n    runs the script of the input over a sheet at a host\nmokdrai edit AUTHORITY --file NAME TOKEN [--nonce NONCE] [--idle S]\n    does the same, with the name of the file and a nonce of its own\nmokdrai replay\n    runs the schedule of the input, and writes its trace on the output\nmokdrai replay SEED COUNT\n    runs a schedule that is made from two numbers, and writes its summary on the output\nmokdrai token KEY USER NAME RIGHTS SERIAL ISSUED EXPIRES\n    writes the text of an access token\nmokdrai token KEY --file NAME --user USER --for TIME [--write]\n    writes one that is issued now, and lasts for a time such as 10h\nmokdrai ctoken KEY USER RIGHTS SERIAL ISSUED EXPIRES\n    writes the text of a token of the container\nmokdrai ctoken KEY --user USER --for TIME [--write]\n    writes one that is issued now, and lasts for that time\nmokdrai upgrade\n    reads a journal from the input, and writes it in the second form on the output\nmokdrai audit\n    reads a journal from the input, and says whether it is legal, or its first line that isn't\nmokdrai contents ID VERSION\n    reads a journal from the input, and writes what the file had at that version on the output\nmokdrai --help\n    writes these lines\nmokdrai --version\n    writes the version\nKEY, and TOKEN of edit, may be @PATH: a file that only its owner may read\n";
 
 #[test]
 fn help_and_version_go_to_the_output(rt: HostRuntime) -> Result<(), Fail> {

@@ -1,7 +1,10 @@
 //! What a host that serves editors answers beyond what every host does, to the byte.
 
+ghost use Rattle.std.specs.Prelude.{IfOk, IfSome};
+ghost use Rattle.access_tokens.specs.Origins.{IsOrigin};
+
 use super::open;
-use access_tokens::Keys;
+use access_tokens::{Keys, is_origin};
 use host_server::{ConnEnd, Desk, serve_connection};
 use outside::{MemSink, MemSource, Pair, ScriptClock};
 use std::alloc::Global;
@@ -95,12 +98,24 @@ const EXCHANGES: [[&str; 3]; 16] = [
     ],
 ];
 
+/// What is told of `a.csv` where the editor stands in the page `https://cloud.example`.
+const IN_A_PAGE: &str =
+    "HTTP/1.1 200 OK\r\nContent-Length: 413\r\nContent-Type: application/json\r\n\r\n{\"BaseFileName\":\"a.csv\",\"FileExtension\":\".csv\",\"OwnerId\":\"owner\",\"PostMessageOrigin\":\"https://cloud.example\",\"ReadOnly\":false,\"Size\":3,\"SupportsDeleteFile\":true,\"SupportsExtendedLockLength\":true,\"SupportsGetLock\":true,\"SupportsLocks\":true,\"SupportsRename\":false,\"SupportsUpdate\":true,\"UserCanNotWriteRelative\":false,\"UserCanRename\":false,\"UserCanWrite\":true,\"UserFriendlyName\":\"ann\",\"UserId\":\"ann\",\"Version\":\"v1\"}";
+
 /// Whether a host answers so, over a file `a.csv` of the contents `1,2`.
-fn answers(alloc: Global, editor: bool, request: &str, reply: &str) -> Result<bool, Fail> {
+fn answers(
+    alloc: Global,
+    editor: bool,
+    origin: Option<Bytes>,
+    request: &str,
+    reply: &str,
+) -> Result<bool, Fail>
+    requires { IfSome origin IsOrigin }
+{
     let mut single = open(alloc, 4096, &["a.csv"])?;
     let keys = Keys::read(b"4a656665").ok_or("keys")?;
     let base = Bytes::from_slice(alloc, b"http://localhost:8880")?;
-    let desk = Desk::serving(keys, base, 0, editor);
+    let desk = Desk::serving(keys, base, 0, editor, origin);
     let input = Bytes::from_slice(alloc, request.as_bytes())?;
     let source = MemSource::new(input, ROOM, Vec::new(alloc));
     let sink = MemSink::new(alloc, ROOM, Vec::new(alloc))?;
@@ -114,8 +129,30 @@ fn answers(alloc: Global, editor: bool, request: &str, reply: &str) -> Result<bo
 fn editors_are_answered_where_the_host_serves_them(rt: HostRuntime) -> Result<(), Fail> {
     let alloc = rt.alloc();
     for [request, plain, serving] in &EXCHANGES {
-        assert!(rt; answers(alloc, false, request, plain)?);
-        assert!(rt; answers(alloc, true, request, serving)?);
+        assert!(rt; answers(alloc, false, None, request, plain)?);
+        assert!(rt; answers(alloc, true, None, request, serving)?);
     }
+    Ok(())
+}
+
+/// The origin of a page.
+fn page(alloc: Global, text: &str) -> Result<Option<Bytes>, Fail>
+    ensures { IfOk result (λ origin. IfSome origin IsOrigin) }
+{
+    let origin = Bytes::from_slice(alloc, text.as_bytes())?;
+    if !is_origin(origin.as_slice()) {
+        return Err("an origin".into());
+    }
+    Ok(Some(origin))
+}
+
+#[test]
+fn the_origin_is_told_to_editors_alone(rt: HostRuntime) -> Result<(), Fail> {
+    let alloc = rt.alloc();
+    let [request, plain, _] = &EXCHANGES[0];
+    let origin = page(alloc, "https://cloud.example")?;
+    assert!(rt; answers(alloc, true, origin, request, IN_A_PAGE)?);
+    let origin = page(alloc, "https://cloud.example")?;
+    assert!(rt; answers(alloc, false, origin, request, plain)?);
     Ok(())
 }
