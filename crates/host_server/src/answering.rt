@@ -120,7 +120,14 @@ fn check_file_info<C: Caller>(
         act: Act::Info,
     };
     match make(caller, call, moment) {
-        Called::Ruled { ruling, back: _ } => info_told(alloc, editor, &desk.origin, &ask.file, &token, ruling),
+        Called::Ruled { ruling, back: _ } => info_told(
+            alloc,
+            editor,
+            &desk.origin,
+            &ask.file,
+            &token,
+            ruling,
+        ),
         Called::Full => journal_full(alloc),
         Called::Memory => Err(Memory),
     }

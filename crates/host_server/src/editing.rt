@@ -80,11 +80,7 @@ fn put_user(alloc: Global, map: &mut Map<String, Value>, info: &Info) -> Result<
 }
 
 /// What the body of CheckFileInfo's answer tells an editor in a page of that origin.
-fn editor_value(
-    alloc: Global,
-    origin: &Option<Bytes>,
-    info: &Info,
-) -> Result<Value, AllocError>
+fn editor_value(alloc: Global, origin: &Option<Bytes>, info: &Info) -> Result<Value, AllocError>
     requires texts { HasTexts info.now }
     requires page { MayTell origin.now }
     ensures { IfOk result (λ value. view value ≡ editor_json origin.now info.now) }
@@ -96,7 +92,12 @@ fn editor_value(
     match origin {
         None => return Ok(Value::Object(map)),
         Some(origin) => {
-            put_text(alloc, &mut map, "PostMessageOrigin", text_of(origin.as_slice()))?;
+            put_text(
+                alloc,
+                &mut map,
+                "PostMessageOrigin",
+                text_of(origin.as_slice()),
+            )?;
             return Ok(Value::Object(map));
         }
     }

@@ -104,53 +104,53 @@ never_both b holds lacks = let e : true ≡ false = sym holds ∙ lacks in absur
 
 -- what is told of a call
 
-module _ (editor : Bool) (call : Call) (ruling : Ruling) where
-  told_status : (told_of_to editor call ruling).status ≡ ruling.status
+module _ (editor : Bool) (origin : Option (List ℕ)) (call : Call) (ruling : Ruling) where
+  told_status : (told_of_to editor origin call ruling).status ≡ ruling.status
   told_status =
       let P = λ (a : Answer). a.status ≡ ruling.status in
-      let info = info_told_to editor call.name call.token ruling in
+      let info = info_told_to editor origin call.name call.token ruling in
       cond_both (is_info call.act) info (ruling_told ruling) P (λ e. info_keeps P (λ k b. refl) refl) (λ e. refl)
     where
       info_keeps : (P : Answer → Type 0) → ((k : Rattle.wopi_headers.specs.declared.answer.BodyKind.BodyKind) (b : List ℕ) → P (record (ruling_told ruling) { version = None; kind = k; body = b })) → P (ruling_told ruling) →
-          P (info_told_to editor call.name call.token ruling)
+          P (info_told_to editor origin call.name call.token ruling)
       info_keeps P f g = cond_both (ruling.status == 200) _ (ruling_told ruling) P (λ e. f _ _) (λ e. g)
 
-  told_lock : (told_of_to editor call ruling).lock ≡ ruling.lock
+  told_lock : (told_of_to editor origin call ruling).lock ≡ ruling.lock
   told_lock =
       let P = λ (a : Answer). a.lock ≡ ruling.lock in
-      let info = info_told_to editor call.name call.token ruling in
+      let info = info_told_to editor origin call.name call.token ruling in
       cond_both (is_info call.act) info (ruling_told ruling) P (λ e. info_keeps P (λ k b. refl) refl) (λ e. refl)
     where
       info_keeps : (P : Answer → Type 0) → ((k : Rattle.wopi_headers.specs.declared.answer.BodyKind.BodyKind) (b : List ℕ) → P (record (ruling_told ruling) { version = None; kind = k; body = b })) → P (ruling_told ruling) →
-          P (info_told_to editor call.name call.token ruling)
+          P (info_told_to editor origin call.name call.token ruling)
       info_keeps P f g = cond_both (ruling.status == 200) _ (ruling_told ruling) P (λ e. f _ _) (λ e. g)
 
-  told_reason : (told_of_to editor call ruling).reason ≡ ruling.reason
+  told_reason : (told_of_to editor origin call ruling).reason ≡ ruling.reason
   told_reason =
       let P = λ (a : Answer). a.reason ≡ ruling.reason in
-      let info = info_told_to editor call.name call.token ruling in
+      let info = info_told_to editor origin call.name call.token ruling in
       cond_both (is_info call.act) info (ruling_told ruling) P (λ e. info_keeps P (λ k b. refl) refl) (λ e. refl)
     where
       info_keeps : (P : Answer → Type 0) → ((k : Rattle.wopi_headers.specs.declared.answer.BodyKind.BodyKind) (b : List ℕ) → P (record (ruling_told ruling) { version = None; kind = k; body = b })) → P (ruling_told ruling) →
-          P (info_told_to editor call.name call.token ruling)
+          P (info_told_to editor origin call.name call.token ruling)
       info_keeps P f g = cond_both (ruling.status == 200) _ (ruling_told ruling) P (λ e. f _ _) (λ e. g)
 
 -- a session sees in the answer what the ruling tells
-sees : (editor : Bool) (client : Client) (sent : Sent) (ruling : Ruling) → LooksSame (operation sent) (told_of_to editor (call_of client sent) ruling) (ruling_told ruling)
-sees editor client Info ruling =
+sees : (editor : Bool) (origin : Option (List ℕ)) (client : Client) (sent : Sent) (ruling : Ruling) → LooksSame (operation sent) (told_of_to editor origin (call_of client sent) ruling) (ruling_told ruling)
+sees editor origin client Info ruling =
     let call = call_of client Info in
     record {
-      status = told_status editor call ruling;
-      lock = λ conflict. ap id_in (told_lock editor call ruling);
-      reason = λ conflict. told_reason editor call ruling;
+      status = told_status editor origin call ruling;
+      lock = λ conflict. ap id_in (told_lock editor origin call ruling);
+      reason = λ conflict. told_reason editor origin call ruling;
       text = λ ok. tt;
     }
-sees editor client TakeLock ruling = looks_itself (operation TakeLock) (ruling_told ruling)
-sees editor client Get ruling = looks_itself (operation Get) (ruling_told ruling)
-sees editor client (Put number contents) ruling = looks_itself (operation (Put number contents)) (ruling_told ruling)
-sees editor client (Relock number) ruling = looks_itself (operation (Relock number)) (ruling_told ruling)
-sees editor client (RefreshLock number) ruling = looks_itself (operation (RefreshLock number)) (ruling_told ruling)
-sees editor client (Unlock number) ruling = looks_itself (operation (Unlock number)) (ruling_told ruling)
+sees editor origin client TakeLock ruling = looks_itself (operation TakeLock) (ruling_told ruling)
+sees editor origin client Get ruling = looks_itself (operation Get) (ruling_told ruling)
+sees editor origin client (Put number contents) ruling = looks_itself (operation (Put number contents)) (ruling_told ruling)
+sees editor origin client (Relock number) ruling = looks_itself (operation (Relock number)) (ruling_told ruling)
+sees editor origin client (RefreshLock number) ruling = looks_itself (operation (RefreshLock number)) (ruling_told ruling)
+sees editor origin client (Unlock number) ruling = looks_itself (operation (Unlock number)) (ruling_told ruling)
 
 no_copy : (nonce : List ℕ) (sent : Sent) (target : Target) → op_of nonce (operation sent) ≡ op.PutRelative target → ⊥
 no_copy nonce Info target e = cc
@@ -209,8 +209,8 @@ module _ (desk : Desk) (desktop : Desktop) (client : Client) (sent : Sent) (at :
       subst (λ (d : List Deed). Did client sent moment d a) (sym none) (nothing a (λ e. omega (arith, status, e)) (λ e. omega (arith, status, e)))
   by_ruled text contents moment deeds a right is (ruled token wanted entry signed e of one told_is) =
       let call : entry.call ≡ call_of client sent = of.0 ∙ own_call contents token wanted is (own_signed text right token signed) e in
-      let looks : LooksSame (operation sent) (told_to desk.editor entry) (ruling_told entry.ruling) =
-      subst (λ (c : Call). LooksSame (operation sent) (told_of_to desk.editor c entry.ruling) (ruling_told entry.ruling)) (sym call) (sees desk.editor client sent entry.ruling) in
+      let looks : LooksSame (operation sent) (told_to desk.editor desk.origin entry) (ruling_told entry.ruling) =
+      subst (λ (c : Call). LooksSame (operation sent) (told_of_to desk.editor desk.origin c entry.ruling) (ruling_told entry.ruling)) (sym call) (sees desk.editor desk.origin client sent entry.ruling) in
       subst (λ (d : List Deed). Did client sent moment d a) (sym one)
       (entered entry a call of.1 (subst (λ (x : Answer). LooksSame (operation sent) x (ruling_told entry.ruling)) (sym told_is) looks))
   by_ruled text contents moment deeds a right is (full token wanted before later signed e is_full one told_is) =

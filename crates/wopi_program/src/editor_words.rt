@@ -50,7 +50,7 @@ fn behind_origin(words: &[String]) -> &[String]
 }
 
 /// The origin that is told to editors, where these words name one behind `--editor`.
-pub(crate) fn origin_told(words: &[String]) -> Option<&[u8]>
+fn origin_told(words: &[String]) -> Option<&[u8]>
     ensures { option_copied result ≡ origin_told (map string_bytes words.now) }
 {
     match words {
@@ -90,7 +90,7 @@ pub(crate) fn tells_origin(words: &[String]) -> bool
 }
 
 /// The words from that place on.
-pub(crate) fn words_from(words: &[String], place: usize) -> &[String]
+fn words_from(words: &[String], place: usize) -> &[String]
     ensures { map string_bytes result.now ≡ drop place (map string_bytes words.now) }
 {
     if words.len() < place {
@@ -100,11 +100,22 @@ pub(crate) fn words_from(words: &[String], place: usize) -> &[String]
 }
 
 /// A copy of the origin, where there is one.
-pub(crate) fn origin_copied(alloc: Global, origin: Option<&[u8]>) -> Result<Option<Bytes>, Memory>
+fn origin_copied(alloc: Global, origin: Option<&[u8]>) -> Result<Option<Bytes>, Memory>
     ensures { IfOk result (λ copy. copy ≡ option_copied origin.entry) }
 {
     match origin {
         Some(origin) => Ok(Some(Bytes::from_slice(alloc, origin)?)),
         None => Ok(None),
     }
+}
+
+/// A copy of the origin that is told to editors, where the words from that place on name one.
+pub(crate) fn origin_from(
+    alloc: Global,
+    words: &[String],
+    place: usize,
+) -> Result<Option<Bytes>, Memory>
+    ensures { IfOk result (λ origin. origin ≡ origin_told (drop place (map string_bytes words.now))) }
+{
+    origin_copied(alloc, origin_told(words_from(words, place)))
 }

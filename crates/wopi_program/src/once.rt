@@ -9,7 +9,7 @@ ghost use Rattle.wopi_program.specs.Words.{IsRow};
 ghost use Rattle.wopi_program.specs.Notes.{NotesFor};
 ghost use Rattle.wopi_program.specs.Once.{OnceEnds, ServesShard, OnceRuns, OnceRunsIn, Untouched, end_of, Finishes, TooLargeEnds, too_large_line, over_folder, status_of};
 
-use crate::editor_words::{origin_copied, origin_told, words_from};
+use crate::editor_words::origin_from;
 use crate::once_words::once_words;
 use crate::telling::want;
 use crate::{Command, Meant, Outside, note};
@@ -162,7 +162,9 @@ fn once_in<S: Source, K: Sink, F: Folder, N: Listener, D: Dialer, C: Clock>(
     let Some(mut clock) = outside.clocks.pop() else {
         unreachable!()
     };
-    let (folder, end) = once_over(alloc, keys, base, editor, origin, folder, &mut clock, outside);
+    let (folder, end) = once_over(
+        alloc, keys, base, editor, origin, folder, &mut clock, outside,
+    );
     outside.folders.push_reserved(folder);
     outside.clocks.push_reserved(clock);
     end
@@ -256,7 +258,7 @@ pub fn run_once<S: Source, K: Sink, F: Folder, N: Listener, D: Dialer, C: Clock>
     let Ok(base) = Bytes::from_slice(alloc, base.as_bytes()) else {
         return want(outside);
     };
-    let Ok(origin) = origin_copied(alloc, origin_told(words_from(words, 4))) else {
+    let Ok(origin) = origin_from(alloc, words, 4) else {
         return want(outside);
     };
     let end = once_in(alloc, keys, base, editor, origin, outside);

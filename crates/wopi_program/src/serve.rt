@@ -6,7 +6,7 @@ ghost use Rattle.wopi_program.specs.ServeWords.{IsServeRow};
 ghost use Rattle.wopi_program.specs.Words.{IsRow};
 ghost use Rattle.access_tokens.specs.declared.keys.Keys.{Keys};
 
-use crate::editor_words::{origin_copied, origin_told, words_from};
+use crate::editor_words::origin_from;
 use crate::once::finish_too_large;
 use crate::serve_words::{ServeAsk, serve_words};
 use crate::serving::{ServeEnd, serve_in};
@@ -67,7 +67,7 @@ pub fn run_serve<
     let Ok(base) = Bytes::from_slice(alloc, base.as_bytes()) else {
         return want(outside);
     };
-    let Ok(origin) = origin_copied(alloc, origin_told(words_from(words, 6))) else {
+    let Ok(origin) = origin_from(alloc, words, 6) else {
         return want(outside);
     };
     let end = serve_in(rt, alloc, keys, base, origin, ask, outside);
