@@ -13,7 +13,7 @@ use Rattle.wopi_text.specs.Ids.{id_of}
 use Rattle.access_tokens.specs.Keys.{bare}
 use Rattle.access_tokens.specs.TokenText.{rights_of}
 use Rattle.command_words.specs.Laws.{GoodFrontsGoOn}
-use Rattle.command_words.specs.Lines.{AllFit, Allows, Fits, IsLine, MayFollow, can_end, is_replay, is_single, next_behind, next_in, next_of, next_of_editor, next_of_once, next_of_origin, next_of_serve, next_option, next_value, option_rule, ruled_or, rules_of}
+use Rattle.command_words.specs.Lines.{AllFit, Allows, Fits, IsLine, MayFollow, can_end, is_replay, is_single, next_behind, next_of, next_of_editor, next_of_once, next_of_origin, next_of_serve, next_option, next_value, option_rule, ruled_or, rules_of}
 use Rattle.command_words.specs.Rules.{Keeps}
 use Rattle.command_words.specs.declared.lines.Next.{Next}
 use Rattle.command_words.specs.declared.lines.Next.TheVariants as next

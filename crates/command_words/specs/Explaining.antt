@@ -1,5 +1,5 @@
 -- What is told of words that are wrong. (Own.)
-use Rattle.std.specs.Prelude.{◌≢◌, ◌<◌, ⊤, ℕ, Bool, nat_lt, nat_le, ◌&&◌, if◌then◌else◌, List, [], ◌∷◌, ◌++◌, length, codes, Option, None, Some, slice_get}
+use Rattle.std.specs.Prelude.{◌≢◌, ◌<◌, ⊤, ℕ, Bool, nat_lt, nat_le, ◌&&◌, if◌then◌else◌, List, [], ◌++◌, length, codes, Option, None, Some, slice_get}
 use Rattle.std.specs.List.{list_all}
 use Rattle.command_words.specs.declared.wrong.How.{How}
 use Rattle.command_words.specs.declared.wrong.How.TheVariants.{Shown, Hidden, Missing}
