@@ -1,6 +1,5 @@
 -- What a host that serves editors answers beyond what every host does. (MS-WOPI, CheckFileInfo, has the members that a body has beside the others, PostMessageOrigin among them, and says of each what it tells; that the token may stand in an Authorization field is RFC 6750, 2.1; what HEAD and OPTIONS are told is RFC 9110, 9.3.2 and 9.3.7; which of them stand, what an editor is told of a host's health, and that OPTIONS tells the same of each target, is own.)
-use Rattle.std.specs.Prelude.{◌≡◌, ℕ, Bool, true, false, not, ◌&&◌, ◌==◌, if◌then◌else◌, List, [], ◌∷◌, length, codes, drop, Option, None, Some, option_and_then}
-use Rattle.std.specs.Option.{ForSome}
+use Rattle.std.specs.Prelude.{ℕ, Bool, true, false, not, ◌&&◌, ◌==◌, if◌then◌else◌, List, [], ◌∷◌, length, codes, drop, Option, None, Some, option_and_then}
 use Rattle.std.specs.Str.{bytes_eq}
 use Rattle.serde_json.specs.Data.{Data, Members, boolean, number, unsigned, string, object, member, no_members, put}
 use Rattle.serde_json.specs.Written.{compact_text}
@@ -15,9 +14,10 @@ use Rattle.put_relative.specs.CopyNames.{ending_of}
 use Rattle.file_info.specs.declared.info.Info.{Info}
 use Rattle.file_info.specs.Info.{info_text}
 
--- what may be told as the page's origin
-abbrev pub MayTell : Option (List ℕ) → Type 0
-MayTell origin = ForSome origin (λ text. passes text ≡ true)
+-- what is told as the page's origin passes the tests of one
+unfoldable pub may_tell : Option (List ℕ) → Bool
+may_tell None = true
+may_tell (Some origin) = passes origin
 
 -- the member that tells the origin of the page which the editor stands in, where there is one, in front of these
 abbrev pub with_origin : Option (List ℕ) → Members → Members

@@ -1,10 +1,9 @@
 //! What a host knows beside its files.
 ghost use Rattle.std.specs.Prelude.{◌≡◌, IfSome, None, false, true};
-ghost use Rattle.std.specs.Option.{ForSome};
 ghost use Rattle.wopi_model.specs.Moment.{IsMoment};
 ghost use Rattle.access_tokens.specs.Addresses.{is_base};
 ghost use Rattle.access_tokens.specs.Origins.{IsOrigin};
-ghost use Rattle.access_tokens.specs.OriginTests.{passes};
+ghost use Rattle.host_server.specs.Editing.{may_tell};
 
 use access_tokens::Keys;
 use wopi_text::Bytes;
@@ -21,7 +20,7 @@ pub struct Desk {
     pub origin: Option<Bytes>,
     pub ghost form: { is_base base ≡ true },
     pub ghost moment: { IsMoment opened },
-    pub ghost page: { ForSome origin (λ text. passes text ≡ true) },
+    pub ghost page: { may_tell origin ≡ true },
 }
 
 impl Desk {

@@ -1,11 +1,11 @@
 //! What a host that serves editors answers beyond what every host does.
-ghost use Rattle.std.specs.Prelude.{◌≡◌, IfOk, OnOk};
+ghost use Rattle.std.specs.Prelude.{◌≡◌, IfOk, OnOk, true};
 ghost use Rattle.std.specs.Option.{option_copied};
 ghost use Rattle.serde_json.specs.Data.{boolean, string, put as with_member};
 ghost use Rattle.serde_json.specs.View.{members_view, view};
 ghost use Rattle.std.specs.Str.{IsUtf8};
 ghost use Rattle.file_info.specs.Info.{HasTexts};
-ghost use Rattle.host_server.specs.Editing.{MayTell, as_get, asks_head, asks_health, asks_options, bearer_in, behind_scheme, editor_json, file_members, info_body, is_get, is_head, is_options, joined, judged_as, refused_status, supports_members, token_taken, user_members, with_members};
+ghost use Rattle.host_server.specs.Editing.{as_get, asks_head, asks_health, asks_options, bearer_in, behind_scheme, editor_json, file_members, info_body, is_get, is_head, is_options, joined, judged_as, may_tell, refused_status, supports_members, token_taken, user_members, with_members};
 
 use crate::address::text_of;
 use file_info::{Info, info_text};
@@ -82,7 +82,7 @@ fn put_user(alloc: Global, map: &mut Map<String, Value>, info: &Info) -> Result<
 /// What the body of CheckFileInfo's answer tells an editor in a page of that origin.
 fn editor_value(alloc: Global, origin: &Option<Bytes>, info: &Info) -> Result<Value, AllocError>
     requires texts { HasTexts info.now }
-    requires page { MayTell origin.now }
+    requires page { may_tell origin.now ≡ true }
     ensures { IfOk result (λ value. view value ≡ editor_json origin.now info.now) }
 {
     let mut map = Map::new(alloc);
@@ -111,7 +111,7 @@ pub fn info_body(
     info: &Info,
 ) -> Result<Bytes, Memory>
     requires texts { HasTexts info.now }
-    requires page { MayTell origin.now }
+    requires page { may_tell origin.now ≡ true }
     ensures { IfOk result (λ text. text ≡ info_body editor origin.now info.now) }
 {
     if !editor {

@@ -1,8 +1,8 @@
 //! Rulings told as answers.
-ghost use Rattle.std.specs.Prelude.{◌≡◌, ◌==◌, [], IfOk, codes, unwrap_or, if◌then◌else◌};
+ghost use Rattle.std.specs.Prelude.{◌≡◌, ◌==◌, [], IfOk, codes, true, unwrap_or, if◌then◌else◌};
 ghost use Rattle.wopi_headers.specs.declared.answer.BodyKind.TheVariants.{Plain};
 ghost use Rattle.file_info.specs.Info.{HasTexts};
-ghost use Rattle.host_server.specs.Editing.{MayTell};
+ghost use Rattle.host_server.specs.Editing.{may_tell};
 ghost use Rattle.wopi_acts.specs.Answers.{status_only, kind_of_contents, ruling_told};
 ghost use Rattle.host_server.specs.Telling.{journal_full, info_of, info_told_to};
 
@@ -118,7 +118,7 @@ pub fn info_told(
     token: &Token,
     ruling: Ruling,
 ) -> Result<Answer, Memory>
-    requires { MayTell origin.now }
+    requires { may_tell origin.now ≡ true }
     ensures { IfOk result (λ a. a ≡ info_told_to editor origin.now name.now token.now ruling) }
 {
     let accepted = ruling.status == 200;
