@@ -37,4 +37,4 @@ ServeFinishes-known held count status old new end.Memory is two = absurd (omega 
 pub ServeEnds-known : {S K F N D C L : Type 0} (m : Meanings S K F N D C L) (words : List (List ℕ)) (status : ℕ) (old new : Outside S K F N D C)
     → ServeEnds m words status old new → status ≢ 2
 ServeEnds-known m words status old new (inl want) = λ two. let six = want.status_is in absurd (omega (arith, six, two))
-ServeEnds-known m words status old new (inr ran) = ServeFinishes-known m.held m.write_faults status old.notes new.notes ran.end ran.finishes
+ServeEnds-known m words status old new (inr ran) = ServeFinishes-known m.held m.write_faults status ran.notes new.notes ran.end ran.finishes

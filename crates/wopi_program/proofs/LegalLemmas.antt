@@ -92,27 +92,27 @@ module _ {S K F N D C L : Type 0} (m : Meanings S K F N D C L) where
       grew None bytes h = absurd h
       grew (Some now) bytes h = ap (λ (l : List ℕ). Some l) h
 
-      written_by : (keys : Keys) (base : List ℕ) (origin : Option (List ℕ)) (ask : ServeAsk) (run_end : ServeEnd) → HasWritten m keys base origin ask run_end old new → Written
-      written_by keys base origin ask run_end (journal, ends, served, appends, ended, keeps) = (
+      written_by : (keys : Keys) (base : List ℕ) (origin : Option (List ℕ)) (ask : ServeAsk) (notes : K) (run_end : ServeEnd) → HasWritten m keys base origin ask notes run_end old new → Written
+      written_by keys base origin ask notes run_end (journal, ends, served, told, appends, ended, keeps) = (
         journal_text journal,
         told_by journal,
         grew (m.held new.output) (journal_text journal) (subst (λ (o : Option (List ℕ)). Appends o (m.held new.output) (journal_text journal)) held appends),
         record { read = reads journal keeps; legal = served_legal keys base origin ask ends journal old new many served },
       )
 
-      of_end : (status : ℕ) (keys : Keys) (base : List ℕ) (origin : Option (List ℕ)) (ask : ServeAsk) (run_end : ServeEnd) → ServeRuns m keys base origin ask run_end old new →
-          ServeFinishes m.held m.write_faults status old.notes new.notes run_end → (status ≡ 0) ⊎ (status ≡ 10) → Written
-      of_end status keys base origin ask end.Served runs finishes is = written_by keys base origin ask end.Served runs
-      of_end status keys base origin ask end.ListenerFault runs finishes is = written_by keys base origin ask end.ListenerFault runs
-      of_end status keys base origin ask end.WriteFault runs finishes is = absurd (neither status 4 (omega arith) (omega arith) finishes.0 is)
-      of_end status keys base origin ask end.FolderFault runs finishes is = absurd (neither status 5 (omega arith) (omega arith) finishes.0 is)
-      of_end status keys base origin ask (end.TooLarge name) runs (inl told) is = absurd (neither status 12 (omega arith) (omega arith) told.0 is)
-      of_end status keys base origin ask (end.TooLarge name) runs (inr want) is = absurd (neither status 6 (omega arith) (omega arith) want.0 is)
-      of_end status keys base origin ask end.Memory runs finishes is = absurd (neither status 6 (omega arith) (omega arith) finishes.0 is)
+      of_end : (status : ℕ) (keys : Keys) (base : List ℕ) (origin : Option (List ℕ)) (ask : ServeAsk) (notes : K) (run_end : ServeEnd) → ServeRuns m keys base origin ask notes run_end old new →
+          ServeFinishes m.held m.write_faults status notes new.notes run_end → (status ≡ 0) ⊎ (status ≡ 10) → Written
+      of_end status keys base origin ask notes end.Served runs finishes is = written_by keys base origin ask notes end.Served runs
+      of_end status keys base origin ask notes end.ListenerFault runs finishes is = written_by keys base origin ask notes end.ListenerFault runs
+      of_end status keys base origin ask notes end.WriteFault runs finishes is = absurd (neither status 4 (omega arith) (omega arith) finishes.0 is)
+      of_end status keys base origin ask notes end.FolderFault runs finishes is = absurd (neither status 5 (omega arith) (omega arith) finishes.0 is)
+      of_end status keys base origin ask notes (end.TooLarge name) runs (inl told) is = absurd (neither status 12 (omega arith) (omega arith) told.0 is)
+      of_end status keys base origin ask notes (end.TooLarge name) runs (inr want) is = absurd (neither status 6 (omega arith) (omega arith) want.0 is)
+      of_end status keys base origin ask notes end.Memory runs finishes is = absurd (neither status 6 (omega arith) (omega arith) finishes.0 is)
 
       pub written : (words : List (List ℕ)) (status : ℕ) → ServeEnds m words status old new → (status ≡ 0) ⊎ (status ≡ 10) → Written
       written words status (inl want) is = absurd (neither status 6 (omega arith) (omega arith) want.status_is is)
-      written words status (inr ran) is = of_end status ran.keys ran.base (origin_told ran.row.options) ran.ask ran.end ran.runs ran.finishes is
+      written words status (inr ran) is = of_end status ran.keys ran.base (origin_told ran.row.options) ran.ask ran.notes ran.end ran.runs ran.finishes is
 
 -- ---- a run of `audit`
 

@@ -10,6 +10,7 @@ pub mod Ctoken
 pub mod Runs
 pub mod Passes
 pub mod Journal
+pub mod Watched
 pub mod Serve
 pub mod Worked
 pub mod EditorWords

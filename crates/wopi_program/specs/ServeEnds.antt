@@ -24,17 +24,18 @@ ServeFinishes held count status old new (end.TooLarge name) = TooLargeEnds held 
 ServeFinishes held count status old new end.Memory = (status ≡ 6) × NotesFor held count status old new
 
 module _ {S K F N D C L : Type 0} (m : Meanings S K F N D C L) where
-  -- A run under the keys, the base, the origin and the numbers of the words: what it did, the cause of a write's fault, the status's line on the notes;
-  -- and all else stays.
+  -- A run under the keys, the base, the origin and the numbers of the words: what it did, the cause of a write's fault, the status's line on the
+  -- notes, behind what they had been told of shards; and all else stays.
   pub record ServeRan (words : List (List ℕ)) (status : ℕ) (old new : Outside S K F N D C) : Type 0 where
     pub end : ServeEnd
     pub keys : Keys
     pub base : List ℕ
     pub ask : ServeAsk
     pub row : IsServeRow words keys base ask
-    pub runs : ServeRuns m keys base (origin_told row.options) ask end old new
+    pub notes : K
+    pub runs : ServeRuns m keys base (origin_told row.options) ask notes end old new
     pub write_cause : status ≡ 4 → Rose (m.write_faults old.output) (m.write_faults new.output)
-    pub finishes : ServeFinishes m.held m.write_faults status old.notes new.notes end
+    pub finishes : ServeFinishes m.held m.write_faults status notes new.notes end
     pub others : new ≡ record old { output = new.output; notes = new.notes; folders = new.folders; listeners = new.listeners; clocks = new.clocks }
 
   abbrev pub ServeEnds : List (List ℕ) → ℕ → Outside S K F N D C → Outside S K F N D C → Type 0

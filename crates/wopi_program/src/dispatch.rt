@@ -22,7 +22,7 @@ use std::thread::Threads;
 pub fn run<
     R: Threads + Wait + Sync,
     S: Source,
-    K: Sink,
+    K: Sink + Send,
     F: Folder + Send,
     N: Listener + Send,
     D: Dialer,

@@ -36,6 +36,7 @@ mod telling;
 mod token;
 mod token_words;
 mod upgrade;
+mod watching;
 
 pub use asking::{Asked, asked_by};
 pub use audit::run_audit;

@@ -48,7 +48,7 @@ fn finish<K: Sink>(alloc: Global, notes: &mut K, end: &ServeEnd) -> u8
 pub fn run_serve<
     R: Threads + Wait + Sync,
     S: Source,
-    K: Sink,
+    K: Sink + Send,
     F: Folder + Send,
     N: Listener + Send,
     D: Dialer,

@@ -394,6 +394,58 @@ fn versions_begin_at_the_number_of_the_words(rt: HostRuntime) -> Result<(), Fail
     Ok(())
 }
 
+const TEN_CALLS: [&str; 8] = [
+    "serve",
+    ".",
+    "8880",
+    "4a656665",
+    "http://localhost:8880",
+    "1",
+    "--journal",
+    "10",
+];
+
+const LOOK: [&str; 4] = ["GET", "", "", ""];
+
+const EIGHT_LOOKS: [[&str; 4]; 8] = [LOOK; 8];
+
+const NINE_LOOKS: [[&str; 4]; 9] = [LOOK; 9];
+
+const ELEVEN_LOOKS: [[&str; 4]; 11] = [LOOK; 11];
+
+/// The requests of the one link, of which a shard takes ten, and what the notes tell.
+struct NearRow {
+    requests: &'static [[&'static str; 4]],
+    notes: &'static str,
+}
+
+const NEAR_ROWS: [NearRow; 3] = [
+    NearRow {
+        requests: &EIGHT_LOOKS,
+        notes: "",
+    },
+    NearRow {
+        requests: &NINE_LOOKS,
+        notes: "shard 11 nearly full\n",
+    },
+    NearRow {
+        requests: &ELEVEN_LOOKS,
+        notes: "shard 11 nearly full\n",
+    },
+];
+
+#[test]
+fn a_shard_is_told_of_once_from_nine_tenths_of_its_calls_on(rt: HostRuntime) -> Result<(), Fail> {
+    let alloc = rt.alloc();
+    for row in &NEAR_ROWS {
+        let mut outside = one_worker(alloc, requests(alloc, row.requests)?, 0)?;
+        let status = serve(&rt, alloc, &TEN_CALLS, &mut outside)?;
+        assert!(rt; status == 0);
+        assert!(rt; outside.notes.as_slice() == row.notes.as_bytes());
+    }
+    Ok(())
+}
+
 /// Folders of which that of shard 11 has an empty `a.csv`, and that of shard 12 a `b.csv`; the former waits
 /// at the flags.
 fn gated(alloc: Global, first: &Flag, second: &Flag) -> Result<Vec<GateFolder<MemFolder>>, Fail> {

@@ -7,8 +7,8 @@ use Rattle.wopi_program.proofs.OnceLemmas.{by_no_read_fault, by_read_fault, by_w
 use Rattle.wopi_program.proofs.OnceRows.{once_page}
 use Rattle.wopi_program.proofs.once.run_once.Goals as goal
 
-pub once_in-requires-clause-page : goal.once_in-requires-clause-page
-once_in-requires-clause-page g c =
+pub once_in-end-requires-clause-page : goal.once_in-end-requires-clause-page
+once_in-end-requires-clause-page g c κs within =
     subst (λ (o : Option (List ℕ)). IfSome o IsOrigin) (sym (c.in-Ok-origin_from.ensures ∙ once_page _ _ _ _ c.in-Some.ensures.some)) c.in-Some.ensures.some.options_are.1
 
 pub returns : goal.returns

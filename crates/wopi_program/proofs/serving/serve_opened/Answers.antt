@@ -1,20 +1,34 @@
-use Rattle.std.proofs.Common.{List, refl, subst}
+use Rattle.std.proofs.Common.{◌≡◌, ◌≤◌, List, length, refl, sym, subst, arith}
 use Rattle.host_server.specs.declared.working.WorkEnd.{WorkEnd}
+use Rattle.wopi_program.specs.Watched.{AreRightIn, HasTold, TellsOf, none_raised}
 use Rattle.wopi_program.specs.Worked.{Wrote}
 use Rattle.wopi_program.proofs.ServeLemmas.{worked_still}
+use Rattle.wopi_program.proofs.WatchLemmas.{all_told, parts_many, tells_both}
 use Rattle.wopi_program.proofs.serving.serve_opened.Goals as goal
+
+pub tell_rest-requires : goal.tell_rest-requires
+tell_rest-requires g c =
+    let worked = c.serve_host-worked in
+    record { right = subst (λ n. AreRightIn n worked.result.journal.parts worked.result.marks) (sym c.requires.capacity) worked.ensures.right }
 
 pub returns-clause-runs : goal.returns-clause-runs
 returns-clause-runs g c =
     let K = g.row.K.Denot in
     let held = g.K.Sink.held in
+    let count = g.K.Sink.write_faults in
     let worked = c.serve_host-worked in
     let journal = worked.result.journal in
+    let rest = c.tell_rest in
     let last = c.write_end.new.sink in
+    let told : TellsOf held count c.args.outside.now.notes rest.new.notes none_raised rest.new.marks =
+    tells_both held count c.args.outside.now.notes worked.new.outside.notes rest.new.notes none_raised worked.result.marks rest.new.marks worked.ensures.told rest.ensures.told in
+    let few : length journal.parts ≤ 16 = parts_many _ _ _ journal.parts _ worked.ensures.worked.closed.ended c.requires.many in
     record {
       journal = journal;
       ends = worked.result.ends.items;
       worked = worked_still _ c.args.desk.now c.args.host worked.result.ends.items journal _ _ _ worked.ensures.worked refl refl refl;
+      told = subst (λ n. HasTold held count n journal c.args.outside.now.notes rest.new.notes) c.requires.capacity
+          (all_told held count c.args.capacity journal c.args.outside.now.notes rest.new.notes rest.new.marks told rest.ensures.right rest.ensures.all few);
       wrote = subst (λ (k : K). Wrote (held k) (held last) journal worked.result.ends.items c.write_end.result) (λ i. (worked.ensures.others i).output)
           (subst (λ (l : List WorkEnd). Wrote (held worked.new.outside.output) (held last) journal l c.write_end.result) c.deref.ensures.value c.write_end.ensures.wrote);
     }

@@ -1,0 +1,12 @@
+use Rattle.std.proofs.Common.{◌≡◌}
+use Rattle.host_table.specs.Passes.{IsSamePass, own_of, sight_of}
+use Rattle.wopi_program.specs.Watched.{AreRight, TellsOf}
+use Rattle.wopi_program.proofs.watching.look_round.Given as goal
+
+abbrev pub invariant-shards : goal.invariant-shards
+invariant-shards g l = record {
+  told : TellsOf g.K.Sink.held g.K.Sink.write_faults l.fn.notes l.notes l.fn.marks l.marks;
+  right : AreRight l.marks (sight_of l.pass);
+  own : own_of l.pass ≡ own_of l.fn.pass;
+  same : IsSamePass l.fn.pass l.pass;
+}
