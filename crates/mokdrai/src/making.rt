@@ -88,11 +88,13 @@ fn folders<'a, R: Files>(
     name: &str,
     count: usize,
 ) -> Result<Vec<DirFolder<'a, R>>, Memory>
-    ensures { IfOk result (λ all. vec_len all ≡ count) }
+    ensures count { IfOk result (λ all. vec_len all ≡ count) }
+    ensures each { IfOk result (λ all. AllByRecursion (λ one. string_bytes one.folder ≡ name.now) all.items) }
 {
     let mut all = Vec::with_capacity(alloc, count)?;
     for _ in 0..count {
-        all.push(DirFolder::new(alloc, rt, name)?)?;
+        let folder = DirFolder::new(alloc, rt, name)?;
+        all.push(folder)?;
     }
     Ok(all)
 }
@@ -263,6 +265,12 @@ pub(crate) fn world<
     ensures serve { (name : List ℕ) (ask : ServeAsk) → IsServeOver name ask asked.entry
         → IfOk result (λ world. (length world.folders.items ≡ 16) × (length world.listeners.items ≡ ask.workers) × (length world.clocks.items ≡ ask.workers)) }
     ensures has_all_back { IfOk result (λ world. AllByRecursion (λ one. one.finished ≡ one.accepted) world.listeners.items) }
+    ensures over_once { (name : List ℕ) → IsOnceOver name asked.entry
+        → IfOk result (λ world. AllByRecursion (λ one. string_bytes one.folder ≡ name) world.folders.items) }
+    ensures over_serve { (name : List ℕ) (ask : ServeAsk) → IsServeOver name ask asked.entry
+        → IfOk result (λ world. AllByRecursion (λ one. string_bytes one.folder ≡ name) world.folders.items) }
+    ensures with_host { (name : List ℕ) → IsEditAt name asked.entry → IfOk result (λ world. string_bytes world.dialer.authority ≡ name) }
+    ensures patient { IfOk result (λ world. world.dialer.idle ≡ around.entry.idle) }
 {
     let parts = parts_of(asked);
     let folders = folders(alloc, rt, parts.folder, parts.folders)?;
