@@ -16,5 +16,6 @@ first=1
 [ ! -f "$state/first" ] || first=$(($(cat "$state/first") + room + 1))
 echo "$first" >"$state/first.new"
 mv "$state/first.new" "$state/first"
-exec "$program" serve "$files" "$port" "$key" "$base" 16 --links 256 --journal "$room" --first "$first" \
+# (OPTIONS has further options, parted by spaces)
+exec "$program" serve "$files" "$port" "$key" "$base" 16 --links 256 --journal "$room" --first "$first" ${OPTIONS:-} \
   >"$state/$(date +%Y-%m-%dT%H%M%S).$first.journal"

@@ -64,7 +64,7 @@ class Host:
 
     running = []
 
-    def __init__(self, program, workers, contents=b"1,2\n"):
+    def __init__(self, program, workers, contents=b"1,2\n", more=()):
         self.room = tempfile.TemporaryDirectory()
         self.folder, self.stop, self.wake = (os.path.join(self.room.name, name) for name in ("files", "stop", "wake"))
         os.mkdir(self.folder)
@@ -75,7 +75,7 @@ class Host:
         with socket.socket() as probe:
             probe.bind(("127.0.0.1", 0))
             self.port = probe.getsockname()[1]
-        words = ["serve", self.folder, str(self.port), KEY, "http://localhost", str(workers), *OPTIONS]
+        words = ["serve", self.folder, str(self.port), KEY, "http://localhost", str(workers), *OPTIONS, *more]
         around = {**os.environ, "MOKDRAI_STOP": self.stop, "MOKDRAI_WAKE": self.wake}
         self.process = subprocess.Popen([program, *words], stdout=subprocess.DEVNULL, stderr=subprocess.PIPE, env=around)
         Host.running.append(self.process)
