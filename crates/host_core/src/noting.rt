@@ -4,7 +4,7 @@ ghost use Rattle.outside.specs.Faults.{Rose};
 ghost use Rattle.outside.specs.Folder.{Keeps, Replaces, OpensOnly, Removes};
 ghost use Rattle.host_core.specs.Entries.{Asked, asked_as, ruled};
 ghost use Rattle.host_core.specs.Entry.{is_status};
-ghost use Rattle.host_core.specs.Notes.{Notes, opening_listed, saved_in, StaysNoted, KeepsOpen};
+ghost use Rattle.host_core.specs.Notes.{Notes, IsBegunToRemove, IsBegunWith, IsToldAhead, opening_listed, saved_in, StaysNoted, KeepsOpen};
 
 use crate::contents::Contents;
 use crate::entry::Beginning;
@@ -42,7 +42,7 @@ pub trait Store: Folder {
         ensures files { Keeps (Self.files self.old) (Self.files self.new) }
         ensures never_falls { Self.faults self.old ≤ Self.faults self.new };
 
-    /// The name then holds the contents, and the call that was begun is to be told that version. The contents are taken, and given
+    /// The name and the contents are those of the call that was begun. The name then holds these, and the call is to be told that version. The contents are taken, and given
     /// as they are to stand with their file; `former` stood there before. After a fault only this name is open, and
     /// the contents stay.
     fn save(
@@ -53,6 +53,7 @@ pub trait Store: Folder {
         contents: &mut Bytes,
         former: Option<&Contents>,
     ) -> Result<Contents, OutFault>
+        requires begun { IsBegunWith (notes self.old) name.now contents.old }
         ensures live { IfOk result (λ live. live ≡ contents.old) }
         ensures back { OnErr result (contents.new ≡ contents.old) }
         ensures replaced { OnOk result (Replaces (Self.files self.old) (Self.files self.new) name.now contents.old) }
@@ -64,18 +65,21 @@ pub trait Store: Folder {
         ensures unsaved { OnErr result ((notes self.new).saved ≡ (notes self.old).saved) }
         ensures noted { StaysNoted (notes self.old) (notes self.new) };
 
-    /// The name is gone. After a fault only this name is open.
+    /// The call that was begun removes the file of that name. It is gone then. After a fault only this name is open.
     fn clear(&mut self, name: &str) -> Result<(), Failed>
+        requires begun { IsBegunToRemove (notes self.old) name.now }
         ensures removed { OnOk result (Removes (Self.files self.old) (Self.files self.new) name.now) }
         ensures torn { OpensOnly (Self.files self.old) (Self.files self.new) name.now }
         ensures never_falls { Self.faults self.old ≤ Self.faults self.new }
         ensures failed { OnErr result (Rose (Self.faults self.old) (Self.faults self.new)) }
         ensures notes { notes self.new ≡ notes self.old };
 
-    /// Gives the entry that was begun its ruling. What was saved is what an accepted call brought. It takes no memory.
+    /// Gives the entry that was begun its ruling. What was saved is what an accepted call brought, and the ruling of one that the store
+    /// took part in was known ahead. It takes no memory.
     fn end(&mut self, ruling: &Ruling)
         requires begun { (one : Asked) × ((notes self.old).begun ≡ Some one) × ((notes self.old).saved ≡ saved_in (ruled ruling.now one)) }
         requires status { is_status ruling.now.status ≡ true }
+        requires ahead { IsToldAhead (notes self.old) ruling.now }
         ensures made { (one : Asked) → (notes self.old).begun ≡ Some one → (notes self.new).made ≡ (notes self.old).made ++ ruled ruling.now one ∷ [] }
         ensures ended { (notes self.new).begun ≡ None }
         ensures rest { KeepsOpen (notes self.old) (notes self.new) }

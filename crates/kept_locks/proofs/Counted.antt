@@ -1,5 +1,5 @@
 -- How long chains become.
-use Rattle.std.proofs.Common.{◌≡◌, inl, inr, ◌+◌, ◌*◌, ◌-◌, ◌^◌, ◌<◌, ◌≤◌, ℕ, suc, true, false, List, [], ◌∷◌, ◌++◌, length, max, min, Option, None, Some, refl, sym, ap, subst, ◌∙◌, arith, if◌then◌else◌}
+use Rattle.std.proofs.Common.{◌≡◌, inl, inr, ◌+◌, ◌*◌, ◌-◌, ◌^◌, ◌<◌, ◌≤◌, ℕ, suc, true, false, List, [], ◌∷◌, ◌++◌, map, length, max, min, Option, None, Some, refl, sym, ap, subst, ◌∙◌, arith, if◌then◌else◌}
 use Rattle.std.specs.Prelude.{slice_get, option_map}
 use Rattle.std.proofs.lemmas.Bool.{cases_eq, cases_lt}
 use Rattle.std.proofs.lemmas.Option.{slice_get-map}
@@ -124,6 +124,25 @@ tied_short places queue chains index tied =
     let used = tied.used in
     let fits = tied.fits in
     all_short chains places tied.short (omega (arith, used, fits))
+
+-- what the purges of all chains left, where nothing came since
+pub purged_lefts : {S : Type 0} (places : List Place) (queue : Queue) (chains : Chains) (index : HashMap SpentOn ℕ S) → AreTied places queue chains index
+    → ((j : ℕ) (p : Place) → slice_get places j ≡ Some p → p.trail.left ≡ p.trail.count) → lefts_in places ≡ map length (chains_in chains places)
+purged_lefts places queue chains index tied fresh =
+    let used = tied.used in
+    let fits = tied.fits in
+    each places tied.short fresh (omega (arith, used, fits))
+  where
+    each : (places : List Place) → ((j : ℕ) (p : Place) → slice_get places j ≡ Some p → IsShort chains p) → ((j : ℕ) (p : Place) → slice_get places j ≡ Some p → p.trail.left ≡ p.trail.count)
+        → total (ids_at chains) places < 2 ^ 64 → lefts_in places ≡ map length (chains_in chains places)
+    each [] short fresh few = refl
+    each (place ∷ places) short fresh few =
+        let this = short 0 place refl in
+        let count = this.count in
+        let left = fresh 0 place refl in
+        let here : place.trail.left ≡ length (spent_of chains place.trail.chain) = omega (arith, count, left, few) in
+        let rest = each places (λ j. short (suc j)) (λ j. fresh (suc j)) (omega (arith, few)) in
+        ap (λ (n : ℕ). n ∷ lefts_in places) here ∙ ap (λ (l : List ℕ). length (spent_of chains place.trail.chain) ∷ l) rest
 
 -- a lock's id may come later
 pub short_held : {A : Type 0} (chains : Chains) (trail : Trail) (few : ℕ) → few ≤ 1 → (held : Option A) → IsCounted chains trail few → IsCounted chains trail (2 - one_if held)

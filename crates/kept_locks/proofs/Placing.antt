@@ -51,6 +51,14 @@ shown_most chains trail now = by_purged trail.purged
         let there = fewer_still (spent_of chains trail.chain) trail.as_of in
         omega (arith, here, there)
 
+-- no more ids are shown than the chain has
+pub shown_whole : (chains : Chains) (trail : Trail) → length (shown_of chains trail) ≤ length (spent_of chains trail.chain)
+shown_whole chains trail = by_purged trail.purged
+  where
+    by_purged : (b : Bool) → length (if b then spent_of chains trail.chain else still_spent (spent_of chains trail.chain) trail.as_of) ≤ length (spent_of chains trail.chain)
+    by_purged true = omega arith
+    by_purged false = fewer_still (spent_of chains trail.chain) trail.as_of
+
 pub uses_most : (chains : Chains) (place : Place) (now : ℕ) → uses_at now (standing_of chains place) ≤ ids_at chains place + held_at place
 uses_most chains place now =
     let is = uses_are chains place now in

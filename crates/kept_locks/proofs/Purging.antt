@@ -1,5 +1,5 @@
 -- Files of whose ids those go that are over.
-use Rattle.std.proofs.Common.{◌≡◌, ◌≢◌, inl, inr, ◌<◌, ◌≤◌, ℕ, zero, suc, true, if◌then◌else◌, List, [], ◌∷◌, map, length, Option, None, Some, refl, sym, ap, ◌∙◌, arith}
+use Rattle.std.proofs.Common.{◌≡◌, ◌≢◌, inl, inr, ◌<◌, ◌≤◌, ℕ, zero, suc, true, if◌then◌else◌, List, [], ◌∷◌, map, length, Option, None, Some, refl, sym, ap, subst, ◌∙◌, arith}
 use Rattle.std.specs.Prelude.{slice_get, option_map}
 use Rattle.std.proofs.lemmas.Bool.{cases_eq, cases_lt}
 use Rattle.std.proofs.lemmas.Option.{slice_get-map}
@@ -10,19 +10,19 @@ use Rattle.kept_locks.specs.declared.places.Held.{Held}
 use Rattle.kept_locks.specs.declared.places.Place.{Place}
 use Rattle.kept_locks.specs.Refusals.{Goes, shown_of}
 use Rattle.kept_locks.specs.Locks.{all_purged, ids_of, purged_at}
-use Rattle.kept_locks.specs.Ties.{OwnChains, Puts, Purges, chains_in, lock_of, standing_of, standings}
+use Rattle.kept_locks.specs.Ties.{IsPurged, OwnChains, Puts, Purges, chains_in, lock_of, standing_of, standings}
 use Rattle.kept_locks.proofs.Setting.{shown}
 use Rattle.kept_locks.proofs.Tying.{same_list, shows_same}
 
 -- one file's trail was purged
 pub purges_put : (places places' : List Place) (old new : Chains) (i : ℕ) (was place : Place) (now : ℕ) → OwnChains places old → slice_get places i ≡ Some was
-    → Goes old new was.trail place.trail (still_spent (shown_of old was.trail) now) → place.held ≡ was.held → place.trail.purged ≡ true → Puts places places' i place → Purges places places' old new i now
+    → Goes old new was.trail place.trail (still_spent (shown_of old was.trail) now) → place.held ≡ was.held → IsPurged place → Puts places places' i place → Purges places places' old new i now
 purges_put places places' old new i was place now own at goes held purged puts = record {
   here = shown new places' i place puts.here ∙ ap Some changed ∙ sym (ap (option_map (purged_at now)) (shown old places i was at));
   others = λ j differs.
       slice_get-map (standing_of new) places' j ∙ ap (option_map (standing_of new)) (puts.others j differs) ∙ beside j differs (slice_get places j) refl
       ∙ sym (slice_get-map (standing_of old) places j);
-  purged = λ p found. let this : place ≡ p = cc (puts.here, found) in sym (ap (λ (q : Place). q.trail.purged) this) ∙ purged;
+  purged = λ p found. let this : place ≡ p = cc (puts.here, found) in subst IsPurged this purged;
   beside = puts.others;
   long = puts.long;
 }
@@ -39,7 +39,7 @@ purges_put places places' old new i was place now own at goes held purged puts =
 pub record PurgedTo (old new : List Place) (before after : Chains) (upto now : ℕ) : Type 0 where
   pub below : (j : ℕ) → j < upto → slice_get (standings after new) j ≡ option_map (purged_at now) (slice_get (standings before old) j)
   pub above : (j : ℕ) → upto ≤ j → slice_get (standings after new) j ≡ slice_get (standings before old) j
-  pub purged : (j : ℕ) (place : Place) → j < upto → slice_get new j ≡ Some place → place.trail.purged ≡ true
+  pub purged : (j : ℕ) (place : Place) → j < upto → slice_get new j ≡ Some place → IsPurged place
   pub long : length new ≡ length old
 
 pub purged_none : (places : List Place) (chains : Chains) (now : ℕ) → PurgedTo places places chains chains 0 now

@@ -1,5 +1,5 @@
 -- What the index of spent ids says, and what is shown of a chain of them.
-use Rattle.std.specs.Prelude.{◌≡◌, ◌≢◌, ◌⊎◌, ℕ, ◌+◌, ◌*◌, ◌-◌, ◌^◌, ◌≤◌, Bool, true, false, ◌&&◌, ◌||◌, List, [], ◌∷◌, length, Option, None, Some, max, min, nat_lt, nat_eq, bytes_eq, if◌then◌else◌}
+use Rattle.std.specs.Prelude.{◌≡◌, ◌≢◌, ◌⊎◌, ℕ, ◌+◌, ◌*◌, ◌-◌, ◌^◌, ◌<◌, ◌≤◌, Bool, true, false, ◌&&◌, ◌||◌, List, [], ◌∷◌, length, Option, None, Some, max, min, nat_lt, nat_eq, bytes_eq, if◌then◌else◌}
 use Rattle.std.specs.HashMap.{HashMap, get}
 use Rattle.wopi_model.specs.Act.{is_spent}
 use Rattle.wopi_model.specs.Settle.{still_spent}
@@ -59,6 +59,10 @@ pub record IsCounted (chains : Chains) (trail : Trail) (more : ℕ) : Type 0 whe
 -- the last purge left as many as the one before, or no more than are shown now
 abbrev pub LeavesFew : Chains → Trail → Trail → Type 0
 LeavesFew new trail result = result.left ≤ max trail.left (length (shown_of new result))
+
+-- a chain that became shorter was purged, and its last purge left no more than it has
+abbrev pub FallsTo : Chains → Chains → Trail → Trail → Type 0
+FallsTo old new trail result = length (spent_of new result.chain) < length (spent_of old trail.chain) → result.left ≤ length (spent_of new result.chain)
 
 -- where the trail is told: at each moment from the last step on, that tells of each id whether the chain refuses it
 abbrev pub Tells : (List ℕ → ℕ → Bool) → Chains → Trail → Type 0

@@ -3,7 +3,7 @@ ghost use Rattle.std.specs.Prelude.{◌≡◌, ◌⊎◌, ◌+◌, ◌*◌, ◌�
 ghost use Rattle.expiry_queue.specs.Chains.{IsLive, spent_of};
 ghost use Rattle.wopi_model.specs.Act.{is_spent};
 ghost use Rattle.wopi_model.specs.Settle.{still_spent, with_spent};
-ghost use Rattle.kept_locks.specs.Refusals.{Goes, IsCounted, LeavesFew, Tells, OthersStay, shown_of, refused_by};
+ghost use Rattle.kept_locks.specs.Refusals.{FallsTo, Goes, IsCounted, LeavesFew, Tells, OthersStay, shown_of, refused_by};
 
 use crate::index::{SpentOn, is_refused, note};
 use crate::purge::purge;
@@ -45,6 +45,8 @@ pub fn step_to(
     ensures spare { chains.old.spare ≤ chains.new.spare }
     ensures counted { IsCounted chains.old trail 2 → IsCounted chains.new result 0 }
     ensures left { LeavesFew chains.new trail result }
+    ensures falls { FallsTo chains.old chains.new trail result }
+    ensures fresh { result.purged ≡ true → result.left ≡ result.count }
 {
     if trail.purged && now < trail.as_of {
         let (chain, count) = purge(chains, index, file, trail.chain, now);
@@ -85,6 +87,8 @@ fn purge_hidden(
     ensures spare { chains.old.spare ≤ chains.new.spare }
     ensures counted { IsCounted chains.new result 0 }
     ensures left { LeavesFew chains.new trail result }
+    ensures few { result.left ≤ length (spent_of chains.new result.chain) }
+    ensures fresh { result.left ≡ result.count }
 {
     let (chain, count) = purge(chains, index, file, trail.chain, trail.as_of);
     Trail {
@@ -115,6 +119,7 @@ pub fn purge_to(
     ensures spare { chains.old.spare ≤ chains.new.spare }
     ensures counted { IsCounted chains.old trail 2 → IsCounted chains.new result 0 }
     ensures left { LeavesFew chains.new trail result }
+    ensures fresh { result.left ≡ result.count }
 {
     let stepped = step_to(chains, index, file, trail, now);
     if stepped.purged {
@@ -150,6 +155,7 @@ fn ready_for(
     ensures counted { (more : ℕ) → IsCounted chains.old trail more → IsCounted chains.new result more }
     ensures short { (more : ℕ) → more ≤ 1 → IsCounted chains.old trail more → result.count + 1 ≤ max 8 (2 * result.left) }
     ensures left { LeavesFew chains.new trail result }
+    ensures falls { FallsTo chains.old chains.new trail result }
 {
     if trail.purged {
         return trail;
@@ -180,6 +186,7 @@ pub fn spend_on(
     ensures spare { chains.old.spare ≤ chains.new.spare + 1 }
     ensures counted { (more : ℕ) → more ≤ 1 → IsCounted chains.old trail more → IsCounted chains.new result (more + 1) }
     ensures left { LeavesFew chains.new trail result }
+    ensures falls { FallsTo chains.old chains.new trail result }
 {
     let ready = ready_for(chains, index, file, trail, one.until);
     let noted = note(index, file, one.id.copy(), one.until);
@@ -214,6 +221,7 @@ pub fn spend_now(
     ensures kept { spend ≡ None → chains.old.spare ≤ chains.new.spare }
     ensures counted { IsCounted chains.old trail 2 → IsCounted chains.new result 1 }
     ensures left { LeavesFew chains.new trail result }
+    ensures falls { FallsTo chains.old chains.new trail result }
 {
     let stepped = step_to(chains, index, file, trail, now);
     match spend {

@@ -1,14 +1,16 @@
-use Rattle.std.proofs.Common.{inl, inr, ◌≡◌, ◌+◌, ◌<◌, ◌^◌, ◌==◌, ℕ, List, length, max, ◌∷◌, ◌++◌, [], if◌then◌else◌, refl, sym, ap, subst, ◌∙◌, arith}
+use Rattle.std.proofs.Common.{inl, inr, Some, ◌≡◌, ◌+◌, ◌<◌, ◌^◌, ◌==◌, ℕ, List, length, max, ◌∷◌, ◌++◌, [], if◌then◌else◌, refl, sym, ap, subst, ◌∙◌, arith}
 use Rattle.std.proofs.lemmas.List.{length-append}
 use Rattle.host_core.specs.Names.{AreWithin}
 use Rattle.wopi_model.specs.Settle.{settled}
-use Rattle.host_core.specs.Entries.{Made, asked_as, ruled}
+use Rattle.wopi_model.specs.Act.{is_stored}
+use Rattle.host_core.specs.Entries.{Asked, Made, asked_as, ruled}
 use Rattle.host_core.specs.Files.{files_of}
 use Rattle.host_core.specs.Ledger.{files_in, ended_in, made_by}
 use Rattle.host_core.specs.Steps.{TakesStep, IsNoRoomFor}
 use Rattle.host_core.specs.Whole.{joined}
 use Rattle.host_core.proofs.Counting.{counted_fits}
 use Rattle.host_core.proofs.Decisions.{ruled_status}
+use Rattle.host_core.proofs.Accepting.{told_ahead}
 use Rattle.host_core.proofs.Ending.{made_saved}
 use Rattle.host_core.proofs.Turning.{stand_same}
 use Rattle.host_core.proofs.ledger.take_step.Goals as goal
@@ -121,3 +123,16 @@ end-requires-clause-begun g c =
       c.step_files.ensures.noted.begun ∙ c.begin.ensures.begun,
       made_saved c.args.call.now.act ruling _ _ c.begin.ensures.saved c.in-Ok.ensures.ok.steps.kept,
     )
+
+pub end-requires-clause-ahead : goal.end-requires-clause-ahead
+end-requires-clause-ahead g c = λ one begun stored status.
+    let before = c.args.ledger.now in
+    let asked = asked_as (c.max-stamp.result + 1) c.args.pass c.args.moment c.max-now.result c.args.call.now in
+    let same : Some asked ≡ Some one = sym (c.step_files.ensures.noted.begun ∙ c.begin.ensures.begun) ∙ begun in
+    let is : asked ≡ one = cc (same) in
+    told_ahead (settled (files_of before.first (ended_in before c.max-now.result) c.args.call.now.name) c.max-now.result) c.args.call.now before.opened c.max-now.result
+    c.step_files.new.carried.ruling _ _ c.in-Ok.ensures.ok.steps.steps.outcome c.begin.ensures.saved c.in-Ok.ensures.ok.steps.kept
+    (ap (λ (a : Asked). is_stored a.call.act) is ∙ stored) status
+
+pub step_files-requires-clause-noted : goal.step_files-requires-clause-noted
+step_files-requires-clause-noted g c = (asked_as (c.max-stamp.result + 1) c.args.pass c.args.moment c.max-now.result c.args.call.now, c.begin.ensures.begun, c.begin.ensures.saved, refl)

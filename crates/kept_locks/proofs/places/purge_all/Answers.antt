@@ -1,7 +1,7 @@
 use Rattle.std.proofs.Common.{◌≡◌, ◌+◌, ◌≤◌, ℕ, suc, length, subst, ◌∙◌, arith}
 use Rattle.std.proofs.lemmas.Option.{slice_get_within}
 use Rattle.kept_locks.specs.Ties.{lefts_in, standings}
-use Rattle.kept_locks.proofs.Counted.{leaves_next, purged_shorter}
+use Rattle.kept_locks.proofs.Counted.{leaves_next, purged_lefts, purged_shorter}
 use Rattle.kept_locks.proofs.Purging.{PurgedTo, purged_files, purged_ids, purged_next}
 use Rattle.kept_locks.proofs.places.purge_all.Goals as goal
 
@@ -39,4 +39,13 @@ returns-clause-ids c =
     let all : length c.places.places.items ≤ c.places.at = omega (arith, c.places-test.false, c.len.ensures, c.places.places.ok.0) in
     purged_ids c.places.chains c.places.places.items (λ j place found.
     let within = slice_get_within c.places.places.items j place found in
-    c.places.invariant.purged.purged j place (omega (arith, within, all)) found)
+    (c.places.invariant.purged.purged j place (omega (arith, within, all)) found).0)
+
+pub returns-clause-fresh : goal.returns-clause-fresh
+returns-clause-fresh c =
+    let places = c.places.places.items in
+    let all : length places ≤ c.places.at = omega (arith, c.places-test.false, c.len.ensures, c.places.places.ok.0) in
+    let tied = c.places.invariant.tied in
+    purged_lefts places c.args.queue.now c.places.chains c.places.index tied (λ j place found.
+    let within = slice_get_within places j place found in
+    (c.places.invariant.purged.purged j place (omega (arith, within, all)) found).1)

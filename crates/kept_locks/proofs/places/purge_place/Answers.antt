@@ -42,7 +42,7 @@ returns-clause-purges c =
     let places = c.args.places.now.items in
     let was = c.index_mut.result.now in
     let at = place_found places c.args.number was c.requires.number c.index_mut.ensures.value in
-    purges_put places _ c.args.chains.now c.purge_in.new.chains c.args.number was c.purge_in.new.place c.args.now c.requires.tied.own at c.purge_in.ensures.goes c.purge_in.ensures.held c.purge_in.ensures.purged
+    purges_put places _ c.args.chains.now c.purge_in.new.chains c.args.number was c.purge_in.new.place c.args.now c.requires.tied.own at c.purge_in.ensures.goes c.purge_in.ensures.held (c.purge_in.ensures.purged, c.purge_in.ensures.fresh)
     (puts_set places c.args.number c.purge_in.new.place c.requires.number)
 
 pub returns-clause-latest : goal.returns-clause-latest

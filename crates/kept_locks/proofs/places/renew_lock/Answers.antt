@@ -4,6 +4,7 @@ use Rattle.kept_locks.specs.Ties.{GoesOn, latest_of, lock_of, renewed, standings
 use Rattle.kept_locks.proofs.Counted.{left_put, short_any, short_held, short_put, shown_long}
 use Rattle.kept_locks.proofs.Counting.{held_put, used_put}
 use Rattle.kept_locks.proofs.Tying.{own_put}
+use Rattle.kept_locks.proofs.Falling.{falls_put}
 use Rattle.kept_locks.proofs.Indexing.{indexed_put}
 use Rattle.kept_locks.proofs.Latest.{as_late, latest_put}
 use Rattle.kept_locks.proofs.Setting.{queued, may_follow, files_set}
@@ -83,3 +84,12 @@ returns-clause-left c =
     let le = c.renew_in.ensures.left in
     let long = shown_long c.renew_in.new.chains _ c.args.number now puts.here in
     left_put places _ c.args.number was now _ at puts (omega (arith, le, long))
+
+pub returns-clause-falls : goal.returns-clause-falls
+returns-clause-falls c =
+    let places = c.args.places.now.items in
+    let was = c.index_mut.result.now in
+    let now = c.renew_in.new.place in
+    let at = place_found places c.args.number was c.requires.number c.index_mut.ensures.value in
+    let puts = puts_set places c.args.number now c.requires.number in
+    falls_put places _ c.args.chains.now c.renew_in.new.chains c.args.number was now _ c.requires.tied.own at c.renew_in.ensures.goes.becomes puts c.renew_in.ensures.left c.renew_in.ensures.falls

@@ -22,3 +22,6 @@ returns-clause-left c =
     let trail = c.args.trail in
     let result : Trail = record { chain = c.purge-chain.result.0; as_of = trail.as_of; purged = true; told = trail.told; count = c.purge-chain.result.1; left = c.purge-chain.result.1 } in
     leaves_purged c.purge-chain.new.chains trail result refl c.purge-chain.ensures.count
+
+pub returns-clause-few : goal.returns-clause-few
+returns-clause-few c = let count = c.purge-chain.ensures.count in omega (arith, count)

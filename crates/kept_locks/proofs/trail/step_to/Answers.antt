@@ -47,3 +47,9 @@ returns-clause-counted c = λ before.
     let trail = c.args.trail in
     let result : Trail = record { chain = trail.chain; as_of = c.max.result; purged = false; told = trail.told; count = trail.count; left = trail.left } in
     counted_lazy c.args.chains.now trail result 2 refl refl refl refl before
+
+pub returns-then-now-trail-clause-falls : goal.returns-then-now-trail-clause-falls
+returns-then-now-trail-clause-falls c = λ lt. let count = c.purge-chain.ensures.count in omega (arith, count)
+
+pub returns-clause-falls : goal.returns-clause-falls
+returns-clause-falls c = λ lt. absurd (omega (arith, lt))

@@ -1,0 +1,4 @@
+pub mod Growing
+pub mod Standing
+pub mod Noting
+pub mod Keeping
