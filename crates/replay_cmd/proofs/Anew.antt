@@ -89,17 +89,17 @@ named_opening opening opened first all name contents e = has_form IsFileName ope
 
 module _ {F : Type 0} (book : Book F) (names : HasFileNames book) where
   abbrev begun : Shard
-  begun = opened_shard book.opening book.opened book.first
+  begun = opened_shard book.begin
 
   abbrev state : Shard
-  state = state_of book.opening book.opened book.first book.made book.time
+  state = state_of book.begin book.made book.time
 
   state_is : state ≡ at_moment (after begun (items_of book.made)) book.time
   state_is = after-append begun (items_of book.made) (Tick book.time ∷ [])
 
   named_in : (name contents : List ℕ) → (file_in book name).contents ≡ Some contents → IsFileName name
   named_in name contents e =
-      named_made begun book.made names.made (named_opening book.opening book.opened book.first names.opening) name contents
+      named_made begun book.made names.made (named_opening book.begin names.opening) name contents
       (ap (λ (s : Shard). (s.files name).contents) (sym state_is) ∙ e)
 
   -- no name is torn where no store failed
@@ -134,18 +134,18 @@ module _ {F : Type 0} (book : Book F) (names : HasFileNames book) where
             let may : MayKeep None name = has_form (MayKeep None) opening name contents is.taken e in
             is.whole name may ∙ left_at name may
 
-    pub left_small : Legal book.opening book.opened book.first (history_of book.made book.time)
+    pub left_small : LegalFrom book.begin (history_of book.made book.time)
         → sum_by (λ (file : OneFile). length file.1) opening ≤ kept book.opening (items_of book.made)
     left_small legal =
         let names : List (List ℕ) = names_in opening in
-        let most = names_size book.opening book.opened book.first (history_of book.made book.time) names (distinct opening is.ordered) legal.allowed in
+        let most = names_size book.begin (history_of book.made book.time) names (distinct opening is.ordered) legal.allowed in
         let bytes = bytes_found opening (λ (name : List ℕ). (file_in book name).contents) (distinct opening is.ordered) (λ name contents e. sym (left_contents name) ∙ e) in
         let same : entries (history_of book.made book.time) ≡ entries (items_of book.made) = entries-append (items_of book.made) (Tick book.time ∷ []) ∙ append-nil (entries (items_of book.made)) in
         let all : kept book.opening (history_of book.made book.time) ≡ kept book.opening (items_of book.made) =
         ap (λ (l : List Entry). sum_by (λ (file : OneFile). length file.1) book.opening + sum_by kept_by l) same in
         omega (arith, most, bytes, all)
 
-    pub left_over : (moment first : ℕ) (new : Book F) → new.opening ≡ opening → HasOpened moment first new → Legal book.opening book.opened book.first (history_of book.made book.time)
+    pub left_over : (moment first : ℕ) (new : Book F) → new.opening ≡ opening → HasOpened moment first new → LegalFrom book.begin (history_of book.made book.time)
         → Reopens book moment first new
     left_over moment first new same has legal =
         record {
@@ -165,7 +165,7 @@ apart_from name (file ∷ opening) smaller = (
 
 module _ {F : Type 0} (book : Book F) (names : HasFileNames book) (start now : Files)
     (agrees : Agrees None (Some start) (Some now) (state book names).files (is_torn book.made)) (stored : faults_in book.made ≡ 0)
-    (legal : Legal book.opening book.opened book.first (history_of book.made book.time)) (name : List ℕ) (large : IsTooLarge None (Some now) name) where
+    (legal : LegalFrom book.begin (history_of book.made book.time)) (name : List ℕ) (large : IsTooLarge None (Some now) name) where
   abbrev before : Opening
   before = large.before
 
@@ -198,7 +198,7 @@ module _ {F : Type 0} (book : Book F) (names : HasFileNames book) (start now : F
     | inl long ↦ inl (name, subst (λ (c : Option (List ℕ)). host.most_contents < length (unwrap_or c [])) (sym own_contents) long)
     | inr many ↦ inr (
         let files : Opening = (name, contents) ∷ before in
-        let most = names_size book.opening book.opened book.first (history_of book.made book.time) (names_in files) distinct_names legal.allowed in
+        let most = names_size book.begin (history_of book.made book.time) (names_in files) distinct_names legal.allowed in
         let bytes = bytes_found files (λ (other : List ℕ). (file_in book other).contents) distinct_names found_in in
         let parts = sum_by-cons (λ (file : OneFile). length file.1) (name, contents) before in
         let same : entries (history_of book.made book.time) ≡ entries (items_of book.made) = entries-append (items_of book.made) (Tick book.time ∷ []) ∙ append-nil (entries (items_of book.made)) in
@@ -242,7 +242,7 @@ module _ (desk desk' : Desk) (same_keys : desk'.keys ≡ desk.keys) (same_base :
 
 module _ {F : Type 0} (setting : Setting) (desk : Desk) (book book' : Book F) (history : List Kept) (requests : List Request) (replies : List Reply) (members : List Member) (world : World)
     (shows : Shows setting desk book history requests replies members world) (moment first : ℕ)
-    (told : IsNextFirst (state_of book.opening book.opened book.first book.made book.time) first) (next : IsNextFirst world.shard (next_first setting world)) (reopens : Reopens book moment first book') where
+    (told : IsNextFirst (state_of book.begin book.made book.time) first) (next : IsNextFirst world.shard (next_first setting world)) (reopens : Reopens book moment first book') where
   abbrev stands : StandsFor book world
   stands = shows.host
 
@@ -257,7 +257,7 @@ module _ {F : Type 0} (setting : Setting) (desk : Desk) (book book' : Book F) (h
       opening_contents first book'.opening name ∙ reopens.contents name ∙ ap (λ (s : Shard). (s.files name).contents) (sym stands.shard)
 
   module _ (anew : (shard : Shard) (opening : Opening) (m f : ℕ) → ((name : List ℕ) → (opening_file f opening name).contents ≡ (shard.files name).contents) → restarted shard m f ≡ opened_shard opening m f) where
-    same_shard : at_moment (restarted world.shard moment first) book'.time ≡ state_of book'.opening book'.opened book'.first book'.made book'.time
+    same_shard : at_moment (restarted world.shard moment first) book'.time ≡ state_of book'.begin book'.made book'.time
     same_shard =
         let opens : restarted world.shard moment first ≡ opened_shard book'.opening moment first = anew world.shard book'.opening moment first same_contents in
         let has = reopens.has in
@@ -312,4 +312,4 @@ after_opened shard (run.Step entry ∷ items) = after_opened (after_entry (at_mo
 
 pub same_opened : {F : Type 0} (desk : Desk) (book : Book F) (world : World) → IsSetUp desk book → StandsFor book world → desk.opened ≡ world.shard.opened
 same_opened desk book world set stands =
-    set.opened ∙ sym (after_opened (opened_shard book.opening book.opened book.first) (history_of book.made book.time)) ∙ ap (λ (s : Shard). s.opened) (sym stands.shard)
+    set.opened ∙ sym (after_opened (opened_shard book.begin) (history_of book.made book.time)) ∙ ap (λ (s : Shard). s.opened) (sym stands.shard)

@@ -71,7 +71,7 @@ counted_opening first ((one, bytes) ∷ rest) name =
 
 pub counted_in : {F : Type 0} (book : Book F) (name : List ℕ) → IsCounted book.first (file_in book name)
 counted_in book name =
-    counted_after book.first (opened_shard book.opening book.opened book.first) (history_of book.made book.time) (counted_opening book.first book.opening) name
+    counted_after book.first (opened_shard book.begin) (history_of book.made book.time) (counted_opening book.first book.opening) name
 
 -- a name that wasn't met stands one below, without contents
 pub uncounted : (first : ℕ) (file : File) → IsCounted first file → ((first ≤ file.version) → ⊥) → (first - 1 ≡ file.version) × (0 ≡ length (unwrap_or file.contents []))

@@ -53,19 +53,19 @@ no_contents None none = refl
 no_contents (Some bytes) none = absurd (none bytes refl)
 
 -- the shard has the version of its opening
-pub state_first : {F : Type 0} (book : Book F) → (state_of book.opening book.opened book.first book.made book.time).first ≡ book.first
-state_first book = after_first (opened_shard book.opening book.opened book.first) (history_of book.made book.time)
+pub state_first : {F : Type 0} (book : Book F) → (state_of book.begin book.made book.time).first ≡ book.first
+state_first book = after_first (opened_shard book.begin) (history_of book.made book.time)
 
 -- one more than the greatest of the names that were met is above all versions
-pub next_of_names : {F : Type 0} (book : Book F) (names : List (List ℕ)) → AreNames (state_of book.opening book.opened book.first book.made book.time) names
-    → IsNextFirst (state_of book.opening book.opened book.first book.made book.time) (greatest (state_of book.opening book.opened book.first book.made book.time) names + 1)
+pub next_of_names : {F : Type 0} (book : Book F) (names : List (List ℕ)) → AreNames (state_of book.begin book.made book.time) names
+    → IsNextFirst (state_of book.begin book.made book.time) (greatest (state_of book.begin book.made book.time) names + 1)
 next_of_names book names are = next_first_is state names known
   where
     state : Shard
-    state = state_of book.opening book.opened book.first book.made book.time
+    state = state_of book.begin book.made book.time
 
     first_is : state.first ≡ book.first
-    first_is = after_first (opened_shard book.opening book.opened book.first) (history_of book.made book.time)
+    first_is = after_first (opened_shard book.begin) (history_of book.made book.time)
 
     known : (name : List ℕ) → IsFresh state.first (state.files name) ⊎ IsIn name names
     known name =

@@ -19,5 +19,5 @@ pub loop-place-preserved : goal.loop-place-preserved
 loop-place-preserved c =
     let book = c.args.self.now.shard in
     c.max-greatest.ensures
-    ∙ greatest_next (state_of book.opening book.opened book.first book.made book.time) c.args.names.now c.loop-place.place c.in-Some.name.now c.loop-place.greatest c.size_of-version.result.0
+    ∙ greatest_next (state_of book.begin book.made book.time) c.args.names.now c.loop-place.place c.in-Some.name.now c.loop-place.greatest c.size_of-version.result.0
     c.in-Some.ensures c.size_of-version.ensures.version c.loop-place.invariant

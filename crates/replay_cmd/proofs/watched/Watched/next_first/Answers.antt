@@ -8,7 +8,7 @@ pub returns-clause-next : goal.returns-clause-next
 returns-clause-next c =
     let book = c.args.self.now.shard in
     let below = c.if-greatest-ge-MOST_FIRST.false in (
-      subst (λ (n : ℕ). IsNextFirst (state_of book.opening book.opened book.first book.made book.time) (n + 1)) (sym c.greatest-greatest.ensures)
+      subst (λ (n : ℕ). IsNextFirst (state_of book.begin book.made book.time) (n + 1)) (sym c.greatest-greatest.ensures)
           (next_of_names book c.in_ok-names.names c.in_ok-names.ensures),
       (omega arith, omega (arith, below)),
     )

@@ -18,7 +18,7 @@ files f = contents_of (files_in f.folder)
 -- of all names of a folder that tells
 abbrev IsWhole : Book (InMemory FaultlessFolder) → Option ℕ → Type 0
 IsWhole book only =
-    Agrees only (Some (files book.start.folder)) (Some (files book.folder.folder)) (state_of book.opening book.opened book.first book.made book.time).files (is_torn book.made)
+    Agrees only (Some (files book.start.folder)) (Some (files book.folder.folder)) (state_of book.begin book.made book.time).files (is_torn book.made)
 
 whole_folder : (book : Book (InMemory FaultlessFolder)) → book.only ≡ None → IsWhole book book.only → IsWhole book None
 whole_folder book none h = subst (IsWhole book) none h
