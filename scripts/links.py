@@ -5,13 +5,14 @@ PROGRAM is the built one, as crates/mokdrai/out/mokdrai. Each try begins it over
 `--idle 2 --patience 3 --grace 3`, ends it in order, and says in a line what came of it: silent clients and clients that
 read nothing are given up after 2 seconds, heads and bodies that drip after 3, a 413 arrives at a client that still
 sends, 500 clients that keep their connections are all served by 16 workers, kept connections don't hold the end up,
-and a body that goes on for ever does so for 3 seconds. The status has to be 0 each time, and no file torn. It is no
-part of the gate.
+and a body that goes on for ever does so for 3 seconds, and a host that lacks descriptors serves on. The status has to
+be 0 each time, and no file torn. It is no part of the gate.
 """
 import hashlib
 import hmac
 import http.client
 import os
+import resource
 import shutil
 import socket
 import subprocess
@@ -64,7 +65,7 @@ class Host:
 
     running = []
 
-    def __init__(self, program, workers, contents=b"1,2\n", more=()):
+    def __init__(self, program, workers, contents=b"1,2\n", more=(), descriptors=1024):
         self.room = tempfile.TemporaryDirectory()
         self.folder, self.stop, self.wake = (os.path.join(self.room.name, name) for name in ("files", "stop", "wake"))
         os.mkdir(self.folder)
@@ -77,7 +78,9 @@ class Host:
             self.port = probe.getsockname()[1]
         words = ["serve", self.folder, str(self.port), KEY, "http://localhost", str(workers), *OPTIONS, *more]
         around = {**os.environ, "MOKDRAI_STOP": self.stop, "MOKDRAI_WAKE": self.wake}
-        self.process = subprocess.Popen([program, *words], stdout=subprocess.DEVNULL, stderr=subprocess.PIPE, env=around)
+        self.process = subprocess.Popen(
+            [program, *words], stdout=subprocess.DEVNULL, stderr=subprocess.PIPE, env=around,
+            preexec_fn=lambda: resource.setrlimit(resource.RLIMIT_NOFILE, (descriptors, descriptors)))
         Host.running.append(self.process)
         self.connect().close()
 
@@ -218,6 +221,27 @@ def too_large(program):
     return "a 413 and a 400 arrive while the body is sent"
 
 
+def too_large_by_others(program):
+    """The 413 arrives at curl and at Python's http.client, which send the whole body first."""
+    host = Host(program, 2)
+    body = b"x" * (20 << 20)
+    client = host.client()
+    told = []
+    try:
+        client.request("POST", path("/contents"), body, {"X-WOPI-Override": "PUT"})
+    except (BrokenPipeError, ConnectionResetError):
+        pass
+    told.append(client.getresponse().status)
+    client.close()
+    if shutil.which("curl"):
+        words = ["curl", "-s", "-o", os.devnull, "-w", "%{http_code}", "-H", "X-WOPI-Override: PUT", "--data-binary", "@-"]
+        ran = subprocess.run([*words, f"http://127.0.0.1:{host.port}{path('/contents')}"], input=body, capture_output=True)
+        told.append(int(ran.stdout))
+    must(set(told) == {413}, f"told {told}")
+    host.end()
+    return f"{len(told)} others are told 413"
+
+
 def serve_all(port):
     """The seconds in which all clients are served that keep their connections to this port."""
     faults, began = [], time.monotonic()
@@ -316,6 +340,20 @@ def grace(program):
     return f"a body that goes on holds the end up for {took:.1f} s"
 
 
+def shortage(program):
+    """A host that has no descriptor for a connection goes on."""
+    host = Host(program, 16, descriptors=12)
+    clients = [host.connect() for _ in range(100)]
+    time.sleep(1)
+    must(host.process.poll() is None, f"it ended with {host.process.poll()}")
+    for client in clients:
+        client.close()
+    took = served_after(host)
+    must(took < 5, f"took {took:.1f} s")
+    host.end()
+    return f"with 12 descriptors a client is served {1000 * took:.0f} ms behind 100 that came at once"
+
+
 def saved(program):
     """A message that is on its way at the end is answered."""
     host = Host(program, 2)
@@ -334,7 +372,7 @@ def saved(program):
     return "a save that is on its way at the end is answered"
 
 
-TRIES = [silent, slow_head, slow_body, unreading, too_large, kept, many, behind_nginx, ending, grace, saved]
+TRIES = [silent, slow_head, slow_body, unreading, too_large, too_large_by_others, kept, many, behind_nginx, ending, grace, shortage, saved]
 
 
 def main():
