@@ -8,6 +8,8 @@ mod failing_files;
 #[cfg(test)]
 mod folders;
 #[cfg(test)]
+mod logs;
+#[cfg(test)]
 mod sockets;
 #[cfg(test)]
 mod stops;

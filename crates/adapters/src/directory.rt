@@ -368,7 +368,7 @@ fn write_synced<R: Files>(
 }
 
 // Makes a rename or a removal last. A file system that can't do that is no error.
-fn sync_folder<R: Files>(rt: &R, folder: &str) -> io::Result<()> {
+pub(crate) fn sync_folder<R: Files>(rt: &R, folder: &str) -> io::Result<()> {
     match File::open(rt, folder)?.sync_all() {
         Err(error) if error.kind() == ErrorKind::InvalidInput => Ok(()),
         synced => synced,

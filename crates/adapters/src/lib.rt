@@ -1,9 +1,10 @@
 //! The real things behind the traits of `outside`, which tell nothing of content: the standard
-//! streams and the system's clock, a folder of the file system, and connections over TCP. Listeners over one
+//! streams and the system's clock, a folder of the file system, a log in one of its files, and connections over TCP. Listeners over one
 //! socket are closed for all of them at once, by a stop file or a byte ([`StopListener`], [`close_later`]). The lines
 //! that tell an operator of a fault's cause are made here too ([`folder_line`], [`too_large_line`]).
 #![tactic(auto)]
 
+mod appending;
 mod closing;
 mod dialer;
 mod directory;
@@ -19,6 +20,7 @@ mod telling;
 mod turns;
 mod wire;
 
+pub use appending::{FileLog, open_log};
 pub use dialer::TcpDialer;
 pub use directory::{Cause, DirFolder, LastRead};
 pub use door::{Door, pause_after};

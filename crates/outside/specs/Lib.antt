@@ -14,3 +14,5 @@ pub mod Replies
 pub mod ScriptDialer
 pub mod MemFolder
 pub mod MemFolderParts
+pub mod Log
+pub mod MemLog

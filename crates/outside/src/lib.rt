@@ -1,8 +1,8 @@
 //! The outside world as the program sees it.
 //!
 //! A trait stands for each thing outside: `Source` and `Sink` for streams of bytes, `Link` for both
-//! ends of a connection, `Folder` for files by name, `Listener` for where connections come from,
-//! `Dialer` for one request and its reply, `Clock` for the time. Each trait has a written meaning
+//! ends of a connection, `Log` for a sink whose bytes are kept and synced, `Folder` for files by name, `Listener` for where
+//! connections come from, `Dialer` for one request and its reply, `Clock` for the time. Each trait has a written meaning
 //! that an object may tell or not. Each but `Clock` has a count of faults that never falls: a call
 //! answers `Failed` only where the count rose in this call.
 //!
@@ -20,6 +20,7 @@ mod faults;
 mod folder;
 mod link;
 mod listener;
+mod log;
 mod memory;
 mod names;
 mod transfer;
@@ -31,8 +32,10 @@ pub use faults::{Failed, OutFault};
 pub use folder::{Folder, FolderRead};
 pub use link::{Link, Sink, Source};
 pub use listener::{Accepted, Listener};
+pub use log::Log;
 pub use memory::{
-    Failing, Lent, MemFolder, MemListener, MemSink, MemSource, Pair, ScriptClock, ScriptDialer,
+    Failing, Lent, MemFolder, MemListener, MemLog, MemSink, MemSource, Pair, ScriptClock,
+    ScriptDialer,
 };
 pub use names::Names;
-pub use transfer::{piece_room, read_link, read_piece, write_link, write_whole};
+pub use transfer::{append, piece_room, read_link, read_piece, write_link, write_whole};

@@ -4,7 +4,7 @@ ghost use Rattle.std.specs.Io.KnownBytes.{Appends, Consumes, IsAtEnd, ReadConsum
 ghost use Rattle.outside.specs.Faults.{Rose};
 ghost use Rattle.outside.specs.Stream.{GrewByPrefix};
 
-use crate::{Failed, Link, Sink, Source};
+use crate::{Failed, Link, Log, Sink, Source};
 use std::alloc::Global;
 use wopi_text::Memory;
 
@@ -76,4 +76,15 @@ pub fn write_link<L: Link>(link: &mut L, piece: &[u8]) -> Result<(), Failed>
     ensures failed { OnErr result (Rose (L.write_faults link.old) (L.write_faults link.new)) }
 {
     write_whole(link, piece)
+}
+
+/// Appends the whole piece to a log, and syncs nothing.
+pub fn append<L: Log>(log: &mut L, piece: &[u8]) -> Result<(), Failed>
+    ensures whole { OnOk result (Appends (L.held log.old) (L.held log.new) piece.now) }
+    ensures prefix { OnErr result (GrewByPrefix (L.held log.old) (L.held log.new) piece.now) }
+    ensures synced { L.synced log.new ≡ L.synced log.old }
+    ensures never_falls { L.write_faults log.old ≤ L.write_faults log.new }
+    ensures failed { OnErr result (Rose (L.write_faults log.old) (L.write_faults log.new)) }
+{
+    write_whole(log, piece)
 }

@@ -1,0 +1,118 @@
+//! A log in a file of the file system.
+ghost use Rattle.std.specs.Prelude.{◌≡◌, ◌≤◌, option_map};
+ghost use Rattle.outside.specs.Faults.{Rose};
+
+use crate::directory::sync_folder;
+use outside::{Failed, Log, Sink};
+use std::fs::{OpenFile, OpenOptions};
+use std::io::{self, ErrorKind, Write};
+use std::rt::Files;
+
+/// A plain file that is appended to. It tells nothing of content.
+///
+/// Nothing is kept back: each write is one write of the system, behind all that stands there. What was synced lasts where
+/// the file system does as it says: no contract tells that.
+#[derive(Drop)]
+pub struct FileLog<F> {
+    file: F,
+    faults: u64,
+    // What the last fault was.
+    cause: Option<io::Error>,
+}
+
+/// Opens the file at a path in that folder, or makes one, which lasts from then on.
+pub fn open_log<R: Files>(rt: &R, folder: &str, path: &str) -> io::Result<FileLog<R::File>> {
+    let mut how = OpenOptions::new();
+    let _how = how.append(true).create(true);
+    let file = how.open(rt, path)?;
+    if !file.metadata()?.is_file() {
+        return Err(io::Error::from(ErrorKind::InvalidInput));
+    }
+    sync_folder(rt, folder)?;
+    Ok(FileLog {
+        file,
+        faults: 0,
+        cause: None,
+    })
+}
+
+impl<F> FileLog<F> {
+    /// Why the last call that failed did.
+    pub fn cause(&self) -> Option<io::Error>
+        ensures { result ≡ self.now.cause }
+    {
+        self.cause
+    }
+
+    // Counts a fault.
+    fn fault(&mut self, error: io::Error) -> Failed
+        ensures rose { Rose self.old.faults self.new.faults }
+        ensures never_falls { self.old.faults ≤ self.new.faults }
+    {
+        self.faults = self.faults.saturating_add(1);
+        self.cause = Some(error);
+        Failed
+    }
+}
+
+impl<F: OpenFile> FileLog<F> {
+    // Where there are fewer bytes the file would be made longer.
+    fn cut(&mut self, count: u64) -> io::Result<()>
+        ensures { self.new.faults ≡ self.old.faults }
+    {
+        if self.file.metadata()?.len() < count {
+            return Err(io::Error::from(ErrorKind::UnexpectedEof));
+        }
+        self.file.set_len(count)?;
+        self.file.sync_data()
+    }
+}
+
+impl<F: OpenFile + Write + Drop> Sink for FileLog<F> {
+    ghost use Rattle.std.specs.Prelude.{None, []};
+
+    ghost held = { λ _. None };
+
+    ghost write_faults = { λ l. l.faults };
+
+    ghost beside_writes = { λ _. record { bytes = None; faults = 0; references = [] } };
+
+    fn write(&mut self, piece: &[u8]) -> Result<usize, Failed> {
+        match self.file.write(piece) {
+            Ok(count) if count > 0 || piece.is_empty() => Ok(count),
+            Ok(_) => Err(self.fault(io::Error::from(ErrorKind::WriteZero))),
+            Err(error) => Err(self.fault(error)),
+        }
+    }
+}
+
+impl<F: OpenFile + Write + Drop> Log for FileLog<F> {
+    ghost use Rattle.std.specs.Prelude.{None, [], refl};
+
+    ghost synced = { λ _. None };
+
+    fn length(&mut self) -> Result<u64, Failed> {
+        match self.file.metadata() {
+            Ok(found) => Ok(found.len()),
+            Err(error) => Err(self.fault(error)),
+        }
+    }
+
+    fn sync(&mut self) -> Result<(), Failed> {
+        match self.file.sync_data() {
+            Ok(()) => Ok(()),
+            Err(error) => Err(self.fault(error)),
+        }
+    }
+
+    fn resume(&mut self, count: u64) -> Result<(), Failed> {
+        match self.cut(count) {
+            Ok(()) => Ok(()),
+            Err(error) => Err(self.fault(error)),
+        }
+    }
+
+    ghost synced_first = { λ _. ([], tt) };
+
+    ghost writes_leave = { λ _. refl };
+}
