@@ -20,11 +20,12 @@ use Rattle.kept_locks.proofs.Setting.{shown}
 use Rattle.kept_locks.proofs.Tying.{own_other, same_other}
 
 -- a chain of which those that are over have gone
-pub counted_purged : (chains : Chains) (trail : Trail) → trail.count ≡ count_of (spent_of chains trail.chain) → trail.left ≡ trail.count → IsCounted chains trail 0
-counted_purged chains trail count left = record {
+pub counted_purged : (chains : Chains) (trail : Trail) → trail.count ≡ count_of (spent_of chains trail.chain) → trail.left ≡ trail.count → (trail.count ≡ 0 → trail.told ≡ true) → IsCounted chains trail 0
+counted_purged chains trail count left told = record {
   count = count;
   short = omega (arith, left);
   fresh = λ purged. omega (arith, left);
+  told = told;
 }
 
 pub leaves_purged : (chains : Chains) (trail result : Trail) → result.purged ≡ true → result.left ≡ count_of (spent_of chains result.chain) → LeavesFew chains trail result
@@ -34,13 +35,14 @@ leaves_purged chains trail result purged left =
     omega (arith, left, long)
 
 -- a chain that stays, and is shown anew
-pub counted_lazy : (chains : Chains) (trail result : Trail) (more : ℕ) → result.chain ≡ trail.chain → result.count ≡ trail.count → result.left ≡ trail.left → result.purged ≡ false → IsCounted chains trail more → IsCounted chains result 0
-counted_lazy chains trail result more chain count left lazy h =
+pub counted_lazy : (chains : Chains) (trail result : Trail) (more : ℕ) → result.chain ≡ trail.chain → result.count ≡ trail.count → result.left ≡ trail.left → result.purged ≡ false → result.told ≡ trail.told → IsCounted chains trail more → IsCounted chains result 0
+counted_lazy chains trail result more chain count left lazy told h =
     let short = h.short in
     record {
       count = count ∙ h.count ∙ ap (λ (c : Option ℕ). count_of (spent_of chains c)) (sym chain);
       short = omega (arith, count, left, short);
       fresh = λ purged. absurd (cc (purged, lazy));
+      told = λ none. told ∙ h.told (sym count ∙ none);
     }
 
 pub counted_more : (chains : Chains) (trail : Trail) (few more : ℕ) → few ≤ more → IsCounted chains trail few → IsCounted chains trail more
@@ -48,6 +50,7 @@ counted_more chains trail few more le h = record {
   count = h.count;
   short = h.short;
   fresh = λ purged. let by = h.fresh purged in omega (arith, by, le);
+  told = h.told;
 }
 
 pub leaves_both : (mid new : Chains) (trail between result : Trail) → LeavesFew mid trail between → LeavesFew new between result → length (shown_of mid between) ≤ length (shown_of new result) → LeavesFew new trail result
@@ -63,10 +66,11 @@ counted_front old new ready result one more is count left purged short h =
       count = omega (arith, longer, before, count);
       short = omega (arith, count, left, short);
       fresh = λ now. let by = h.fresh (sym purged ∙ now) in omega (arith, by, count, left);
+      told = λ none. absurd (omega (arith, none, count));
     }
 
 counted_same : (old new : Chains) (trail : Trail) (more : ℕ) → spent_of new trail.chain ≡ spent_of old trail.chain → IsCounted old trail more → IsCounted new trail more
-counted_same old new trail more same h = record { count = h.count ∙ ap (λ (l : List Spent). count_of l) (sym same); short = h.short; fresh = h.fresh }
+counted_same old new trail more same h = record { count = h.count ∙ ap (λ (l : List Spent). count_of l) (sym same); short = h.short; fresh = h.fresh; told = h.told }
 
 -- one file's trail became another one
 pub short_put : (places places' : List Place) (old new : Chains) (i : ℕ) (was place : Place) (spent : List Spent) → OwnChains places old → ((j : ℕ) (p : Place) → slice_get places j ≡ Some p → IsShort old p)
@@ -193,3 +197,10 @@ lefts_added places places' is = ap lefts_in is ∙ added places
     added : (places : List Place) → lefts_in (places ++ bare ∷ []) ≡ lefts_in places ++ 0 ∷ []
     added [] = refl
     added (first ∷ places) = ap (λ (l : List ℕ). first.trail.left ∷ l) (added places)
+
+pub chains_added : (chains : Chains) (places places' : List Place) → places' ≡ places ++ bare ∷ [] → chains_in chains places' ≡ chains_in chains places ++ [] ∷ []
+chains_added chains places places' is = ap (chains_in chains) is ∙ added places
+  where
+    added : (places : List Place) → chains_in chains (places ++ bare ∷ []) ≡ chains_in chains places ++ [] ∷ []
+    added [] = refl
+    added (first ∷ places) = ap (λ (l : List (List Spent)). spent_of chains first.trail.chain ∷ l) (added places)

@@ -78,3 +78,11 @@ held_is chains (p ∷ places) =
 pub ids_are : (chains : Chains) (places : List Place) → ids_in (chains_in chains places) ≡ total (ids_at chains) places
 ids_are chains [] = refl
 ids_are chains (p ∷ places) = let rest = ids_are chains places in omega (arith, rest)
+
+-- the places that are taken, as files and their chains have them
+pub taken_is : (places : List Place) (chains : Chains) (waiting : ℕ) → total held_at places ≡ waiting → total (ids_at chains) places ≡ chains.used
+    → held_in (standings chains places) + ids_in (chains_in chains places) ≡ waiting + chains.used
+taken_is places chains waiting held used =
+    let locks = held_is chains places in
+    let ids = ids_are chains places in
+    omega (arith, locks, ids, held, used)

@@ -1,5 +1,5 @@
 -- Chains that become shorter, and what their purges leave.
-use Rattle.std.proofs.Common.{◌≡◌, ◌≢◌, inl, inr, ◌<◌, ◌≤◌, ℕ, suc, List, [], ◌∷◌, map, length, max, Option, None, Some, refl, sym, ap, ◌∙◌, arith}
+use Rattle.std.proofs.Common.{◌≡◌, ◌≢◌, inl, inr, ◌<◌, ◌≤◌, ℕ, List, map, length, max, Option, None, Some, refl, sym, ap, ◌∙◌, arith}
 use Rattle.std.specs.Prelude.{slice_get, option_map}
 use Rattle.std.proofs.lemmas.Bool.{cases_eq, cases_lt}
 use Rattle.std.proofs.lemmas.Option.{slice_get-map}
@@ -7,10 +7,9 @@ use Rattle.wopi_model.specs.declared.locks.Spent.{Spent}
 use Rattle.expiry_queue.specs.Chains.{Chains, Becomes, spent_of}
 use Rattle.kept_locks.specs.declared.places.Place.{Place}
 use Rattle.kept_locks.specs.declared.trail.Trail.{Trail}
-use Rattle.kept_locks.specs.Refusals.{FallsTo, LeavesFew, shown_of}
-use Rattle.kept_locks.specs.Locks.{Falls, long_at, so_many}
+use Rattle.kept_locks.specs.Refusals.{FallsTo, LeavesFew}
+use Rattle.kept_locks.specs.Locks.{AreBeside, Falls, long_at, so_many}
 use Rattle.kept_locks.specs.Ties.{OwnChains, Puts, chains_in, lefts_in}
-use Rattle.kept_locks.proofs.Parting.{fewer_still}
 use Rattle.kept_locks.proofs.Tying.{own_other, same_other}
 use Rattle.kept_locks.proofs.Placing.{shown_whole}
 
@@ -37,6 +36,18 @@ left_at places n place at = ap so_many (slice_get-map left_of places n ∙ ap (o
 long_is : (chains : Chains) (places : List Place) (n : ℕ) (place : Place) → slice_get places n ≡ Some place → long_at (chains_in chains places) n ≡ length (spent_of chains place.trail.chain)
 long_is chains places n place at = ap (λ (o : Option (List Spent)). so_many (option_map length o)) (slice_get-map (ids_in chains) places n ∙ ap (option_map (ids_in chains)) at)
 
+-- one file's chain became another one, and the others stay
+pub beside_put : (places places' : List Place) (old new : Chains) (i : ℕ) (was place : Place) (spent : List Spent) → OwnChains places old → slice_get places i ≡ Some was
+    → Becomes old.cells new.cells was.trail.chain place.trail.chain spent → Puts places places' i place → AreBeside (chains_in old places) (chains_in new places') i
+beside_put places places' old new i was place spent own at becomes puts n differs =
+    slice_get-map (ids_in new) places' n ∙ ap (option_map (ids_in new)) (puts.others n differs) ∙ beside (slice_get places n) refl ∙ sym (slice_get-map (ids_in old) places n)
+  where
+    beside : (found : Option Place) → slice_get places n ≡ found → option_map (ids_in new) found ≡ option_map (ids_in old) found
+    beside None e = refl
+    beside (Some p) e =
+        let mine = own_other i n p.trail.chain was.trail.chain (λ same. own.apart n i p was e at same) differs in
+        ap Some (same_other old new was.trail.chain place.trail.chain p.trail.chain spent becomes (own.live n p e) mine)
+
 -- one file's trail became another one
 pub falls_put : (places places' : List Place) (old new : Chains) (i : ℕ) (was place : Place) (spent : List Spent) → OwnChains places old → slice_get places i ≡ Some was
     → Becomes old.cells new.cells was.trail.chain place.trail.chain spent → Puts places places' i place → LeavesFew new was.trail place.trail → FallsTo old new was.trail place.trail
@@ -46,15 +57,8 @@ falls_put places places' old new i was place spent own at becomes puts few falls
     lefts_stay : (n : ℕ) → n ≢ i → so_many (slice_get (lefts_in places') n) ≡ so_many (slice_get (lefts_in places) n)
     lefts_stay n differs = ap so_many (slice_get-map left_of places' n ∙ ap (option_map left_of) (puts.others n differs) ∙ sym (slice_get-map left_of places n))
 
-    beside : (n : ℕ) → n ≢ i → (found : Option Place) → slice_get places n ≡ found → option_map (ids_in new) found ≡ option_map (ids_in old) found
-    beside n differs None e = refl
-    beside n differs (Some p) e =
-        let mine = own_other i n p.trail.chain was.trail.chain (λ same. own.apart n i p was e at same) differs in
-        ap Some (same_other old new was.trail.chain place.trail.chain p.trail.chain spent becomes (own.live n p e) mine)
-
     long_stays : (n : ℕ) → n ≢ i → long_at (chains_in new places') n ≡ long_at (chains_in old places) n
-    long_stays n differs = ap (λ (o : Option (List Spent)). so_many (option_map length o))
-        (slice_get-map (ids_in new) places' n ∙ ap (option_map (ids_in new)) (puts.others n differs) ∙ beside n differs (slice_get places n) refl ∙ sym (slice_get-map (ids_in old) places n))
+    long_stays n differs = ap (λ (o : Option (List Spent)). so_many (option_map length o)) (beside_put places places' old new i was place spent own at becomes puts n differs)
 
     most : (n : ℕ) → so_many (slice_get (lefts_in places') n) ≤ max (so_many (slice_get (lefts_in places) n)) (long_at (chains_in new places') n)
     most n = elim (cases_eq n i) [

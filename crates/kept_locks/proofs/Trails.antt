@@ -1,8 +1,8 @@
 -- What is shown of a chain, and what the index tells of it, as time goes on.
-use Rattle.std.proofs.Common.{◌≡◌, ◌⊎◌, inl, inr, ◌+◌, ◌<◌, ◌≤◌, ℕ, suc, length, Bool, true, false, ◌&&◌, ◌||◌, cond, if◌then◌else◌, List, [], ◌∷◌, Option, refl, sym, ap, ◌∙◌, arith}
+use Rattle.std.proofs.Common.{◌≡◌, ◌⊎◌, inl, inr, ◌+◌, ◌<◌, ◌≤◌, ℕ, suc, length, Bool, true, false, ◌&&◌, ◌||◌, cond, if◌then◌else◌, List, [], ◌∷◌, Option, refl, sym, ap, subst, ◌∙◌, arith}
 use Rattle.std.specs.Prelude.{nat_lt, bytes_eq, max}
 use Rattle.std.proofs.lemmas.Bool.Decides.{nat_tests}
-use Rattle.std.proofs.lemmas.Bool.{lt-ltb, ltb-true, ltb-false, eq-eqb, ne_eqb}
+use Rattle.std.proofs.lemmas.Bool.{lt-ltb, ltb-true, ltb-false, eq-eqb}
 use Rattle.wopi_model.specs.Act.{is_spent}
 use Rattle.wopi_model.specs.Settle.{still_spent}
 use Rattle.wopi_model.specs.declared.locks.Spent.{Spent}
@@ -11,7 +11,9 @@ use Rattle.expiry_queue.specs.Chains.{Chains, Becomes, IsLive, spent_of}
 use Rattle.std.specs.HashMap.{HashMap}
 use Rattle.kept_locks.specs.declared.index.SpentOn.{SpentOn}
 use Rattle.kept_locks.specs.declared.trail.Trail.{Trail}
-use Rattle.kept_locks.specs.Refusals.{Goes, Tells, Counts, Forgets, Notes, OthersStay, refused_by, shown_of}
+use Rattle.kept_locks.specs.Refusals.{Goes, HasOnly, Tells, Counts, Notes, Sheds, count_of, refused_by, shown_of}
+use Rattle.kept_locks.proofs.Entries.{none_refused, sheds_refused}
+use Rattle.kept_locks.proofs.Indexing.{noted as refused_noted}
 use Rattle.kept_locks.proofs.Tying.{becomes_both}
 
 -- the ids that are refused late are refused early
@@ -161,34 +163,42 @@ both_true true true e = (refl, refl)
 both_true true false e = absurd (cc (e))
 both_true false b e = absurd (cc (e))
 
+none_counted : (ids : List Spent) → count_of ids ≡ 0 → ids ≡ []
+none_counted [] e = refl
+none_counted (one ∷ ids) e = absurd (omega (arith, e))
+
 module _ {S : Type 0} (before after : HashMap SpentOn ℕ S) (file : ℕ) where
   -- what is told of a chain is told of it once those that were over earlier have gone
-  pub tells_purged : (old new : Chains) (trail result : Trail) (moment : ℕ) → moment ≤ trail.as_of → result.told ≡ trail.told → result.as_of ≡ trail.as_of → Forgets before after file moment
+  tells_purged : (old new : Chains) (trail result : Trail) (moment : ℕ) → moment ≤ trail.as_of → result.told ≡ trail.told → result.as_of ≡ trail.as_of → Sheds before after file moment
       → spent_of new result.chain ≡ still_spent (spent_of old trail.chain) moment → Tells (refused_by before file) old trail → Tells (refused_by after file) new result
-  tells_purged old new trail result moment le same as_of forgets is tells = λ told id now from.
+  tells_purged old new trail result moment le same as_of sheds is tells = λ told id now from.
       let late : trail.as_of ≤ now = omega (arith, from, as_of) in
       let by : moment ≤ now = omega (arith, le, late) in
-      forgets file id now (inr by) ∙ tells (sym same ∙ told) id now late
+      sheds_refused before after file moment sheds id now by ∙ tells (sym same ∙ told) id now late
       ∙ sym (ap (λ (l : List Spent). is_spent l id) (ap (λ (l : List Spent). still_spent l now) is ∙ still-still (spent_of old trail.chain) moment now by))
 
-  pub forgets_others : (moment : ℕ) → Forgets before after file moment → OthersStay before after file
-  forgets_others moment forgets = λ other id now differs. forgets other id now (inl differs)
+  -- and so it is of one of which nothing is left, whatever was told before
+  pub tells_left : (old new : Chains) (trail result : Trail) (moment : ℕ) → moment ≤ trail.as_of → (result.told ≡ true → (trail.told ≡ true) ⊎ (result.count ≡ 0)) → (trail.told ≡ true → result.told ≡ true)
+      → result.as_of ≡ trail.as_of → Sheds before after file moment → spent_of new result.chain ≡ still_spent (spent_of old trail.chain) moment → result.count ≡ count_of (spent_of new result.chain)
+      → HasOnly after file (spent_of new result.chain) → Tells (refused_by before file) old trail → Tells (refused_by after file) new result
+  tells_left old new trail result moment le either kept as_of sheds is count only tells = λ told id now from. elim (either told) [
+    | inl had ↦ tells_purged old new trail result moment le (kept had ∙ sym had) as_of sheds is tells told id now from
+    | inr none ↦
+        let gone = none_counted (spent_of new result.chain) (sym count ∙ none) in
+        none_refused after file id now (subst (HasOnly after file) gone only) ∙ sym (ap (λ (l : List Spent). is_spent (still_spent l now) id) gone)
+  ]
 
   -- what is told of a chain and its index, once both have one more id
   pub tells_front : (old new : Chains) (ready result : Trail) (one : Spent) (noted : Bool) → result.told ≡ (ready.told && noted) → result.as_of ≡ ready.as_of → Tells (refused_by before file) old ready
-      → (noted ≡ true → Notes before after file one.id one.until) → spent_of new result.chain ≡ one ∷ spent_of old ready.chain → Tells (refused_by after file) new result
+      → (noted ≡ true → Notes before after (record { file = file; id = one.id }) one.until) → spent_of new result.chain ≡ one ∷ spent_of old ready.chain → Tells (refused_by after file) new result
   tells_front old new ready result one noted is_told as_of tells notes is = λ told id now from.
       let parts = both_true ready.told noted (sym is_told ∙ told) in
       let late : ready.as_of ≤ now = omega (arith, from, as_of) in
-      notes parts.1 file id now
+      refused_noted before after file one.id one.until (notes parts.1) file id now
       ∙ ap (λ b. ((b && bytes_eq one.id id) && nat_lt now one.until) || refused_by before file id now) (eq-eqb file file refl)
       ∙ ap (λ b. (bytes_eq one.id id && nat_lt now one.until) || b) (tells parts.0 id now late)
       ∙ told_of_one one (spent_of old ready.chain) id now
       ∙ sym (ap (λ (l : List Spent). is_spent (still_spent l now) id) is)
-
-  pub others_stay : (id : List ℕ) (until : ℕ) → Notes before after file id until → OthersStay before after file
-  others_stay id until notes = λ other one now differs.
-      notes other one now ∙ ap (λ b. ((b && bytes_eq id one) && nat_lt now until) || refused_by before other one now) (ne_eqb file other (λ e. differs (sym e)))
 
 -- what is refused of those that are shown
 pub shown_later : (b : Bool) (all : List Spent) (as_of now : ℕ) → as_of ≤ now → still_spent all now ≡ still_spent (if b then all else still_spent all as_of) now

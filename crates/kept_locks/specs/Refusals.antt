@@ -1,6 +1,7 @@
 -- What the index of spent ids says, and what is shown of a chain of them.
-use Rattle.std.specs.Prelude.{◌≡◌, ◌≢◌, ◌⊎◌, ℕ, ◌+◌, ◌*◌, ◌-◌, ◌^◌, ◌<◌, ◌≤◌, Bool, true, false, ◌&&◌, ◌||◌, List, [], ◌∷◌, length, Option, None, Some, max, min, nat_lt, nat_eq, bytes_eq, if◌then◌else◌}
-use Rattle.std.specs.HashMap.{HashMap, get}
+use Rattle.std.specs.Prelude.{◌≡◌, ◌≢◌, ℕ, ◌+◌, ◌*◌, ◌-◌, ◌^◌, ◌<◌, ◌≤◌, Bool, true, false, cond, List, [], ◌∷◌, length, Option, None, Some, max, min, nat_lt, if◌then◌else◌}
+use Rattle.std.specs.HashMap.{HashMap, get, spare}
+use Rattle.std.specs.List.{IsAmong}
 use Rattle.wopi_model.specs.Act.{is_spent}
 use Rattle.wopi_model.specs.Settle.{still_spent}
 use Rattle.wopi_model.specs.declared.locks.Spent.{Spent}
@@ -23,14 +24,42 @@ later_of until (Some known) = max until known
 abbrev pub refused_by : {S : Type 0} → HashMap SpentOn ℕ S → ℕ → List ℕ → ℕ → Bool
 refused_by index file id now = ends_after now (get is_same index (record { file = file; id = id }))
 
--- the index has one more id as refused until then, and says the same of all others
-abbrev pub Notes : {S : Type 0} → HashMap SpentOn ℕ S → HashMap SpentOn ℕ S → ℕ → List ℕ → ℕ → Type 0
-Notes old new file id until = (on : ℕ) (one : List ℕ) (now : ℕ)
-    → refused_by new on one now ≡ ((nat_eq file on && bytes_eq id one) && nat_lt now until) || refused_by old on one now
+-- the index has the id of the file, with that end
+abbrev pub HasEnd : {S : Type 0} → HashMap SpentOn ℕ S → ℕ → List ℕ → ℕ → Type 0
+HasEnd index file id until = get is_same index (record { file = file; id = id }) ≡ Some until
 
--- the index says the same of each id of another file, and of each id at a moment from that one on
-abbrev pub Forgets : {S : Type 0} → HashMap SpentOn ℕ S → HashMap SpentOn ℕ S → ℕ → ℕ → Type 0
-Forgets old new file moment = (on : ℕ) (one : List ℕ) (now : ℕ) → (on ≢ file) ⊎ (moment ≤ now) → refused_by new on one now ≡ refused_by old on one now
+-- what the index has of the file is of these ids, and no others: each entry has the id and the end of one of them
+abbrev pub HasOnly : {S : Type 0} → HashMap SpentOn ℕ S → ℕ → List Spent → Type 0
+HasOnly index file ids = (id : List ℕ) (until : ℕ) → HasEnd index file id until → IsAmong ids (record { id = id; until = until })
+
+-- the index has the same of all other files
+abbrev pub OthersStay : {S : Type 0} → HashMap SpentOn ℕ S → HashMap SpentOn ℕ S → ℕ → Type 0
+OthersStay old new file = (other : ℕ) (id : List ℕ) → other ≢ file → get is_same new (record { file = other; id = id }) ≡ get is_same old (record { file = other; id = id })
+
+-- under that key the index has the later one of that end and its own, and under all others what it had
+abbrev pub Notes : {S : Type 0} → HashMap SpentOn ℕ S → HashMap SpentOn ℕ S → SpentOn → ℕ → Type 0
+Notes old new key until = (one : SpentOn) → get is_same new one ≡ cond (is_same key one) (Some (later_of until (get is_same old key))) (get is_same old one)
+
+-- an end that is over at that moment has gone
+abbrev pub unless_over : ℕ → Option ℕ → Option ℕ
+unless_over now end = cond (ends_after now end) end None
+
+-- under that key the index has its end, or none where that is over, and under all others what it had
+abbrev pub Forgets : {S : Type 0} → HashMap SpentOn ℕ S → HashMap SpentOn ℕ S → SpentOn → ℕ → Type 0
+Forgets old new key now = (one : SpentOn) → get is_same new one ≡ cond (is_same key one) (unless_over now (get is_same old key)) (get is_same old one)
+
+-- only ends that are over at that moment went out of the index, and only of that file
+pub record Sheds {S : Type 0} (old new : HashMap SpentOn ℕ S) (file now : ℕ) : Type 0 where
+  pub others : OthersStay old new file
+  pub less : (id : List ℕ) (until : ℕ) → HasEnd new file id until → HasEnd old file id until
+  pub keeps : (id : List ℕ) (until : ℕ) → HasEnd old file id until → now < until → HasEnd new file id until
+  pub spare : spare old ≤ spare new
+
+-- The index, before and after a file's trail became another one, for which it had at most so many entries more. A told trail stays told where there was room for them.
+pub record Reindexes {S : Type 0} (old new : HashMap SpentOn ℕ S) (file : ℕ) (trail result : Trail) (more : ℕ) : Type 0 where
+  pub others : OthersStay old new file
+  pub told : trail.told ≡ true → more ≤ spare old → result.told ≡ true
+  pub spare : spare old ≤ spare new + more
 
 -- the ids of the one list, from the last on, before those of the other
 abbrev pub onto : List Spent → List Spent → List Spent
@@ -50,11 +79,12 @@ shown_of chains trail = if trail.purged then spent_of chains trail.chain else st
 abbrev pub count_of : List Spent → ℕ
 count_of ids = min (length ids) (2 ^ 64 - 1)
 
--- The ids of a trail are counted, and are at most 8 or twice those that the last purge left. Where nothing but ids came since that purge, they are at most so many more than it left.
+-- The ids of a trail are counted, and are at most 8 or twice those that the last purge left. Where nothing but ids came since that purge, they are at most so many more than it left. An empty chain is told.
 pub record IsCounted (chains : Chains) (trail : Trail) (more : ℕ) : Type 0 where
   pub count : trail.count ≡ count_of (spent_of chains trail.chain)
   pub short : trail.count ≤ max 8 (2 * trail.left)
   pub fresh : trail.purged ≡ true → trail.count ≤ trail.left + more
+  pub told : trail.count ≡ 0 → trail.told ≡ true
 
 -- the last purge left as many as the one before, or no more than are shown now
 abbrev pub LeavesFew : Chains → Trail → Trail → Type 0
@@ -73,7 +103,3 @@ pub record Goes (old new : Chains) (trail result : Trail) (shown : List Spent) :
   pub becomes : Becomes old.cells new.cells trail.chain result.chain (spent_of new result.chain)
   pub shows : shown_of new result ≡ shown
   pub counts : Counts old new trail.chain result.chain
-
--- the index says the same of all other files
-abbrev pub OthersStay : {S : Type 0} → HashMap SpentOn ℕ S → HashMap SpentOn ℕ S → ℕ → Type 0
-OthersStay old new file = (other : ℕ) (id : List ℕ) (now : ℕ) → other ≢ file → refused_by new other id now ≡ refused_by old other id now

@@ -1,6 +1,7 @@
 //! Until when an id is refused on a file.
-ghost use Rattle.std.specs.Prelude.{◌≡◌, true, option_copied};
-ghost use Rattle.kept_locks.specs.Refusals.{Notes, Forgets, OthersStay, ends_after, later_of, refused_by};
+ghost use Rattle.std.specs.Prelude.{◌≡◌, ◌≤◌, ◌<◌, ◌+◌, true, false, option_copied};
+ghost use Rattle.std.specs.HashMap.{IsUnchanged, spare};
+ghost use Rattle.kept_locks.specs.Refusals.{Notes, Forgets, ends_after, later_of, refused_by};
 
 use std::collections::HashMap;
 use std::hash::{Hash, Hasher};
@@ -67,11 +68,13 @@ fn is_before(now: u64, until: Option<&u64>) -> bool
     }
 }
 
-/// The id is refused on the file until then at least, and the index tells of it. Where the index would want memory and
-/// there is none it stays, and that is said. An index at most half of whose places are taken wants none.
+/// The index has the id of the file, with that end or its own where that is later. Where the index is full, and there is
+/// no memory for more, it stays as it was, and that is said.
 pub fn note(index: &mut HashMap<SpentOn, u64>, file: u32, id: LockId, until: u64) -> bool
-    ensures notes { result ≡ true → Notes index.old index.new file id until }
-    ensures others { OthersStay index.old index.new file }
+    ensures notes { result ≡ true → Notes index.old index.new (record { file = file; id = id }) until }
+    ensures full { result ≡ false → IsUnchanged index.old index.new }
+    ensures room { 0 < spare index.old → result ≡ true }
+    ensures spare { spare index.old ≤ spare index.new + 1 }
 {
     let key = SpentOn { file, id };
     let latest = later(until, index.get(&key));
@@ -81,9 +84,10 @@ pub fn note(index: &mut HashMap<SpentOn, u64>, file: u32, id: LockId, until: u64
     }
 }
 
-/// The index tells of the id no longer, where its end is over at that moment.
+/// The index has the id of the file no longer, where its end is over at that moment.
 pub fn forget(index: &mut HashMap<SpentOn, u64>, file: u32, id: LockId, now: u64)
-    ensures { Forgets index.old index.new file now }
+    ensures forgets { Forgets index.old index.new (record { file = file; id = id }) now }
+    ensures spare { spare index.old ≤ spare index.new }
 {
     let key = SpentOn { file, id };
     if is_before(now, index.get(&key)) {

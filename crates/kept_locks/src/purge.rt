@@ -2,7 +2,7 @@
 ghost use Rattle.std.specs.Prelude.{◌≡◌, ◌≤◌, ◌+◌, []};
 ghost use Rattle.expiry_queue.specs.Chains.{IsLive, Becomes, spent_of};
 ghost use Rattle.wopi_model.specs.Settle.{still_spent};
-ghost use Rattle.kept_locks.specs.Refusals.{Counts, Forgets, count_of, onto};
+ghost use Rattle.kept_locks.specs.Refusals.{Counts, HasOnly, Sheds, count_of, onto};
 
 use crate::index::{SpentOn, forget};
 use expiry_queue::SpentChains;
@@ -18,10 +18,12 @@ fn sift(
     now: u64,
 ) -> Option<usize>
     requires live { IsLive chains.old chain }
+    requires only { HasOnly index.old file (spent_of chains.old chain) }
     ensures becomes { Becomes chains.old.cells chains.new.cells chain result (spent_of chains.new result) }
     ensures ids { onto (spent_of chains.new result) [] ≡ still_spent (spent_of chains.old chain) now }
     ensures counts { Counts chains.old chains.new chain result }
-    ensures forgets { Forgets index.old index.new file now }
+    ensures sheds { Sheds index.old index.new file now }
+    ensures only { HasOnly index.new file (spent_of chains.new result) }
 {
     let mut rest = chain;
     let mut kept = None;
@@ -58,7 +60,7 @@ fn turn_over(chains: &mut SpentChains, chain: Option<usize>) -> (Option<usize>, 
 }
 
 /// Takes the ids out of a chain that are no longer refused, and gives the chain and how many are left. Their places are
-/// free, and the index tells of them no longer.
+/// free, and the index has them no longer.
 pub fn purge(
     chains: &mut SpentChains,
     index: &mut HashMap<SpentOn, u64>,
@@ -67,10 +69,12 @@ pub fn purge(
     now: u64,
 ) -> (Option<usize>, usize)
     requires live { IsLive chains.old chain }
+    requires only { HasOnly index.old file (spent_of chains.old chain) }
     ensures chain { Becomes chains.old.cells chains.new.cells chain result.0 (still_spent (spent_of chains.old chain) now) }
     ensures counts { Counts chains.old chains.new chain result.0 }
     ensures count { result.1 ≡ count_of (spent_of chains.new result.0) }
-    ensures forgets { Forgets index.old index.new file now }
+    ensures sheds { Sheds index.old index.new file now }
+    ensures only { HasOnly index.new file (spent_of chains.new result.0) }
     ensures spare { chains.old.spare ≤ chains.new.spare }
 {
     let kept = sift(chains, index, file, chain, now);

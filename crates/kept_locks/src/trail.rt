@@ -3,7 +3,8 @@ ghost use Rattle.std.specs.Prelude.{◌≡◌, ◌⊎◌, ◌+◌, ◌*◌, ◌�
 ghost use Rattle.expiry_queue.specs.Chains.{IsLive, spent_of};
 ghost use Rattle.wopi_model.specs.Act.{is_spent};
 ghost use Rattle.wopi_model.specs.Settle.{still_spent, with_spent};
-ghost use Rattle.kept_locks.specs.Refusals.{FallsTo, Goes, IsCounted, LeavesFew, Tells, OthersStay, shown_of, refused_by};
+ghost use Rattle.kept_locks.specs.Refusals.{FallsTo, Goes, HasOnly, IsCounted, LeavesFew, Reindexes, Tells, shown_of, refused_by};
+ghost use Rattle.kept_locks.specs.Ties.{one_if};
 
 use crate::index::{SpentOn, is_refused, note};
 use crate::purge::purge;
@@ -28,6 +29,15 @@ pub struct Trail {
     pub left: usize,
 }
 
+/// Whether the index has all ids of a chain of which a purge left so many: all that it had before, or none are left.
+fn is_told(told: bool, count: usize) -> bool
+    ensures kept { told ≡ true → result ≡ true }
+    ensures empty { count ≡ 0 → result ≡ true }
+    ensures either { result ≡ true → (told ≡ true) ⊎ (count ≡ 0) }
+{
+    told || count == 0
+}
+
 /// The trail after a step at that moment.
 pub fn step_to(
     chains: &mut SpentChains,
@@ -38,10 +48,12 @@ pub fn step_to(
 ) -> Trail
     requires live { IsLive chains.old trail.chain }
     requires tells { Tells (refused_by index.old file) chains.old trail }
+    requires only { HasOnly index.old file (spent_of chains.old trail.chain) }
     ensures goes { Goes chains.old chains.new trail result (still_spent (shown_of chains.old trail) now) }
     ensures tells { Tells (refused_by index.new file) chains.new result }
+    ensures only { HasOnly index.new file (spent_of chains.new result.chain) }
     ensures as_of { result.as_of ≡ max trail.as_of now }
-    ensures others { OthersStay index.old index.new file }
+    ensures index { Reindexes index.old index.new file trail result 0 }
     ensures spare { chains.old.spare ≤ chains.new.spare }
     ensures counted { IsCounted chains.old trail 2 → IsCounted chains.new result 0 }
     ensures left { LeavesFew chains.new trail result }
@@ -54,7 +66,7 @@ pub fn step_to(
             chain,
             as_of: trail.as_of,
             purged: true,
-            told: trail.told,
+            told: is_told(trail.told, count),
             count,
             left: count,
         };
@@ -78,12 +90,14 @@ fn purge_hidden(
 ) -> Trail
     requires live { IsLive chains.old trail.chain }
     requires tells { Tells (refused_by index.old file) chains.old trail }
+    requires only { HasOnly index.old file (spent_of chains.old trail.chain) }
     requires hidden { trail.purged ≡ false }
     ensures goes { Goes chains.old chains.new trail result (shown_of chains.old trail) }
     ensures tells { Tells (refused_by index.new file) chains.new result }
+    ensures only { HasOnly index.new file (spent_of chains.new result.chain) }
     ensures as_of { result.as_of ≡ trail.as_of }
     ensures purged { result.purged ≡ true }
-    ensures others { OthersStay index.old index.new file }
+    ensures index { Reindexes index.old index.new file trail result 0 }
     ensures spare { chains.old.spare ≤ chains.new.spare }
     ensures counted { IsCounted chains.new result 0 }
     ensures left { LeavesFew chains.new trail result }
@@ -95,7 +109,7 @@ fn purge_hidden(
         chain,
         as_of: trail.as_of,
         purged: true,
-        told: trail.told,
+        told: is_told(trail.told, count),
         count,
         left: count,
     }
@@ -111,11 +125,13 @@ pub fn purge_to(
 ) -> Trail
     requires live { IsLive chains.old trail.chain }
     requires tells { Tells (refused_by index.old file) chains.old trail }
+    requires only { HasOnly index.old file (spent_of chains.old trail.chain) }
     ensures goes { Goes chains.old chains.new trail result (still_spent (shown_of chains.old trail) now) }
     ensures tells { Tells (refused_by index.new file) chains.new result }
+    ensures only { HasOnly index.new file (spent_of chains.new result.chain) }
     ensures as_of { result.as_of ≡ max trail.as_of now }
     ensures purged { result.purged ≡ true }
-    ensures others { OthersStay index.old index.new file }
+    ensures index { Reindexes index.old index.new file trail result 0 }
     ensures spare { chains.old.spare ≤ chains.new.spare }
     ensures counted { IsCounted chains.old trail 2 → IsCounted chains.new result 0 }
     ensures left { LeavesFew chains.new trail result }
@@ -146,11 +162,13 @@ fn ready_for(
 ) -> Trail
     requires live { IsLive chains.old trail.chain }
     requires tells { Tells (refused_by index.old file) chains.old trail }
+    requires only { HasOnly index.old file (spent_of chains.old trail.chain) }
     ensures goes { Goes chains.old chains.new trail result (shown_of chains.old trail) }
     ensures tells { Tells (refused_by index.new file) chains.new result }
+    ensures only { HasOnly index.new file (spent_of chains.new result.chain) }
     ensures as_of { result.as_of ≡ trail.as_of }
     ensures fits { (result.purged ≡ true) ⊎ (result.as_of < until) }
-    ensures others { OthersStay index.old index.new file }
+    ensures index { Reindexes index.old index.new file trail result 0 }
     ensures spare { chains.old.spare ≤ chains.new.spare }
     ensures counted { (more : ℕ) → IsCounted chains.old trail more → IsCounted chains.new result more }
     ensures short { (more : ℕ) → more ≤ 1 → IsCounted chains.old trail more → result.count + 1 ≤ max 8 (2 * result.left) }
@@ -179,10 +197,12 @@ pub fn spend_on(
     requires live { IsLive chains.old trail.chain }
     requires spare { 1 ≤ chains.old.spare }
     requires tells { Tells (refused_by index.old file) chains.old trail }
+    requires only { HasOnly index.old file (spent_of chains.old trail.chain) }
     ensures goes { Goes chains.old chains.new trail result (one ∷ shown_of chains.old trail) }
     ensures tells { Tells (refused_by index.new file) chains.new result }
+    ensures only { HasOnly index.new file (spent_of chains.new result.chain) }
     ensures as_of { result.as_of ≡ trail.as_of }
-    ensures others { OthersStay index.old index.new file }
+    ensures index { Reindexes index.old index.new file trail result 1 }
     ensures spare { chains.old.spare ≤ chains.new.spare + 1 }
     ensures counted { (more : ℕ) → more ≤ 1 → IsCounted chains.old trail more → IsCounted chains.new result (more + 1) }
     ensures left { LeavesFew chains.new trail result }
@@ -213,12 +233,13 @@ pub fn spend_now(
     requires live { IsLive chains.old trail.chain }
     requires spare { 1 ≤ chains.old.spare }
     requires tells { Tells (refused_by index.old file) chains.old trail }
+    requires only { HasOnly index.old file (spent_of chains.old trail.chain) }
     ensures goes { Goes chains.old chains.new trail result (with_spent spend (still_spent (shown_of chains.old trail) now)) }
     ensures tells { Tells (refused_by index.new file) chains.new result }
+    ensures only { HasOnly index.new file (spent_of chains.new result.chain) }
     ensures as_of { result.as_of ≡ max trail.as_of now }
-    ensures others { OthersStay index.old index.new file }
-    ensures spare { chains.old.spare ≤ chains.new.spare + 1 }
-    ensures kept { spend ≡ None → chains.old.spare ≤ chains.new.spare }
+    ensures index { Reindexes index.old index.new file trail result (one_if spend) }
+    ensures spare { chains.old.spare ≤ chains.new.spare + one_if spend }
     ensures counted { IsCounted chains.old trail 2 → IsCounted chains.new result 1 }
     ensures left { LeavesFew chains.new trail result }
     ensures falls { FallsTo chains.old chains.new trail result }

@@ -26,6 +26,7 @@ places-preserved c =
       spare = omega (arith, spare, more);
       left = leaves_next (lefts_in start) (lefts_in places) (lefts_in next) (standings first start) (standings chains places) c.places.invariant.left c.purge_place.ensures.left
           (purged_shorter start places first chains c.places.at now purged);
+      ready = λ ready. c.purge_place.ensures.ready (c.places.invariant.ready ready);
       room = c.purge_place.ensures.room ∙ c.places.invariant.room;
     }
 

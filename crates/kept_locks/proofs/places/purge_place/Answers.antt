@@ -11,6 +11,7 @@ use Rattle.kept_locks.proofs.Parting.{fewer_still}
 use Rattle.kept_locks.proofs.Purging.{purges_put}
 use Rattle.kept_locks.proofs.Renewing.{puts_set, place_found}
 use Rattle.kept_locks.proofs.Tying.{own_put, waits_same}
+use Rattle.kept_locks.proofs.Telling.{ready_put}
 use Rattle.kept_locks.proofs.places.purge_place.Goals as goal
 
 pub returns-clause-tied : goal.returns-clause-tied
@@ -27,7 +28,7 @@ returns-clause-tied c =
       order = c.requires.tied.order;
       own = own_put places _ c.args.chains.now c.purge_in.new.chains c.args.number was now _ c.requires.tied.own at c.purge_in.ensures.goes.becomes puts;
       indexed = indexed_put places _ c.args.chains.now c.purge_in.new.chains c.args.index.now c.purge_in.new.index c.args.number was now _ c.requires.tied.own c.requires.tied.indexed
-          at c.purge_in.ensures.goes.becomes puts c.purge_in.ensures.tells c.purge_in.ensures.others;
+          at c.purge_in.ensures.goes.becomes puts c.purge_in.ensures.tells c.purge_in.ensures.only c.purge_in.ensures.index.others;
       room = omega (arith, c.requires.tied.room, c.purge_in.ensures.chains);
       held = omega (arith, held, ap one_if same, c.requires.tied.held);
       used = used_put places _ c.args.chains.now c.purge_in.new.chains c.args.number was now _ c.requires.tied.own at c.purge_in.ensures.goes.becomes puts c.purge_in.ensures.goes.counts c.requires.tied.used;
@@ -73,3 +74,13 @@ returns-clause-left c =
     let le = c.purge_in.ensures.left in
     let long = shown_long chains places c.args.number was at in
     left_put places _ c.args.number was now (standings chains places) at puts (omega (arith, le, is, fewer, long))
+
+pub returns-clause-ready : goal.returns-clause-ready
+returns-clause-ready c = λ ready.
+    let places = c.args.places.now.items in
+    let was = c.index_mut.result.now in
+    let now = c.purge_in.new.place in
+    let at = place_found places c.args.number was c.requires.number c.index_mut.ensures.value in
+    let room = ready.1 in
+    ready_put places _ c.args.queue.now c.args.queue.now c.args.index.now c.purge_in.new.index c.args.number was now 0 at (puts_set places c.args.number now c.requires.number) c.purge_in.ensures.index
+    (omega (arith, room)) ready

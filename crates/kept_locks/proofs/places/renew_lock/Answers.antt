@@ -4,11 +4,12 @@ use Rattle.kept_locks.specs.Ties.{GoesOn, latest_of, lock_of, renewed, standings
 use Rattle.kept_locks.proofs.Counted.{left_put, short_any, short_held, short_put, shown_long}
 use Rattle.kept_locks.proofs.Counting.{held_put, used_put}
 use Rattle.kept_locks.proofs.Tying.{own_put}
-use Rattle.kept_locks.proofs.Falling.{falls_put}
+use Rattle.kept_locks.proofs.Falling.{beside_put, falls_put}
 use Rattle.kept_locks.proofs.Indexing.{indexed_put}
 use Rattle.kept_locks.proofs.Latest.{as_late, latest_put}
 use Rattle.kept_locks.proofs.Setting.{queued, may_follow, files_set}
 use Rattle.kept_locks.proofs.Renewing.{puts_set, place_found, renewed_is}
+use Rattle.kept_locks.proofs.Telling.{ready_put}
 use Rattle.kept_locks.proofs.places.renew_lock.Goals as goal
 
 pub renew_in-requires-clause-queued : goal.renew_in-requires-clause-queued
@@ -37,7 +38,7 @@ returns-clause-tied c =
       order = c.renew_in.ensures.queue.order;
       own = own_put places _ c.args.chains.now c.renew_in.new.chains c.args.number was now _ c.requires.tied.own at c.renew_in.ensures.goes.becomes puts;
       indexed = indexed_put places _ c.args.chains.now c.renew_in.new.chains c.args.index.now c.renew_in.new.index c.args.number was now _ c.requires.tied.own c.requires.tied.indexed
-          at c.renew_in.ensures.goes.becomes puts c.renew_in.ensures.tells c.renew_in.ensures.others;
+          at c.renew_in.ensures.goes.becomes puts c.renew_in.ensures.tells c.renew_in.ensures.only c.renew_in.ensures.index.others;
       room = omega (arith, c.requires.tied.room, c.renew_in.ensures.long, c.renew_in.ensures.chains);
       held = omega (arith, held_put places _ c.args.number was now at puts, c.renew_in.ensures.queue.count, c.requires.tied.held);
       used = used_put places _ c.args.chains.now c.renew_in.new.chains c.args.number was now _ c.requires.tied.own at c.renew_in.ensures.goes.becomes puts c.renew_in.ensures.goes.counts c.requires.tied.used;
@@ -93,3 +94,30 @@ returns-clause-falls c =
     let at = place_found places c.args.number was c.requires.number c.index_mut.ensures.value in
     let puts = puts_set places c.args.number now c.requires.number in
     falls_put places _ c.args.chains.now c.renew_in.new.chains c.args.number was now _ c.requires.tied.own at c.renew_in.ensures.goes.becomes puts c.renew_in.ensures.left c.renew_in.ensures.falls
+
+pub returns-clause-ready : goal.returns-clause-ready
+returns-clause-ready c = λ ready.
+    let places = c.args.places.now.items in
+    let was = c.index_mut.result.now in
+    let now = c.renew_in.new.place in
+    let at = place_found places c.args.number was c.requires.number c.index_mut.ensures.value in
+    let long = c.renew_in.ensures.long in
+    let room = ready.1 in
+    ready_put places _ c.args.queue.now c.renew_in.new.queue c.args.index.now c.renew_in.new.index c.args.number was now 0 at (puts_set places c.args.number now c.requires.number) c.renew_in.ensures.index
+    (omega (arith, long, room)) ready
+
+pub returns-clause-taken : goal.returns-clause-taken
+returns-clause-taken c =
+    let long = c.renew_in.ensures.long in
+    let room = c.renew_in.ensures.goes.counts.room in
+    let spare = c.renew_in.ensures.chains in
+    omega (arith, long, room, spare)
+
+pub returns-clause-beside : goal.returns-clause-beside
+returns-clause-beside c =
+    let places = c.args.places.now.items in
+    let was = c.index_mut.result.now in
+    let now = c.renew_in.new.place in
+    let at = place_found places c.args.number was c.requires.number c.index_mut.ensures.value in
+    let puts = puts_set places c.args.number now c.requires.number in
+    beside_put places _ c.args.chains.now c.renew_in.new.chains c.args.number was now _ c.requires.tied.own at c.renew_in.ensures.goes.becomes puts

@@ -1,7 +1,10 @@
-use Rattle.std.proofs.Common.{◌≡◌, length, ap, ◌∙◌, arith}
+use Rattle.std.proofs.Common.{◌≡◌, inl, List, [], length, subst, sym, ap, ◌∙◌, arith}
+use Rattle.std.specs.List.{IsAmong}
+use Rattle.wopi_model.specs.declared.locks.Spent.{Spent}
 use Rattle.wopi_model.specs.Settle.{still_spent}
 use Rattle.expiry_queue.specs.Chains.{spent_of}
 use Rattle.kept_locks.proofs.Parting.{fewer_still}
+use Rattle.kept_locks.proofs.Entries.{among_onto, one_of}
 use Rattle.kept_locks.proofs.purge.purge.Goals as goal
 
 pub returns-clause-spare : goal.returns-clause-spare
@@ -14,3 +17,8 @@ returns-clause-spare c =
     let here = c.sift-kept.ensures.counts.room in
     let there = c.turn_over.ensures.counts.room in
     omega (arith, is, fewer, one, two, here, there)
+
+pub returns-clause-only : goal.returns-clause-only
+returns-clause-only c = λ id until has.
+    let kept = spent_of c.sift-kept.new.chains c.sift-kept.result in
+    subst (λ (l : List Spent). IsAmong l (one_of id until)) (sym c.turn_over.ensures.ids) (among_onto (one_of id until) kept [] (inl (c.sift-kept.ensures.only id until has)))

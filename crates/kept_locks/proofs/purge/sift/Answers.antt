@@ -4,6 +4,7 @@ use Rattle.wopi_model.specs.declared.locks.Spent.{Spent}
 use Rattle.expiry_queue.specs.Chains.{spent_of}
 use Rattle.std.proofs.lemmas.Bool.{lt-ltb, le-ltb}
 use Rattle.kept_locks.specs.Refusals.{onto}
+use Rattle.kept_locks.proofs.Entries.{only_dropped, only_moved, sheds_one}
 use Rattle.kept_locks.proofs.Parting.{taken_one, moved_one, sifted_kept, sifted_over}
 use Rattle.kept_locks.proofs.purge.sift.Goals as goal
 
@@ -41,7 +42,8 @@ rest-preserved-then-now-one c =
           ∙ sym (ap (λ (l : List Spent). onto (spent_of now c.rest.kept) (still_spent l c.args.now)) m.rest_is) ∙ c.rest.invariant.ids;
       used = omega (arith, longer, kept_long, taken, added, used);
       room = omega (arith, taken, added, freed, filled, room);
-      forgets = c.rest.invariant.forgets;
+      sheds = c.rest.invariant.sheds;
+      only = only_moved c.rest.index c.args.file one (spent_of now c.rest.rest) (spent_of now c.rest.kept) (spent_of c.add-kept.new.self after) (spent_of c.add-kept.new.self c.add-kept.result) m.rest_is m.kept_is c.rest.invariant.only;
     }
 
 pub rest-preserved : goal.rest-preserved
@@ -64,5 +66,7 @@ rest-preserved c =
           ∙ sym (ap (λ (l : List Spent). onto (spent_of now c.rest.kept) (still_spent l c.args.now)) t.rest_is) ∙ c.rest.invariant.ids;
       used = omega (arith, longer, kept_long, taken, used);
       room = omega (arith, taken, freed, room);
-      forgets = λ on id at from. c.forget.ensures on id at from ∙ c.rest.invariant.forgets on id at from;
+      sheds = sheds_one c.args.index.now c.rest.index c.forget.new.index c.args.file one.id c.args.now c.rest.invariant.sheds c.forget.ensures.forgets c.forget.ensures.spare;
+      only = only_dropped c.rest.index c.forget.new.index c.args.file one (spent_of now c.rest.rest) (spent_of now c.rest.kept) (spent_of c.take-one.new.self after) (spent_of c.take-one.new.self c.rest.kept) c.args.now
+          c.forget.ensures.forgets (omega (arith, c.if-now-one.false)) t.rest_is t.kept_is c.rest.invariant.only;
     }

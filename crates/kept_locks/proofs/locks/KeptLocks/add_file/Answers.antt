@@ -1,8 +1,8 @@
 use Rattle.std.proofs.Common.{List, [], ◌∷◌, ◌++◌, sym, ap, subst, ◌∙◌}
 use Rattle.kept_locks.specs.declared.places.Place.{Place}
 use Rattle.kept_locks.specs.Locks.{Locks}
-use Rattle.kept_locks.specs.Ties.{AreTied}
-use Rattle.kept_locks.proofs.Counted.{lefts_added, tied_short}
+use Rattle.kept_locks.specs.Ties.{AreTied, chains_in}
+use Rattle.kept_locks.proofs.Counted.{chains_added, lefts_added, tied_short}
 use Rattle.kept_locks.proofs.Indexing.{tied_added}
 use Rattle.kept_locks.proofs.Latest.{latest_added, still_chained}
 use Rattle.kept_locks.proofs.locks.KeptLocks.add_file.Goals as goal
@@ -32,3 +32,9 @@ returns-in-Err-clause-short c =
     let inside = c.self.inside in
     tied_short c.add_place.new.places.items inside.queue inside.chains inside.index
     (subst (λ (places : List Place). AreTied places inside.queue inside.chains inside.index) (sym c.in-Err.ensures.err) c.self.invariant)
+
+pub returns-in-Ok-clause-ids : goal.returns-in-Ok-clause-ids
+returns-in-Ok-clause-ids c = chains_added c.self.inside.chains c.self.inside.places.items c.add_place.new.places.items c.in-Ok.ensures.ok ∙ ap (λ (l : Locks). l.chains ++ [] ∷ []) c.self.view_is
+
+pub returns-in-Err-clause-ids_err : goal.returns-in-Err-clause-ids_err
+returns-in-Err-clause-ids_err c = ap (chains_in c.self.inside.chains) c.in-Err.ensures.err ∙ ap (λ (l : Locks). l.chains) c.self.view_is

@@ -1,8 +1,8 @@
-use Rattle.std.proofs.Common.{◌≡◌, ◌+◌, ap, arith}
-use Rattle.kept_locks.specs.Locks.{Locks, held_in, ids_in}
+use Rattle.std.proofs.Common.{◌+◌, length, ap, subst, arith}
+use Rattle.kept_locks.specs.Locks.{Locks, OnlyDue, held_in, ids_in}
 use Rattle.kept_locks.specs.Ties.{chains_in, standings}
 use Rattle.kept_locks.proofs.Counted.{tied_short}
-use Rattle.kept_locks.proofs.Counting.{held_is, ids_are}
+use Rattle.kept_locks.proofs.Counting.{taken_is}
 use Rattle.kept_locks.proofs.Latest.{still_chained}
 use Rattle.kept_locks.proofs.locks.KeptLocks.settle.Goals as goal
 
@@ -14,18 +14,13 @@ returns-clause-short c = tied_short c.end_all_due.new.places.items c.end_all_due
 
 pub returns-clause-taken : goal.returns-clause-taken
 returns-clause-taken c =
-    let chains = c.self.inside.chains in
-    let places = c.self.inside.places.items in
-    let chains' = c.end_all_due.new.chains in
-    let places' = c.end_all_due.new.places.items in
-    let before : held_in (standings chains places) + ids_in (chains_in chains places) ≡ held_in c.args.self.now.files + ids_in c.args.self.now.chains = ap (λ (l : Locks). held_in l.files + ids_in l.chains) c.self.view_is in
-    let held = held_is chains places in
-    let ids = ids_are chains places in
-    let held' = held_is chains' places' in
-    let ids' = ids_are chains' places' in
-    let waits = c.self.invariant.held in
-    let used = c.self.invariant.used in
-    let waits' = c.end_all_due.ensures.tied.held in
-    let used' = c.end_all_due.ensures.tied.used in
+    let inside = c.self.inside in
+    let before = ap (λ (l : Locks). held_in l.files + ids_in l.chains) c.self.view_is in
+    let was = taken_is inside.places.items inside.chains (length inside.queue.waiting) c.self.invariant.held c.self.invariant.used in
+    let now = taken_is c.end_all_due.new.places.items c.end_all_due.new.chains (length c.end_all_due.new.queue.waiting) c.end_all_due.ensures.tied.held c.end_all_due.ensures.tied.used in
     let taken = c.end_all_due.ensures.taken in
-    omega (arith, before, held, ids, held', ids', waits, used, waits', used', taken)
+    omega (arith, before, was, now, taken)
+
+pub returns-clause-due : goal.returns-clause-due
+returns-clause-due c =
+    subst (λ (l : Locks). OnlyDue c.args.now l.files (standings c.end_all_due.new.chains c.end_all_due.new.places.items) l.chains (chains_in c.end_all_due.new.chains c.end_all_due.new.places.items)) c.self.view_is c.end_all_due.ensures.due
