@@ -1,4 +1,4 @@
--- The origin of a page, as it is written. (RFC 6454, 4 and 6.2: the scheme and the host are in lower case, and a port is written where it isn't the scheme's own; that the scheme is http or https, that a host is a name or an address in four numbers, and how long an origin may be, is own.)
+-- The origin of a page, as it is written. (RFC 6454, 4 and 6.2: the scheme and the host are in lower case, and a port is written where it isn't the scheme's own; that the scheme is http or https, that a host is of letters, digits, dashes and dots, and how long an origin may be, is own.)
 use Rattle.std.specs.Prelude.{ℕ, ◌≡◌, ◌<◌, ◌≤◌, ◌==◌, ◌||◌, Bool, true, false, List, [], ◌∷◌, ◌++◌, length, codes, decimal, if◌then◌else◌}
 use Rattle.std.specs.List.{list_all}
 use Rattle.std.specs.Char.{is_ascii_digit, is_ascii_lowercase}
