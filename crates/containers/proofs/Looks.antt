@@ -2,7 +2,8 @@
 use Rattle.std.proofs.Common.{◌≡◌, ◌≢◌, ℕ, suc, ◌+◌, ◌<◌, Bool, true, false, ◌==◌, List, [], ◌∷◌, ◌++◌, length, refl, sym, ap, subst, ◌∙◌, arith, append-nil, append_assoc, eqb-true}
 use Rattle.std.proofs.lemmas.Bool.{eqb-false}
 use Rattle.std.specs.List.{AllByRecursion}
-use Rattle.wopi_model.specs.Shard.{Entry, Item, Opening, entries}
+use Rattle.wopi_model.specs.Begin.{Begin}
+use Rattle.wopi_model.specs.Shard.{Entry, Item, entries}
 use Rattle.host_core.specs.Caller.{Extends, FramesAt, Sight}
 use Rattle.host_core.specs.Listing.{AreListed, Follows, IsListing, Lists, ListsAll, LooksAt, LooksOn}
 use Rattle.host_core.specs.declared.children.Child.{Child}
@@ -17,24 +18,20 @@ Extends-trans a b c (m, e) (n, f) = (m ++ n, f ∙ ap (λ l. l ++ n) e ∙ appen
 pub Follows-same : (s : Sight) → Follows s s
 Follows-same s = record {
   seen = λ shard. Extends-same (entries (s.seen shard));
-  openings = λ shard. refl;
+  begins = λ shard. refl;
   home = λ name. refl;
   pass = refl;
-  capacity = refl;
-  opened = refl;
-  first = refl;
+  limits = refl;
   ticked = refl;
 }
 
 pub Follows-trans : (a b c : Sight) → Follows a b → Follows b c → Follows a c
 Follows-trans a b c p q = record {
   seen = λ shard. Extends-trans (entries (a.seen shard)) (entries (b.seen shard)) (entries (c.seen shard)) (p.seen shard) (q.seen shard);
-  openings = λ shard. q.openings shard ∙ p.openings shard;
+  begins = λ shard. q.begins shard ∙ p.begins shard;
   home = λ name. q.home name ∙ p.home name;
   pass = q.pass ∙ p.pass;
-  capacity = q.capacity ∙ p.capacity;
-  opened = q.opened ∙ p.opened;
-  first = q.first ∙ p.first;
+  limits = q.limits ∙ p.limits;
   ticked = q.ticked ∙ p.ticked;
 }
 
@@ -56,12 +53,10 @@ LooksOn-one old new asked looks = record {
   own = looks.own;
   follows = record {
     seen = seen_on old new asked looks;
-    openings = looks.rest.openings;
+    begins = looks.rest.begins;
     home = looks.rest.home;
     pass = looks.rest.pass;
-    capacity = looks.rest.capacity;
-    opened = looks.rest.opened;
-    first = looks.rest.first;
+    limits = looks.rest.limits;
     ticked = looks.rest.ticked;
   };
 }
@@ -80,21 +75,16 @@ at_home : (old new : Sight) (shard : ℕ) (children : List Child) → ((name : L
 at_home old new shard [] home h = tt
 at_home old new shard (child ∷ children) home h = (home child.name ∙ h.0, at_home old new shard children home h.1)
 
-listing_kept : (shard : ℕ) (opening opening' : Opening) (opened opened' first first' : ℕ) (history history' : List Item) (listing : Listing)
-    → opening' ≡ opening → opened' ≡ opened → first' ≡ first → history' ≡ history
-    → IsListing shard opening opened first history listing → IsListing shard opening' opened' first' history' listing
-listing_kept shard opening opening' opened opened' first first' history history' listing a b c d h =
-    subst (λ o. IsListing shard o opened' first' history' listing) (sym a)
-    (subst (λ o. IsListing shard opening o first' history' listing) (sym b)
-    (subst (λ f. IsListing shard opening opened f history' listing) (sym c)
-    (subst (λ l. IsListing shard opening opened first l listing) (sym d) h)))
+listing_kept : (shard : ℕ) (begin begin' : Begin) (history history' : List Item) (listing : Listing) → begin' ≡ begin → history' ≡ history → IsListing shard begin history listing → IsListing shard begin' history' listing
+listing_kept shard begin begin' history history' listing a b h =
+    subst (λ z. IsListing shard z history' listing) (sym a) (subst (λ l. IsListing shard begin l listing) (sym b) h)
 
 -- a listing of another shard stays one
 lists_kept : (old new : Sight) (asked shard : ℕ) (listing : Listing) → FramesAt old new asked → shard ≢ asked → Lists old shard listing → Lists new shard listing
 lists_kept old new asked shard listing frames other h = record {
   shows =
-      listing_kept shard (old.openings shard) (new.openings shard) old.opened new.opened old.first new.first (old.seen shard) (new.seen shard) listing
-      (frames.openings shard) frames.opened frames.first (frames.others shard other) h.shows;
+      listing_kept shard (old.begins shard) (new.begins shard) (old.seen shard) (new.seen shard) listing
+      (frames.begins shard) (frames.others shard other) h.shows;
   homes = at_home old new shard listing.children frames.home h.homes;
 }
 

@@ -80,13 +80,13 @@ found_at first (k ∷ files) [] name number at =
 found_at first (k ∷ files) (s ∷ ss) name number at = found_one first k s files ss name number (λ m e. found_at first files ss name m e) (bytes_eq k.name name) refl at
 
 -- what is kept has the chains of what has happened
-chains_kept : {F : Type 0} (ledger : Ledger) (notes : Notes) (book : Book F) → book.time ≡ ledger.time → Reflects book.opening book.opened book.first book.capacity book.made book.time ledger.last ledger.bytes (files_in ledger) → IsTied ledger notes
+chains_kept : {F : Type 0} (ledger : Ledger) (notes : Notes) (book : Book F) → book.time ≡ ledger.time → Reflects book.begin book.made book.time ledger.last ledger.bytes (files_in ledger) → IsTied ledger notes
     → KeepsChains ledger book
 chains_kept ledger notes book time keeps tied = λ name number at.
     let ss = ledger.rack.locks.files in
     let s = standing_at ss number in
-    let (k, is) = found_at book.first ledger.rack.files.items ss name number at in
-    let shown = shown-file book.opening book.opened book.first book.capacity book.made book.time ledger.last ledger.bytes (files_in ledger) keeps name in
+    let (k, is) = found_at book.begin.first ledger.rack.files.items ss name number at in
+    let shown = shown-file book.begin book.made book.time ledger.last ledger.bytes (files_in ledger) keeps name in
     let none : expired s.lock ledger.time ≡ None = unexpired s.lock ledger.time (tied.stand number) in
     ap (still_spent (chain_at ledger.rack.locks.chains number)) time
     ∙ chain_still ledger.rack.locks.chains ss ledger.time number (tied.locked.as_of.chains ledger.time tied.locked.as_of.stepped)

@@ -20,6 +20,7 @@ use Rattle.wopi_model.specs.Settle.{settled}
 use Rattle.wopi_model.specs.Step.{after_step}
 use Rattle.host_core.specs.Whole.{Whole, joined}
 use Rattle.host_core.specs.Entries.{Made, items_of}
+use Rattle.wopi_model.specs.Host.{kept_limits}
 use Rattle.wopi_model.proofs.Histories.{Legal-tick}
 use Rattle.host_core.specs.Files.{files_of, torn_in}
 use Rattle.host_core.specs.Store.{StoresAs, is_store_call, torn_after, brought}
@@ -130,7 +131,7 @@ agrees-state only (Some start) (Some now) files state torn torn' same tears agre
 -- the shard after a step
 pub stands-step : {F : Type 0} (book : Book F) (before after : Ledger) (old new : Notes) (start now now' : Option Files) (began count count' : ℕ) (call : Call) (pass floor moment : ℕ) (ruling : Ruling) (folder' : F)
     → Stands book before.last (files_in before) before.bytes start now began count
-    → book.opened ≡ before.opened → book.first ≡ before.first → book.time ≡ before.time → IsMoment moment → MayKeep book.only call.name → length book.made ≢ book.capacity
+    → book.begin.opened ≡ before.opened → book.begin.first ≡ before.first → book.time ≡ before.time → IsMoment moment → MayKeep book.only call.name → length book.made ≢ book.limits.ids
     → Takes before after old new call pass floor moment ruling → StoresAs now now' call ruling → count ≤ count' → (ruling.status ≡ 500 → Rose count count')
     → Stands (record book { made = book.made ++ made_by before call pass floor moment ruling ∷ []; time = max book.time moment; folder = folder' })
     after.last (files_in after) after.bytes start now' began count'
@@ -140,41 +141,41 @@ stands-step book before after old new start now now' began count count' call pas
     let mid = joined before.rack.files.items (all_ended later before.rack.locks.files) in
     let mid_is : ended_in before (max before.time moment) ≡ mid = ap (ended_in before) same_time in
     let again : max later moment ≡ later = omega arith in
-    let steps : TakesStep book.first mid (files_in after) call book.opened later ruling =
-    subst (λ (o : ℕ). TakesStep book.first mid (files_in after) call o later ruling) (sym opened)
-    (subst (λ (t : ℕ). TakesStep book.first mid (files_in after) call before.opened t ruling) same_time
-    (subst (λ (l : List Whole). TakesStep book.first l (files_in after) call before.opened (max before.time moment) ruling) mid_is
+    let steps : TakesStep book.begin.first mid (files_in after) call book.begin.opened later ruling =
+    subst (λ (o : ℕ). TakesStep book.begin.first mid (files_in after) call o later ruling) (sym opened)
+    (subst (λ (t : ℕ). TakesStep book.begin.first mid (files_in after) call before.opened t ruling) same_time
+    (subst (λ (l : List Whole). TakesStep book.begin.first l (files_in after) call before.opened (max before.time moment) ruling) mid_is
     (subst (λ (n : ℕ). TakesStep n (ended_in before (max before.time moment)) (files_in after) call before.opened (max before.time moment) ruling) (sym first) takes.steps))) in
-    let steps' = subst (λ (t : ℕ). TakesStep book.first mid (files_in after) call book.opened t ruling) (sym again) steps in
+    let steps' = subst (λ (t : ℕ). TakesStep book.begin.first mid (files_in after) call book.begin.opened t ruling) (sym again) steps in
     let bytes = before.bytes in
     let one : Made = record { time = later; step = record { stamp = max before.last floor + 1; pass = pass; moment = moment; call = call; ruling = ruling } } in
     let same : one ≡ made_by before call pass floor moment ruling = ap (λ (t : ℕ). made_at t before.last call pass floor moment ruling) time in
     let made' = book.made ++ made_by before call pass floor moment ruling ∷ [] in
-    let mid_keeps : Reflects book.opening book.opened book.first book.capacity book.made later before.last bytes mid =
-    keeps-ended book.opening book.opened book.first book.capacity book.made later before.last bytes before.rack.files.items before.rack.locks.files
-    (keeps-tick book.opening book.opened book.first book.capacity book.made book.time before.last bytes (files_in before) stands.keeps moment m) in
-    let mid_agrees : Agrees book.only start now (files_of book.first mid) (torn_in mid) =
-    agrees-state book.only start now (files_of book.first (files_in before)) (files_of book.first mid) (torn_in (files_in before)) (torn_in mid)
-    (λ name. contents_any book.first before.rack.files.items (all_ended later before.rack.locks.files) before.rack.locks.files name)
+    let mid_keeps : Reflects book.begin book.made later before.last bytes mid =
+    keeps-ended book.begin book.made later before.last bytes before.rack.files.items before.rack.locks.files
+    (keeps-tick book.begin book.made book.time before.last bytes (files_in before) stands.keeps moment m) in
+    let mid_agrees : Agrees book.only start now (files_of book.begin.first mid) (torn_in mid) =
+    agrees-state book.only start now (files_of book.begin.first (files_in before)) (files_of book.begin.first mid) (torn_in (files_in before)) (torn_in mid)
+    (λ name. contents_any book.begin.first before.rack.files.items (all_ended later before.rack.locks.files) before.rack.locks.files name)
     (λ name. torn_any before.rack.files.items before.rack.locks.files (all_ended later before.rack.locks.files) name) stands.folder in
-    let mid_within : AreWithin (book.first + length book.made) mid = within_any (book.first + length book.made) before.rack.files.items before.rack.locks.files (all_ended later before.rack.locks.files) stands.within in
-    let stepped : Reflects book.opening book.opened book.first book.capacity (book.made ++ one ∷ []) later (max before.last floor + 1) (bytes + (if ruling.status == 200 then new_bytes call.act else 0)) (files_in after) =
-    subst (λ (t : ℕ). Reflects book.opening book.opened book.first book.capacity (book.made ++ record { time = t; step = one.step } ∷ []) t (max before.last floor + 1) (bytes + (if ruling.status == 200 then new_bytes call.act else 0)) (files_in after)) again
-    (keeps-step book.opening book.opened book.first book.capacity book.made later before.last bytes mid (files_in after) mid_keeps call pass floor moment ruling m steps') in
+    let mid_within : AreWithin (book.begin.first + length book.made) mid = within_any (book.begin.first + length book.made) before.rack.files.items before.rack.locks.files (all_ended later before.rack.locks.files) stands.within in
+    let stepped : Reflects book.begin (book.made ++ one ∷ []) later (max before.last floor + 1) (bytes + (if ruling.status == 200 then new_bytes call.act else 0)) (files_in after) =
+    subst (λ (t : ℕ). Reflects book.begin (book.made ++ record { time = t; step = one.step } ∷ []) t (max before.last floor + 1) (bytes + (if ruling.status == 200 then new_bytes call.act else 0)) (files_in after)) again
+    (keeps-step book.begin book.made later before.last bytes mid (files_in after) mid_keeps call pass floor moment ruling m steps') in
     record {
       keeps =
-          subst (λ (x : Made). Reflects book.opening book.opened book.first book.capacity (book.made ++ x ∷ []) later after.last after.bytes (files_in after)) same
-          (subst (λ (l : ℕ). Reflects book.opening book.opened book.first book.capacity (book.made ++ one ∷ []) later l after.bytes (files_in after)) (sym takes.last)
-          (subst (λ (b : ℕ). Reflects book.opening book.opened book.first book.capacity (book.made ++ one ∷ []) later (max before.last floor + 1) b (files_in after)) (sym takes.kept) stepped));
-      folder = agrees-step book.first book.only start now now' mid (files_in after) call book.opened later ruling mid_agrees own steps stores;
+          subst (λ (x : Made). Reflects book.begin (book.made ++ x ∷ []) later after.last after.bytes (files_in after)) same
+          (subst (λ (l : ℕ). Reflects book.begin (book.made ++ one ∷ []) later l after.bytes (files_in after)) (sym takes.last)
+          (subst (λ (b : ℕ). Reflects book.begin (book.made ++ one ∷ []) later (max before.last floor + 1) b (files_in after)) (sym takes.kept) stepped));
+      folder = agrees-step book.begin.first book.only start now now' mid (files_in after) call book.begin.opened later ruling mid_agrees own steps stores;
       faults = rose-step began count count' book.made (made_by before call pass floor moment ruling) stands.faults le fault;
       timely = λ h.
-          subst (λ (x : Made). GoesByEntries book.opened (book.made ++ x ∷ []) (max book.time moment)) same (goes-push book.opened book.made one book.time (stands.timely h) refl);
+          subst (λ (x : Made). GoesByEntries book.begin.now (book.made ++ x ∷ []) (max book.time moment)) same (goes-push book.begin.now book.made one book.time (stands.timely h) refl);
       within =
-          let more : book.first + length book.made + 1 ≡ book.first + length (book.made ++ made_by before call pass floor moment ruling ∷ []) = let long = made_long book.made (made_by before call pass floor moment ruling) in omega (arith, long) in
-          let above : before.first ≤ book.first + length book.made = omega (arith, first) in
+          let more : book.begin.first + length book.made + 1 ≡ book.begin.first + length (book.made ++ made_by before call pass floor moment ruling ∷ []) = let long = made_long book.made (made_by before call pass floor moment ruling) in omega (arith, long) in
+          let above : before.first ≤ book.begin.first + length book.made = omega (arith, first) in
           subst (λ (n : ℕ). AreWithin n (files_in after)) more
-          (takes.within (book.first + length book.made) above (subst (AreWithin (book.first + length book.made)) (sym mid_is) mid_within));
+          (takes.within (book.begin.first + length book.made) above (subst (AreWithin (book.begin.first + length book.made)) (sym mid_is) mid_within));
       number = stands.number;
       few =
           let more = made_long book.made (made_by before call pass floor moment ruling) in
@@ -183,25 +184,26 @@ stands-step book before after old new start now now' began count count' call pas
           let was = long_joined before.rack.files.items before.rack.locks.files in
           let is = long_joined after.rack.files.items after.rack.locks.files in
           omega (arith, more, old, grown, was, is);
-      places = let more = made_long book.made (made_by before call pass floor moment ruling) in let old = stands.places in below_full (length book.made) _ book.capacity more old room;
+      places = let more = made_long book.made (made_by before call pass floor moment ruling) in let old = stands.places in below_full (length book.made) _ book.limits.ids more old room;
+      free = stands.free;
     }
 
 -- and after one that was refused
 pub stands-stays : {F : Type 0} (book : Book F) (before after : Ledger) (old new : Notes) (start now now' : Option Files) (began count count' : ℕ) (folder' : F)
     → Stands book before.last (files_in before) before.bytes start now began count
-    → book.first ≡ before.first → Stays before after old new → folder.Keeps now now' → count ≤ count'
+    → book.begin.first ≡ before.first → Stays before after old new → folder.Keeps now now' → count ≤ count'
     → Stands (record book { folder = folder' }) after.last (files_in after) after.bytes start now' began count'
 stands-stays book before after old new start now now' began count count' folder' stands first stays keeps le =
-    let same : ShowsSame book.first (files_in before) (files_in after) = subst (λ (n : ℕ). ShowsSame n (files_in before) (files_in after)) (sym first) stays.files in
+    let same : ShowsSame book.begin.first (files_in before) (files_in after) = subst (λ (n : ℕ). ShowsSame n (files_in before) (files_in after)) (sym first) stays.files in
     record {
       keeps =
-          subst (λ (l : ℕ). Reflects book.opening book.opened book.first book.capacity book.made book.time l after.bytes (files_in after)) (sym stays.last)
-          (subst (λ (v : ℕ). Reflects book.opening book.opened book.first book.capacity book.made book.time before.last v (files_in after)) (sym stays.kept)
-          (keeps-stays book.opening book.opened book.first book.capacity book.made book.time before.last before.bytes (files_in before) (files_in after) stands.keeps same));
-      folder = agrees-stays book.first book.only start now now' (files_in before) (files_in after) stands.folder same keeps;
+          subst (λ (l : ℕ). Reflects book.begin book.made book.time l after.bytes (files_in after)) (sym stays.last)
+          (subst (λ (v : ℕ). Reflects book.begin book.made book.time before.last v (files_in after)) (sym stays.kept)
+          (keeps-stays book.begin book.made book.time before.last before.bytes (files_in before) (files_in after) stands.keeps same));
+      folder = agrees-stays book.begin.first book.only start now now' (files_in before) (files_in after) stands.folder same keeps;
       faults = rose-stays began (faults_in book.made) count count' stands.faults le;
       timely = stands.timely;
-      within = stays.within (book.first + length book.made) stands.within;
+      within = stays.within (book.begin.first + length book.made) stands.within;
       number = stands.number;
       few =
           let old = stands.few in
@@ -210,50 +212,47 @@ stands-stays book before after old new start now now' began count count' folder'
           let is = long_joined after.rack.files.items after.rack.locks.files in
           omega (arith, old, same, was, is);
       places = stands.places;
+      free = stands.free;
     }
 
 -- what holds of every shard
 pub lawful : {F : Type 0} (book : Book F) (last : ℕ) (files : List Whole) (bytes : ℕ) (start now : Option Files) (began count : ℕ)
     → Stands book last files bytes start now began count → IsLawful book start now began count
 lawful book last files bytes start now began count stands = record {
-  legal = Legal-tick book.opening book.opened book.first (items_of book.made) book.time stands.keeps.legal;
-  folder = agrees-state book.only start now (files_of book.first files) (state_of book.opening book.opened book.first book.made book.time).files (torn_in files) (is_torn book.made)
+  legal = Legal-tick book.begin (items_of book.made) book.time stands.keeps.legal;
+  folder = agrees-state book.only start now (files_of book.begin.first files) (state_of book.begin book.made book.time).files (torn_in files) (is_torn book.made)
       (λ name. sym (ap (λ (f : File). f.contents) (stands.keeps.shows name))) stands.keeps.torn stands.folder;
   faults = stands.faults;
   timely = stands.timely;
-  alone = λ h. legal-untimed book.opening book.opened book.first book.made book.time (stands.timely h).timely
-      (Legal-tick book.opening book.opened book.first (items_of book.made) book.time stands.keeps.legal);
+  alone = λ h. legal-untimed book.begin book.made book.time (stands.timely h).timely
+      (Legal-tick book.begin (items_of book.made) book.time stands.keeps.legal);
 }
 
 -- the book with a step is that of the parts after it
 pub book_step : {F : Type 0} (book : Book F) (before after : Ledger) (old new : Notes) (call : Call) (pass floor moment : ℕ) (ruling : Ruling) (folder' : F)
-    → book.opening ≡ old.opening → book.opened ≡ before.opened → book.first ≡ before.first → book.capacity ≡ before.capacity → book.made ≡ old.made → book.time ≡ before.time
+    → book.begin ≡ old.begin → book.limits ≡ kept_limits before.capacity → book.made ≡ old.made → book.time ≡ before.time
     → Takes before after old new call pass floor moment ruling
     → (record book { made = book.made ++ made_by before call pass floor moment ruling ∷ []; time = max book.time moment; folder = folder' })
-    ≡ record { only = book.only; opening = new.opening; opened = after.opened; first = after.first; capacity = after.capacity; made = new.made; time = after.time; ticked = book.ticked; start = book.start; folder = folder' }
-book_step book before after old new call pass floor moment ruling folder' opening opened first capacity made time takes =
-    let opening' = opening ∙ sym takes.keeps.opening in
-    let opened' = opened ∙ sym takes.opened in
-    let first' = first ∙ sym takes.first in
-    let capacity' = capacity ∙ sym takes.capacity in
+    ≡ record { only = book.only; begin = new.begin; limits = kept_limits after.capacity; made = new.made; time = after.time; ticked = book.ticked; start = book.start; folder = folder' }
+book_step book before after old new call pass floor moment ruling folder' begin limits made time takes =
+    let begin' = begin ∙ sym takes.keeps.begin in
+    let limits' = limits ∙ ap kept_limits (sym takes.capacity) in
     let made' : book.made ++ made_by before call pass floor moment ruling ∷ [] ≡ new.made =
     ap (λ (m : List Made). m ++ made_by before call pass floor moment ruling ∷ []) made ∙ sym takes.entries in
     let time' : max book.time moment ≡ after.time = ap (λ (t : ℕ). max t moment) time ∙ sym takes.time in
-    λ i. record { only = book.only; opening = opening' i; opened = opened' i; first = first' i; capacity = capacity' i; made = made' i; time = time' i; ticked = book.ticked; start = book.start; folder = folder' }
+    λ i. record { only = book.only; begin = begin' i; limits = limits' i; made = made' i; time = time' i; ticked = book.ticked; start = book.start; folder = folder' }
 
 pub book_stays : {F : Type 0} (book : Book F) (before after : Ledger) (old new : Notes) (folder' : F)
-    → book.opening ≡ old.opening → book.opened ≡ before.opened → book.first ≡ before.first → book.capacity ≡ before.capacity → book.made ≡ old.made → book.time ≡ before.time
+    → book.begin ≡ old.begin → book.limits ≡ kept_limits before.capacity → book.made ≡ old.made → book.time ≡ before.time
     → Stays before after old new
     → (record book { folder = folder' })
-    ≡ record { only = book.only; opening = new.opening; opened = after.opened; first = after.first; capacity = after.capacity; made = new.made; time = after.time; ticked = book.ticked; start = book.start; folder = folder' }
-book_stays book before after old new folder' opening opened first capacity made time stays =
-    let opening' = opening ∙ sym stays.noted.opening in
-    let opened' = opened ∙ sym stays.opened in
-    let first' = first ∙ sym stays.first in
-    let capacity' = capacity ∙ sym stays.capacity in
+    ≡ record { only = book.only; begin = new.begin; limits = kept_limits after.capacity; made = new.made; time = after.time; ticked = book.ticked; start = book.start; folder = folder' }
+book_stays book before after old new folder' begin limits made time stays =
+    let begin' = begin ∙ sym stays.noted.begin in
+    let limits' = limits ∙ ap kept_limits (sym stays.capacity) in
     let made' = made ∙ sym stays.noted.made in
     let time' = time ∙ sym stays.time in
-    λ i. record { only = book.only; opening = opening' i; opened = opened' i; first = first' i; capacity = capacity' i; made = made' i; time = time' i; ticked = book.ticked; start = book.start; folder = folder' }
+    λ i. record { only = book.only; begin = begin' i; limits = limits' i; made = made' i; time = time' i; ticked = book.ticked; start = book.start; folder = folder' }
 
 pub rose-begin : (began count : ℕ) → began ≤ count → RoseBy began (faults_in []) count
 rose-begin began count le = omega (arith, le)
@@ -267,18 +266,19 @@ stands-tick book ledger start now began count moment time ss ticked m time_is ss
     let files = ledger.rack.files.items in
     let ended = all_ended time ledger.rack.locks.files in
     let bytes = ledger.bytes in
-    let passed : Reflects book.opening book.opened book.first book.capacity book.made time ledger.last bytes (files_in ledger) =
-    subst (λ (t : ℕ). Reflects book.opening book.opened book.first book.capacity book.made t ledger.last bytes (files_in ledger)) (sym time_is)
-    (keeps-tick book.opening book.opened book.first book.capacity book.made book.time ledger.last bytes (files_in ledger) stands.keeps moment m) in
+    let passed : Reflects book.begin book.made time ledger.last bytes (files_in ledger) =
+    subst (λ (t : ℕ). Reflects book.begin book.made t ledger.last bytes (files_in ledger)) (sym time_is)
+    (keeps-tick book.begin book.made book.time ledger.last bytes (files_in ledger) stands.keeps moment m) in
     record {
-      keeps = subst (λ (l : List Standing). Reflects book.opening book.opened book.first book.capacity book.made time ledger.last bytes (joined files l)) (sym ss_is)
-          (keeps-ended book.opening book.opened book.first book.capacity book.made time ledger.last bytes files ledger.rack.locks.files passed);
-      folder = agrees-state book.only start now (files_of book.first (files_in ledger)) (files_of book.first (joined files ss)) (torn_in (files_in ledger)) (torn_in (joined files ss))
-          (λ name. contents_any book.first files ss ledger.rack.locks.files name) (λ name. torn_any files ledger.rack.locks.files ss name) stands.folder;
+      keeps = subst (λ (l : List Standing). Reflects book.begin book.made time ledger.last bytes (joined files l)) (sym ss_is)
+          (keeps-ended book.begin book.made time ledger.last bytes files ledger.rack.locks.files passed);
+      folder = agrees-state book.only start now (files_of book.begin.first (files_in ledger)) (files_of book.begin.first (joined files ss)) (torn_in (files_in ledger)) (torn_in (joined files ss))
+          (λ name. contents_any book.begin.first files ss ledger.rack.locks.files name) (λ name. torn_any files ledger.rack.locks.files ss name) stands.folder;
       faults = stands.faults;
       timely = λ h. absurd (cc (h, ticks));
-      within = within_any (book.first + length book.made) files ledger.rack.locks.files ss stands.within;
+      within = within_any (book.begin.first + length book.made) files ledger.rack.locks.files ss stands.within;
       number = stands.number;
       few = let few = stands.few in let was = long_joined files ledger.rack.locks.files in let is = long_joined files ss in omega (arith, few, was, is);
       places = stands.places;
+      free = stands.free;
     }

@@ -1,13 +1,16 @@
 -- A history with its ticks and without.
-use Rattle.std.proofs.Common.{◌≡◌, ◌⊎◌, ℕ, suc, ◌+◌, ◌-◌, ◌^◌, ◌<◌, max, ◌==◌, Bool, true, false, if◌then◌else◌, List, [], ◌∷◌, ◌++◌, length, sum_by, refl, sym, ap, subst, ◌∙◌, arith}
+use Rattle.std.proofs.Common.{◌≡◌, ◌⊎◌, inl, inr, ℕ, suc, ◌+◌, ◌-◌, ◌^◌, ◌<◌, ◌≤◌, max, ◌==◌, Bool, true, false, if◌then◌else◌, List, [], ◌∷◌, ◌++◌, length, map, sum_by, Option, None, Some, refl, sym, ap, subst, ◌∙◌, arith}
 use Rattle.std.proofs.lemmas.List.{append-nil}
 use Rattle.wopi_model.specs.declared.calls.Call.{Call}
 use Rattle.wopi_model.specs.Settle.{settled}
 use Rattle.wopi_model.specs.Step.{Accept, decision, IsOutcome}
 use Rattle.wopi_model.specs.Shard as model
-use Rattle.wopi_model.specs.Shard.{Opening, Item, Tick, Step, Entry, Legal, IsAllowed, Along, opened_shard, at_moment, happens, after, entries, stamps, last_from}
-use Rattle.wopi_model.specs.Host.{FullAt, kept, new_bytes, brings_contents, most_kept}
-use Rattle.wopi_model.proofs.Histories.{after-append, at_moment-at_moment}
+use Rattle.wopi_model.specs.Begin.{Begin}
+use Rattle.wopi_model.specs.Lives.{begin_at, begin_after, begin_happens, bytes_of, left_of, live_bytes, live_ids}
+use Rattle.wopi_model.specs.Shard.{Item, Tick, Step, Entry, LegalFrom, IsAllowed, Along, begun, at_moment, happens, after, entries, stamps, last_from}
+use Rattle.wopi_model.specs.Host.{FullFrom, HasNoStampFrom, HasNoCall, HasNoBytes, HasNoId, Limits, file_at, found_at, new_bytes, begins_lock, brings_contents, kept_from, most_kept}
+use Rattle.wopi_model.proofs.Histories.{at_moment-at_moment}
+use Rattle.wopi_model.proofs.Living.{begin_at-begin_at, begun-left, left-append}
 use Rattle.host_core.specs.Entries.{Made, items_of, history_of}
 use Rattle.host_core.specs.Times.{steps_of, untimed, last_time, IsTimely, GoesByEntries, happened_of}
 use Rattle.host_core.proofs.History.{items_of-push}
@@ -24,12 +27,12 @@ pub entries-history : (made : List Made) (time : ℕ) → entries (history_of ma
 entries-history made time = entries-items made (Tick time ∷ []) ∙ append-nil (steps_of made)
 
 -- the bytes that are kept don't depend on ticks
-pub kept-untimed : (opening : Opening) (made : List Made) → kept opening (items_of made) ≡ kept opening (untimed made)
-kept-untimed opening made =
+pub kept-untimed : (begin : Begin) (made : List Made) → kept_from begin (items_of made) ≡ kept_from begin (untimed made)
+kept-untimed begin made =
     let same : entries (items_of made) ≡ entries (untimed made) =
     ap entries (sym (append-nil (items_of made))) ∙ entries-items made [] ∙ append-nil (steps_of made) ∙ sym (entries-untimed made)
     in
-    ap (λ (es : List Entry). sum_by (λ (file : List ℕ × List ℕ). length file.1) opening + sum_by (λ (entry : Entry). if entry.ruling.status == 200 then new_bytes entry.call.act else 0) es) same
+    ap (λ (es : List Entry). live_bytes begin.files + sum_by (λ (entry : Entry). if entry.ruling.status == 200 then new_bytes entry.call.act else 0) es) same
 
 -- how many entries there are neither
 pub length-untimed : (made : List Made) → length (entries (untimed made)) ≡ length made
@@ -70,48 +73,92 @@ along-untimed shard (one ∷ made) rest t a =
     let Q : model.Shard → Type 0 = λ s. Along IsAllowed s (items_of made ++ rest) in
     (here, along-untimed next made rest (subst (λ (n : ℕ). IsTimely n made) t.0 t.1) (subst Q (step_again shard one t.0) a.1.1))
 
-pub legal-untimed : (opening : Opening) (opened first : ℕ) (made : List Made) (time : ℕ) → IsTimely opened made → Legal opening opened first (history_of made time) → Legal opening opened first (untimed made)
-legal-untimed opening opened first made time t l = record {
-  allowed = along-untimed (opened_shard opening opened first) made (Tick time ∷ []) t l.allowed;
-  stamps = subst (λ (es : List Entry). model.RisesFrom 0 (stamps es)) (entries-history made time ∙ sym (entries-untimed made)) l.stamps;
+pub legal-untimed : (begin : Begin) (made : List Made) (time : ℕ) → IsTimely begin.now made → LegalFrom begin (history_of made time) → LegalFrom begin (untimed made)
+legal-untimed begin made time t l = record {
+  allowed = along-untimed (begun begin) made (Tick time ∷ []) t l.allowed;
+  stamps = subst (λ (es : List Entry). model.RisesFrom begin.last (stamps es)) (entries-history made time ∙ sym (entries-untimed made)) l.stamps;
 }
 
--- a call finds the same shard
-pub found-untimed : (opening : Opening) (opened first : ℕ) (made : List Made) (time m : ℕ) → IsTimely opened made → time ≡ last_time opened made
-    → at_moment (after (opened_shard opening opened first) (history_of made time)) m ≡ at_moment (after (opened_shard opening opened first) (untimed made)) m
-found-untimed opening opened first made time m t is =
-    let begin = opened_shard opening opened first in
-    let end = after begin (untimed made) in
-    let now : end.now ≡ time = after-now begin made t ∙ sym is in
-    ap (λ (s : model.Shard). at_moment s m) (after-append begin (items_of made) (Tick time ∷ []) ∙ ap (λ (s : model.Shard). at_moment s time) (after-untimed begin made t))
-    ∙ at_moment-at_moment end time m ∙ at_later end (max time m) m (omega arith)
+-- the same of what a part of a life leaves
+begin_later : (begin : Begin) (m n : ℕ) → max begin.now m ≡ max begin.now n → begin_at begin m ≡ begin_at begin n
+begin_later begin m n same =
+    λ i. record { opened = begin.opened; first = begin.first; now = same i; last = begin.last; files = map (λ one. (one.0, settled one.1 (same i))) begin.files }
 
--- what a shard is full by
-IsFullBy : Opening → ℕ → ℕ → ℕ → Call → List Entry → model.Shard → Type 0
-IsFullBy opening opened capacity floor call es at =
-    (length es ≡ capacity)
-    ⊎ ((max floor (last_from 0 (stamps es)) ≡ 2 ^ 64 - 1)
-    ⊎ ((decision (at.files call.name) call opened at.now ≡ Accept) × (brings_contents call.act ≡ true)
-    × (most_kept < (sum_by (λ (file : List ℕ × List ℕ). length file.1) opening + sum_by (λ (entry : Entry). if entry.ruling.status == 200 then new_bytes entry.call.act else 0) es) + new_bytes call.act)))
+begin_again : (begin : Begin) (one : Made) → one.time ≡ max begin.now one.step.moment → begin_happens (begin_at begin one.time) (Step one.step) ≡ begin_happens begin (Step one.step)
+begin_again begin one is =
+    let m = one.step.moment in
+    ap (λ (b : Begin). begin_after b one.step) (begin_at-begin_at begin one.time m ∙ begin_later begin (max one.time m) m (omega (arith, is)))
 
--- fullness looks at the entries and at the shard that a call finds
-full_both : (opening : Opening) (opened first capacity floor : ℕ) (call : Call) (m : ℕ) (h k : List Item) → entries h ≡ entries k
-    → at_moment (after (opened_shard opening opened first) h) m ≡ at_moment (after (opened_shard opening opened first) k) m → FullAt opening opened first capacity h floor call m → FullAt opening opened first capacity k floor call m
-unfolding IsFullBy
-full_both opening opened first capacity floor call m h k es at full =
-    let P : List Entry × model.Shard → Type 0 = λ p. IsFullBy opening opened capacity floor call p.0 p.1 in
-    let pair : (entries h, at_moment (after (opened_shard opening opened first) h) m) ≡ (entries k, at_moment (after (opened_shard opening opened first) k) m) = λ i. (es i, at i) in
+left-untimed : (begin : Begin) (made : List Made) → IsTimely begin.now made → left_of begin (items_of made) ≡ left_of begin (untimed made)
+left-untimed begin [] t = refl
+left-untimed begin (one ∷ made) t =
+    let next = begin_happens begin (Step one.step) in
+    ap (λ (b : Begin). left_of b (items_of made)) (begin_again begin one t.0) ∙ left-untimed next made (subst (λ (n : ℕ). IsTimely n made) t.0 t.1)
+
+-- what a call finds behind a tick
+found_timed : (begin : Begin) (made : List Made) (time m : ℕ) → found_at begin (history_of made time) m ≡ begin_at (left_of begin (items_of made)) (max time m)
+found_timed begin made time m =
+    let before = left_of begin (items_of made) in
+    ap (λ (b : Begin). begin_at b m) (left-append begin (items_of made) (Tick time ∷ [])) ∙ begin_at-begin_at before time m
+
+-- a call finds the same
+found-untimed : (begin : Begin) (made : List Made) (time m : ℕ) → IsTimely begin.now made → time ≡ last_time begin.now made
+    → found_at begin (history_of made time) m ≡ found_at begin (untimed made) m
+found-untimed begin made time m t is =
+    let end = left_of begin (untimed made) in
+    let now : end.now ≡ time = ap (λ (s : model.Shard). s.now) (begun-left begin (untimed made)) ∙ after-now (begun begin) made t ∙ sym is in
+    found_timed begin made time m ∙ ap (λ (b : Begin). begin_at b (max time m)) (left-untimed begin made t) ∙ begin_later end (max time m) m (omega (arith, now))
+
+-- and a call at a moment finds the same, whether time has gone on to it or not
+found-later : (begin : Begin) (made : List Made) (time m : ℕ) → found_at begin (history_of made (max time m)) m ≡ found_at begin (history_of made time) m
+found-later begin made time m =
+    let before = left_of begin (items_of made) in
+    found_timed begin made (max time m) m ∙ begin_later before (max (max time m) m) (max time m) (omega arith) ∙ sym (found_timed begin made time m)
+
+-- fullness looks at the entries, and at what a call finds
+stamp_both : (calls : Option ℕ) (last floor : ℕ) (h k : List Item) → entries h ≡ entries k → HasNoStampFrom calls last h floor → HasNoStampFrom calls last k floor
+stamp_both None last floor h k es full = subst (λ (l : List Entry). 2 ^ 63 - 1 ≤ max floor (last_from last (stamps l))) es full
+stamp_both (Some calls) last floor h k es full = subst (λ (l : List Entry). max floor (last_from last (stamps l)) ≡ 2 ^ 64 - 1) es full
+
+call_both : (calls : Option ℕ) (begin : Begin) (call : Call) (m : ℕ) (h k : List Item) → entries h ≡ entries k → found_at begin h m ≡ found_at begin k m → HasNoCall calls begin h call m → HasNoCall calls begin k call m
+call_both None begin call m h k es at full = full
+call_both (Some calls) begin call m h k es at full =
+    let size : Entry → ℕ = λ entry. if entry.ruling.status == 200 then new_bytes entry.call.act else 0 in
+    let P : List Entry × Begin → Type 0 = λ p.
+    (length p.0 ≡ calls)
+    ⊎ ((decision (file_at p.1 call) call p.1.opened p.1.now ≡ Accept) × (brings_contents call.act ≡ true)
+    × (most_kept < live_bytes begin.files + sum_by size p.0 + new_bytes call.act)) in
+    let pair : (entries h, found_at begin h m) ≡ (entries k, found_at begin k m) = λ i. (es i, at i) in
     subst P pair full
 
-module _ (opening : Opening) (opened first capacity : ℕ) (made : List Made) (time floor : ℕ) (call : Call) (m : ℕ) (timely : IsTimely opened made) (is : time ≡ last_time opened made) where
+bytes_both : (begin : Begin) (call : Call) (m : ℕ) (h k : List Item) → found_at begin h m ≡ found_at begin k m → HasNoBytes begin h call m → HasNoBytes begin k call m
+bytes_both begin call m h k at full =
+    let P : Begin → Type 0 = λ b.
+    (decision (file_at b call) call b.opened b.now ≡ Accept) × (brings_contents call.act ≡ true)
+    × (most_kept + bytes_of (file_at b call).contents < live_bytes b.files + new_bytes call.act) in
+    subst P at full
+
+id_both : (ids : ℕ) (begin : Begin) (call : Call) (m : ℕ) (h k : List Item) → found_at begin h m ≡ found_at begin k m → HasNoId ids begin h call m → HasNoId ids begin k call m
+id_both ids begin call m h k at full =
+    let P : Begin → Type 0 = λ b. (decision (file_at b call) call b.opened b.now ≡ Accept) × (begins_lock (file_at b call) call.act ≡ true) × (ids ≤ live_ids b.files) in
+    subst P at full
+
+full_both : (limits : Limits) (begin : Begin) (floor : ℕ) (call : Call) (m : ℕ) (h k : List Item) → entries h ≡ entries k → found_at begin h m ≡ found_at begin k m
+    → FullFrom limits begin h floor call m → FullFrom limits begin k floor call m
+full_both limits begin floor call m h k es at (inl stamp) = inl (stamp_both limits.calls begin.last floor h k es stamp)
+full_both limits begin floor call m h k es at (inr (inl none)) = inr (inl (call_both limits.calls begin call m h k es at none))
+full_both limits begin floor call m h k es at (inr (inr (inl bytes))) = inr (inr (inl (bytes_both begin call m h k at bytes)))
+full_both limits begin floor call m h k es at (inr (inr (inr id))) = inr (inr (inr (id_both limits.ids begin call m h k at id)))
+
+module _ (limits : Limits) (begin : Begin) (made : List Made) (time floor : ℕ) (call : Call) (m : ℕ) (timely : IsTimely begin.now made) (is : time ≡ last_time begin.now made) where
   same_entries : entries (history_of made time) ≡ entries (untimed made)
   same_entries = entries-history made time ∙ sym (entries-untimed made)
 
-  pub full-untimed : FullAt opening opened first capacity (history_of made time) floor call m → FullAt opening opened first capacity (untimed made) floor call m
-  full-untimed = full_both opening opened first capacity floor call m (history_of made time) (untimed made) same_entries (found-untimed opening opened first made time m timely is)
+  pub full-untimed : FullFrom limits begin (history_of made time) floor call m → FullFrom limits begin (untimed made) floor call m
+  full-untimed = full_both limits begin floor call m (history_of made time) (untimed made) same_entries (found-untimed begin made time m timely is)
 
-  pub full-timed : FullAt opening opened first capacity (untimed made) floor call m → FullAt opening opened first capacity (history_of made time) floor call m
-  full-timed = full_both opening opened first capacity floor call m (untimed made) (history_of made time) (sym same_entries) (sym (found-untimed opening opened first made time m timely is))
+  pub full-timed : FullFrom limits begin (untimed made) floor call m → FullFrom limits begin (history_of made time) floor call m
+  full-timed = full_both limits begin floor call m (untimed made) (history_of made time) (sym same_entries) (sym (found-untimed begin made time m timely is))
 
 pub last_time-push : (time : ℕ) (made : List Made) (one : Made) → last_time time (made ++ one ∷ []) ≡ one.time
 last_time-push time [] one = refl
@@ -148,32 +195,22 @@ happened-push true made one =
 happened-push false made one = untimed-push made one
 
 -- what has happened is legal
-pub legal-happened : (b : Bool) (opening : Opening) (opened first : ℕ) (made : List Made) (time : ℕ) → Legal opening opened first (history_of made time) → (b ≡ false → Legal opening opened first (untimed made))
-    → Legal opening opened first (happened_of b made time)
-legal-happened true opening opened first made time legal alone = legal
-legal-happened false opening opened first made time legal alone = alone refl
+pub legal-happened : (b : Bool) (begin : Begin) (made : List Made) (time : ℕ) → LegalFrom begin (history_of made time) → (b ≡ false → LegalFrom begin (untimed made))
+    → LegalFrom begin (happened_of b made time)
+legal-happened true begin made time legal alone = legal
+legal-happened false begin made time legal alone = alone refl
 
--- a call at a moment finds the same shard, whether time has gone on to it or not
-found-later : (opening : Opening) (opened first : ℕ) (made : List Made) (time m : ℕ)
-    → at_moment (after (opened_shard opening opened first) (history_of made (max time m))) m ≡ at_moment (after (opened_shard opening opened first) (history_of made time)) m
-found-later opening opened first made time m =
-    let begin = opened_shard opening opened first in
-    let before = after begin (items_of made) in
-    let at_tick : (t : ℕ) → at_moment (after begin (history_of made t)) m ≡ at_moment before (max t m) =
-    λ t. ap (λ (s : model.Shard). at_moment s m) (after-append begin (items_of made) (Tick t ∷ [])) ∙ at_moment-at_moment before t m in
-    at_tick (max time m) ∙ at_later before (max (max time m) m) (max time m) (omega arith) ∙ sym (at_tick time)
-
-module _ (opening : Opening) (opened first capacity : ℕ) (made : List Made) (time floor : ℕ) (call : Call) (m : ℕ) where
+module _ (limits : Limits) (begin : Begin) (made : List Made) (time floor : ℕ) (call : Call) (m : ℕ) where
   -- what the shard is full by before an entry, it was full by when the call came
-  pub full-found : (b : Bool) → (b ≡ false → GoesByEntries opened made time) → FullAt opening opened first capacity (happened_of b made (max time m)) floor call m
-      → FullAt opening opened first capacity (history_of made time) floor call m
+  pub full-found : (b : Bool) → (b ≡ false → GoesByEntries begin.now made time) → FullFrom limits begin (happened_of b made (max time m)) floor call m
+      → FullFrom limits begin (history_of made time) floor call m
   full-found true goes full =
       let later = max time m in
       let same : entries (history_of made later) ≡ entries (history_of made time) = entries-history made later ∙ sym (entries-history made time) in
-      full_both opening opened first capacity floor call m (history_of made later) (history_of made time) same (found-later opening opened first made time m) full
-  full-found false goes full = full-timed opening opened first capacity made time floor call m (goes refl).timely (goes refl).time_is full
+      full_both limits begin floor call m (history_of made later) (history_of made time) same (found-later begin made time m) full
+  full-found false goes full = full-timed limits begin made time floor call m (goes refl).timely (goes refl).time_is full
 
-  pub full-happened : (b : Bool) → (b ≡ false → GoesByEntries opened made time) → FullAt opening opened first capacity (history_of made time) floor call m
-      → FullAt opening opened first capacity (happened_of b made time) floor call m
+  pub full-happened : (b : Bool) → (b ≡ false → GoesByEntries begin.now made time) → FullFrom limits begin (history_of made time) floor call m
+      → FullFrom limits begin (happened_of b made time) floor call m
   full-happened true goes full = full
-  full-happened false goes full = full-untimed opening opened first capacity made time floor call m (goes refl).timely (goes refl).time_is full
+  full-happened false goes full = full-untimed limits begin made time floor call m (goes refl).timely (goes refl).time_is full

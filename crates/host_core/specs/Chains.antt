@@ -17,4 +17,4 @@ chain_at (chain ∷ chains) (suc number) = chain_at chains number
 abbrev pub KeepsChains : {F : Type 0} → Ledger → Book F → Type 0
 KeepsChains ledger book =
     (name : List ℕ) (number : ℕ) → place_in (named ledger.rack.files.items) name ≡ Some number
-    → still_spent (chain_at ledger.rack.locks.chains number) book.time ≡ ((state_of book.opening book.opened book.first book.made book.time).files name).spent
+    → still_spent (chain_at ledger.rack.locks.chains number) book.time ≡ ((state_of book.begin book.made book.time).files name).spent

@@ -1,21 +1,22 @@
 -- What a listing shows, and what asking for one leaves. (Own.)
 use Rattle.std.specs.Prelude.{◌≡◌, ⊤, ℕ, ◌+◌, List, [], ◌∷◌, length}
 use Rattle.std.specs.List.{AllByRecursion}
-use Rattle.wopi_model.specs.Shard.{Opening, Item, opened_shard, after, entries}
+use Rattle.wopi_model.specs.Begin.{Begin}
+use Rattle.wopi_model.specs.Shard.{Item, begun, after, entries}
 use Rattle.host_core.specs.declared.listing.Listing.{Listing}
 use Rattle.host_core.specs.Caller.{Sight, Extends, FramesAt}
 use Rattle.host_core.specs.Children.{AreChildren}
 
 -- The listing shows the shard of that number after this history: `place` is how many entries stand there, and the children are
 -- the files that exist then.
-pub record IsListing (shard : ℕ) (opening : Opening) (opened first : ℕ) (history : List Item) (listing : Listing) : Type 0 where
+pub record IsListing (shard : ℕ) (begin : Begin) (history : List Item) (listing : Listing) : Type 0 where
   pub shard_is : listing.shard ≡ shard
   pub place_is : listing.place ≡ length (entries history)
-  pub children_are : AreChildren (after (opened_shard opening opened first) history).files listing.children
+  pub children_are : AreChildren (after (begun begin) history).files listing.children
 
 -- The listing shows the shard of that number after all that was seen of it, and each child's name is of this shard.
 pub record Lists (sight : Sight) (shard : ℕ) (listing : Listing) : Type 0 where
-  pub shows : IsListing shard (sight.openings shard) sight.opened sight.first (sight.seen shard) listing
+  pub shows : IsListing shard (sight.begins shard) (sight.seen shard) listing
   pub homes : AllByRecursion (λ child. sight.home child.name ≡ shard) listing.children
 
 -- What asking for a listing of that shard leaves, whatever comes of it: no entry is made, what is seen of the shard begins with
@@ -38,12 +39,10 @@ pub record ListsAll (count : ℕ) (sight : Sight) (listings : List Listing) : Ty
 -- What no call and no listing changes, and what only grows.
 pub record Follows (old new : Sight) : Type 0 where
   pub seen : (shard : ℕ) → Extends (entries (old.seen shard)) (entries (new.seen shard))
-  pub openings : (shard : ℕ) → new.openings shard ≡ old.openings shard
+  pub begins : (shard : ℕ) → new.begins shard ≡ old.begins shard
   pub home : (name : List ℕ) → new.home name ≡ old.home name
   pub pass : new.pass ≡ old.pass
-  pub capacity : new.capacity ≡ old.capacity
-  pub opened : new.opened ≡ old.opened
-  pub first : new.first ≡ old.first
+  pub limits : new.limits ≡ old.limits
   pub ticked : new.ticked ≡ old.ticked
 
 -- what asking for listings of any shards leaves

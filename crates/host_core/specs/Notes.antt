@@ -1,5 +1,6 @@
 -- What a store has noted.
 use Rattle.std.specs.Prelude.{◌≡◌, ◌==◌, ℕ, List, map, unwrap_or, [], Option, None, Some, option_map, if◌then◌else◌}
+use Rattle.wopi_model.specs.Begin.{Begin}
 use Rattle.wopi_model.specs.Shard.{Opening}
 use Rattle.host_core.specs.declared.file.KeptFile.{KeptFile}
 use Rattle.host_core.specs.Entries.{Made, Asked, brought_by}
@@ -12,10 +13,10 @@ Brought = Option ℕ × List ℕ
 abbrev pub saved_in : Made → Option Brought
 saved_in one = if one.step.ruling.status == 200 then option_map (λ contents. (one.step.ruling.version, contents)) (brought_by one.step.call.act) else None
 
--- The files of the opening, the entries, and the one that was begun and has no ruling yet. `saved` are the contents that the folder took
+-- What the shard began with, the entries, and the one that was begun and has no ruling yet. `saved` are the contents that the folder took
 -- since the last one was begun, and `most` is how many entries there may be.
 pub record Notes : Type 0 where
-  pub opening : Opening
+  pub begin : Begin
   pub made : List Made
   pub begun : Option Asked
   pub saved : Option Brought
@@ -31,12 +32,12 @@ opening_listed files = map (λ file. (file.name, unwrap_or file.contents [])) fi
 
 -- nothing was noted meanwhile
 pub record StaysNoted (old new : Notes) : Type 0 where
-  pub opening : new.opening ≡ old.opening
+  pub begin : new.begin ≡ old.begin
   pub made : new.made ≡ old.made
   pub begun : new.begun ≡ old.begun
   pub most : new.most ≡ old.most
 
 -- nor was the rest changed when an entry was noted
 pub record KeepsOpen (old new : Notes) : Type 0 where
-  pub opening : new.opening ≡ old.opening
+  pub begin : new.begin ≡ old.begin
   pub most : new.most ≡ old.most

@@ -1,5 +1,7 @@
 -- A shard as the definitions see it.
 use Rattle.std.specs.Prelude.{List, map, Some, option_map}
+use Rattle.wopi_model.specs.Begin.{new_life}
+use Rattle.wopi_model.specs.Host.{kept_limits}
 use Rattle.wopi_model.specs.Shard.{Opening}
 use Rattle.host_core.specs.declared.shard.Shard.TheInside.{Inside}
 use Rattle.host_core.specs.declared.past.Past.TheInside as past
@@ -12,10 +14,8 @@ use Rattle.host_core.specs.Value.{Book, Left, InMemory}
 abbrev pub book_of : {F : Type 0} → Notes → Inside F → Book F
 book_of notes s = record {
   only = s.only.value;
-  opening = notes.opening;
-  opened = s.ledger.opened;
-  first = s.ledger.first;
-  capacity = s.ledger.capacity;
+  begin = notes.begin;
+  limits = kept_limits s.ledger.capacity;
   made = notes.made;
   time = s.ledger.time;
   ticked = s.ticked.value;
@@ -32,5 +32,12 @@ left_of p = record { opening = files_listed p.opening.items; made = p.entries.it
 abbrev pub kept_of : {F : Type 0} → store.Inside F → InMemory F
 kept_of k = record {
   folder = k.folder;
-  notes = record { opening = files_listed k.opening.items; made = k.entries.made; begun = k.entries.begun; saved = option_map (λ one. (Some one.version, one.contents)) k.saved; most = k.entries.most };
+  opening = files_listed k.opening.items;
+  notes = record {
+    begin = new_life (files_listed k.opening.items) k.opened k.first;
+    made = k.entries.made;
+    begun = k.entries.begun;
+    saved = option_map (λ one. (Some one.version, one.contents)) k.saved;
+    most = k.entries.most;
+  };
 }

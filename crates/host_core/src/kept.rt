@@ -1,6 +1,7 @@
 //! A store that keeps all entries in memory, with the contents that were accepted.
 ghost use Rattle.std.specs.Prelude.{◌≡◌, ◌≤◌, ◌++◌, ◌∷◌, [], length, option_map, slice_get, IfOk, OnOk, OnErr};
-ghost use Rattle.wopi_model.specs.Host.{kept};
+ghost use Rattle.wopi_model.specs.Begin.{new_life};
+ghost use Rattle.wopi_model.specs.Host.{kept_from};
 ghost use Rattle.host_core.specs.Notes.{opening_listed};
 ghost use Rattle.host_core.specs.ShardView.{files_listed};
 ghost use Rattle.host_core.specs.Times.{untimed};
@@ -36,13 +37,16 @@ pub struct Saved {
     pub contents: Contents,
 }
 
-/// A folder, and the opening files, the entries and the accepted contents of a shard over it. What stands with a file lies
-/// once, for it and for the entry that brought it; so do contents that were saved again. `room` is taken before a save, and
-/// written to only where there is no memory to count owners.
+/// A folder, and the opening files, the entries and the accepted contents of a shard over it; and when that opened, with
+/// the version of its opening files. What stands with a file lies once, for it and for the entry that brought it; so do
+/// contents that were saved again. `room` is taken before a save, and written to only where there is no memory to count
+/// owners.
 #[derive(Drop)]
 pub struct Kept<F: Folder> {
     folder: F,
     opening: Vec<OpeningFile>,
+    opened: u64,
+    first: u64,
     entries: Entries,
     saved: Option<Saved>,
     room: Vec<u8>,
@@ -66,6 +70,8 @@ impl<F: Folder> Kept<F> {
         Kept {
             folder,
             opening: Vec::new(alloc),
+            opened: 0,
+            first: 1,
             entries: Entries::new(alloc),
             saved: None,
             room: Vec::new(alloc),
@@ -86,6 +92,8 @@ impl<F: Folder> Kept<F> {
         let Kept {
             folder,
             opening: _opening,
+            opened: _opened,
+            first: _first,
             entries: _entries,
             saved: _saved,
             room: _room,
@@ -95,15 +103,18 @@ impl<F: Folder> Kept<F> {
 
     /// Gives the folder, and what was noted by a shard that began with that store and keeps so many bytes. It needs no
     /// memory. Room that nothing took is given up, and where the allocator refuses a smaller piece it stays with what is
-    /// left.
+    /// left. The shard began a new life with the files of its opening.
     pub fn end(self, start: Snapshot<Kept<F>>, bytes: u64) -> (F, Past<F>)
-        requires { bytes ≡ kept self.notes.opening (untimed self.notes.made) }
+        requires { bytes ≡ kept_from self.notes.begin (untimed self.notes.made) }
         ensures folder { result.0 ≡ self.folder }
-        ensures past { result.1 ≡ record { opening = self.notes.opening; made = self.notes.made; start = start.value.folder } }
+        ensures begin { self.notes.begin ≡ new_life self.opening self.notes.begin.opened self.notes.begin.first }
+        ensures past { result.1 ≡ record { opening = self.opening; made = self.notes.made; start = start.value.folder } }
     {
         let Kept {
             folder,
             mut opening,
+            opened: _opened,
+            first: _first,
             entries,
             saved: _saved,
             room: _room,
@@ -119,10 +130,11 @@ impl<F: Folder> Kept<F> {
     }
 }
 
-/// Gives the folder as the last step of a shard left it, and what the shard leaves. It needs no memory.
+/// Gives the folder as the last step of a shard left it, and what the shard leaves, which began a new life. It needs no memory.
 pub fn leave<F: Folder>(shard: Shard<Kept<F>>) -> (F, Past<F>)
     ensures folder { result.0 ≡ shard.folder.folder }
-    ensures past { result.1 ≡ record { opening = shard.opening; made = shard.made; start = shard.start.folder } }
+    ensures begin { shard.begin ≡ new_life shard.folder.opening shard.begin.opened shard.begin.first }
+    ensures past { result.1 ≡ record { opening = shard.folder.opening; made = shard.made; start = shard.start.folder } }
     ensures lawful { IsLawful shard (F.files shard.start.folder) (F.files shard.folder.folder) (F.faults shard.start.folder) (F.faults shard.folder.folder) }
 {
     let bytes = shard.bytes();
@@ -197,6 +209,8 @@ impl<F: Folder> Store for Kept<F> {
         &mut self,
         alloc: Global,
         opening: &Vec<KeptFile>,
+        opened: u64,
+        first: u64,
         capacity: u32,
     ) -> Result<(), Memory> {
         let copies = match copy_files(alloc, opening) {
@@ -208,6 +222,8 @@ impl<F: Folder> Store for Kept<F> {
             Err(memory) => return Err(memory),
         };
         self.opening = copies;
+        self.opened = opened;
+        self.first = first;
         self.entries = entries;
         Ok(())
     }

@@ -5,6 +5,7 @@ ghost use Rattle.outside.specs.Folder.{Keeps, Replaces, OpensOnly, Removes};
 ghost use Rattle.host_core.specs.Entries.{Asked, asked_as, ruled};
 ghost use Rattle.host_core.specs.Entry.{is_status};
 ghost use Rattle.host_core.specs.Notes.{Notes, IsBegunOn, opening_listed, saved_in, StaysNoted, KeepsOpen};
+ghost use Rattle.wopi_model.specs.Begin.{new_life};
 
 use crate::contents::Contents;
 use crate::entry::Beginning;
@@ -23,8 +24,15 @@ pub trait Store: Folder {
     ghost notes: { Self → Notes };
 
     /// Begins anew with the files of an opening, and takes the room for so many entries.
-    fn open(&mut self, alloc: Global, opening: &Vec<KeptFile>, capacity: u32) -> Result<(), Memory>
-        ensures opening { OnOk result ((notes self.new).opening ≡ opening_listed opening.now.items) }
+    fn open(
+        &mut self,
+        alloc: Global,
+        opening: &Vec<KeptFile>,
+        opened: u64,
+        first: u64,
+        capacity: u32,
+    ) -> Result<(), Memory>
+        ensures begin { OnOk result ((notes self.new).begin ≡ new_life (opening_listed opening.now.items) opened first) }
         ensures made { OnOk result ((notes self.new).made ≡ []) }
         ensures begun { OnOk result ((notes self.new).begun ≡ None) }
         ensures most { OnOk result (capacity ≤ (notes self.new).most) }

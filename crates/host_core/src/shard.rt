@@ -3,8 +3,9 @@ ghost use Rattle.std.specs.Prelude.{◌≡◌, ◌≢◌, ◌≤◌, ◌<◌, �
 ghost use Rattle.outside.specs.Folder.{Keeps};
 ghost use Rattle.outside.specs.Faults.{Rose};
 ghost use Rattle.wopi_model.specs.Moment.{IsMoment};
-ghost use Rattle.wopi_model.specs.Host.{FullAt, kept};
-ghost use Rattle.wopi_model.specs.Shard.{last_from, stamps, entries, opening_file, AreNames};
+ghost use Rattle.wopi_model.specs.Begin.{new_life};
+ghost use Rattle.wopi_model.specs.Host.{FullFrom, kept_from, kept_limits};
+ghost use Rattle.wopi_model.specs.Shard.{Opening, last_from, stamps, entries, AreNames};
 ghost use Rattle.host_core.specs.Whole.{standing_at};
 ghost use Rattle.kept_locks.specs.Locks.{unlocked};
 ghost use Rattle.host_core.specs.Stock.{IsStock};
@@ -95,18 +96,15 @@ impl<F: Store> Shard<F> {
         requires first { IsFirstVersion first }
         ensures opened { IfOk result (λ shard. shard ≡ record {
           only = only;
-          opening = shard.opening;
-          opened = opened;
-          first = first;
-          capacity = capacity;
+          begin = shard.begin;
+          limits = kept_limits capacity;
           made = [];
           time = opened;
           ticked = false;
           start = folder;
           folder = shard.folder;
         }) }
-        ensures opening { IfOk result (λ shard. IsOpening only (F.files folder) shard.opening) }
-        ensures fits { IfOk result (λ shard. Fits shard.opening) }
+        ensures opening { IfOk result (λ shard. (opening : Opening) × (shard.begin ≡ new_life opening opened first) × IsOpening only (F.files folder) opening × Fits opening) }
         ensures same { IfOk result (λ shard. Keeps (F.files folder) (F.files shard.folder)) }
         ensures never_falls { IfOk result (λ shard. F.faults folder ≤ F.faults shard.folder) }
         ensures lawful { IfOk result (λ shard. IsLawful shard (F.files shard.start) (F.files shard.folder) (F.faults shard.start) (F.faults shard.folder)) }
@@ -121,7 +119,7 @@ impl<F: Store> Shard<F> {
             Ok(stock) => stock,
             Err(fault) => return Err((folder, fault)),
         };
-        match folder.open(alloc, &stock.files, capacity) {
+        match folder.open(alloc, &stock.files, opened, first, capacity) {
             Ok(()) => {}
             Err(_) => return Err((folder, StartFault::Memory)),
         }
@@ -164,11 +162,11 @@ impl<F: Store> Shard<F> {
           time = max self.old.time moment;
           folder = self.new.folder;
         }) }
-        ensures stamp { IfOk result (λ step. step.0 ≡ max (last_from 0 (stamps (entries (history_of self.old.made self.old.time)))) floor + 1) }
+        ensures stamp { IfOk result (λ step. step.0 ≡ max (last_from self.old.begin.last (stamps (entries (history_of self.old.made self.old.time)))) floor + 1) }
         ensures back { IfOk result (λ step. step.2 ≡ back_of call.act step.1) }
-        ensures room { OnOk result (FullAt self.old.opening self.old.opened self.old.first self.old.capacity (history_of self.old.made self.old.time) floor call moment → ⊥) }
+        ensures room { OnOk result (FullFrom self.old.limits self.old.begin (history_of self.old.made self.old.time) floor call moment → ⊥) }
         ensures full { IfErr result (λ fault. IsFullFault fault
-            → FullAt self.old.opening self.old.opened self.old.first self.old.capacity (history_of self.old.made self.old.time) floor call moment) }
+            → FullFrom self.old.limits self.old.begin (history_of self.old.made self.old.time) floor call moment) }
         ensures err { OnErr result (self.new ≡ record self.old { folder = self.new.folder }) }
         ensures call { IfErr result (λ fault. handed_back fault ≡ call) }
         ensures light { IfErr result (λ fault. is_lock_act call.act ≡ true → IsFullFault fault) }
@@ -206,11 +204,11 @@ impl<F: Store> Shard<F> {
           time = max self.old.time moment;
           folder = self.new.folder;
         }) }
-        ensures stamp { IfOk result (λ stamp. stamp ≡ max (last_from 0 (stamps (entries (history_of self.old.made self.old.time)))) floor + 1) }
+        ensures stamp { IfOk result (λ stamp. stamp ≡ max (last_from self.old.begin.last (stamps (entries (history_of self.old.made self.old.time)))) floor + 1) }
         ensures back { OnOk result (carried.new.back ≡ back_of call.old.act carried.new.ruling) }
-        ensures room { OnOk result (FullAt self.old.opening self.old.opened self.old.first self.old.capacity (history_of self.old.made self.old.time) floor call.old moment → ⊥) }
+        ensures room { OnOk result (FullFrom self.old.limits self.old.begin (history_of self.old.made self.old.time) floor call.old moment → ⊥) }
         ensures full { IfErr result (λ why. why ≡ StoreRefusal.Full
-            → FullAt self.old.opening self.old.opened self.old.first self.old.capacity (history_of self.old.made self.old.time) floor call.old moment) }
+            → FullFrom self.old.limits self.old.begin (history_of self.old.made self.old.time) floor call.old moment) }
         ensures err { OnErr result (self.new ≡ record self.old { folder = self.new.folder }) }
         ensures call { OnErr result (call.new ≡ call.old) }
         ensures light { IfErr result (λ why. is_lock_act call.old.act ≡ true → why ≡ StoreRefusal.Full) }
@@ -263,16 +261,16 @@ impl<F: Store> Shard<F> {
         self.folder.count()
     }
 
-    /// How many bytes the opening files had, and all contents that were accepted since.
+    /// How many bytes the files had at the beginning, and all contents that were accepted since.
     pub fn bytes(&self) -> u64
-        ensures { result ≡ kept self.now.opening (untimed self.now.made) }
+        ensures { result ≡ kept_from self.now.begin (untimed self.now.made) }
     {
         self.ledger.bytes
     }
 
     /// Whether it has used nine tenths of its room: of its entries, or of its bytes.
     pub fn is_nearly_full(&self) -> bool
-        ensures value { IsTrue result ↔ IsNearlyFull self.now.capacity self.now.opening (untimed self.now.made) }
+        ensures value { IsTrue result ↔ IsNearlyFull self.now.limits.calls self.now.begin (untimed self.now.made) }
         ensures lawful { IsLawful self.now (F.files self.now.start) (F.files self.now.folder) (F.faults self.now.start) (F.faults self.now.folder) }
     {
         are_nine_tenths(self.ledger.capacity, self.len(), self.bytes())
@@ -280,8 +278,8 @@ impl<F: Store> Shard<F> {
 
     /// A file as it stands, where its name was met: where it has a version from `first` on.
     pub fn file(&self, name: &FileName) -> Option<FileView<'_>>
-        ensures met { IsSome result ↔ (self.now.first ≤ ((state_of self.now.opening self.now.opened self.now.first self.now.made self.now.time).files name.now).version) }
-        ensures view { IfSome result (λ view. IsViewOf view ((state_of self.now.opening self.now.opened self.now.first self.now.made self.now.time).files name.now) (is_torn self.now.made name.now)) }
+        ensures met { IsSome result ↔ (self.now.begin.first ≤ ((state_of self.now.begin self.now.made self.now.time).files name.now).version) }
+        ensures view { IfSome result (λ view. IsViewOf view ((state_of self.now.begin self.now.made self.now.time).files name.now) (is_torn self.now.made name.now)) }
     {
         match self.ledger.rack.index.find(name) {
             None => None,
@@ -299,7 +297,7 @@ impl<F: Store> Shard<F> {
 
     /// The names that were met, in the order of their bytes.
     pub fn names(&self) -> Result<NameList, Memory>
-        ensures { IfOk result (AreNames (state_of self.now.opening self.now.opened self.now.first self.now.made self.now.time)) }
+        ensures { IfOk result (AreNames (state_of self.now.begin self.now.made self.now.time)) }
     {
         match names_of(
             self.ledger.alloc,
@@ -314,7 +312,7 @@ impl<F: Store> Shard<F> {
     /// The files that exist, in the order of their names' bytes. It walks the index of names, and looks at no entry and
     /// no contents.
     pub fn children(&self) -> Result<Children, Memory>
-        ensures { IfOk result (AreChildren (state_of self.now.opening self.now.opened self.now.first self.now.made self.now.time).files) }
+        ensures { IfOk result (AreChildren (state_of self.now.begin self.now.made self.now.time).files) }
     {
         match children_of(
             self.ledger.alloc,
@@ -349,16 +347,14 @@ impl<F: Store> Shard<F> {
         requires slots { capacity ≤ (F.notes folder).most }
         requires made { (F.notes folder).made ≡ [] }
         requires ended { (F.notes folder).begun ≡ None }
-        requires listed { (F.notes folder).opening ≡ opening_listed stock.files.items }
+        requires listed { (F.notes folder).begin ≡ new_life (opening_listed stock.files.items) opened first }
         requires opening { IsOpening only (F.files start.value) (opening_listed stock.files.items) }
         requires same { Keeps (F.files start.value) (F.files folder) }
         requires faults { F.faults start.value ≤ F.faults folder }
         ensures value { result ≡ record {
           only = only;
-          opening = opening_listed stock.files.items;
-          opened = opened;
-          first = first;
-          capacity = capacity;
+          begin = new_life (opening_listed stock.files.items) opened first;
+          limits = kept_limits capacity;
           made = [];
           time = opened;
           ticked = false;
@@ -390,9 +386,9 @@ impl<F: Store> Shard<F> {
         }
     }
 
-    /// The last stamp, or 0.
+    /// The last stamp, or the last one before the beginning.
     pub fn last(&self) -> u64
-        ensures { result ≡ last_from 0 (stamps (entries (history_of self.now.made self.now.time))) }
+        ensures { result ≡ last_from self.now.begin.last (stamps (entries (history_of self.now.made self.now.time))) }
     {
         self.ledger.last
     }
@@ -401,7 +397,7 @@ impl<F: Store> Shard<F> {
     pub fn end(self) -> (F, Snapshot<F>)
         ensures folder { result.0 ≡ self.folder }
         ensures start { result.1.value ≡ self.start }
-        ensures opening { (F.notes result.0).opening ≡ self.opening }
+        ensures begin { (F.notes result.0).begin ≡ self.begin }
         ensures made { (F.notes result.0).made ≡ self.made }
         ensures lawful { IsLawful self (F.files self.start) (F.files self.folder) (F.faults self.start) (F.faults self.folder) }
     {

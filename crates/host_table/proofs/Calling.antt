@@ -6,33 +6,35 @@ use Rattle.std.specs.Prelude as Prelude
 use Rattle.wopi_text.specs.FileName.{shard_of}
 use Rattle.wopi_text.specs.declared.faults.Memory.{Memory}
 use Rattle.wopi_model.specs.declared.calls.Call.{Call}
-use Rattle.wopi_model.specs.Shard.{Opening, Item, Step, Entry, Legal, RisesFrom, entries, stamps, last_from}
-use Rattle.wopi_model.specs.Host.{FullAt}
+use Rattle.wopi_model.specs.File.{File}
+use Rattle.wopi_model.specs.Begin.{Begin}
+use Rattle.wopi_model.specs.Shard.{Item, Step, Entry, LegalFrom, RisesFrom, entries, stamps, last_from}
+use Rattle.wopi_model.specs.Host.{FullFrom, Limits}
 use Rattle.host_core.specs.declared.caller.Receipt.{Receipt}
 use Rattle.host_core.specs.declared.caller.CallFault.{CallFault}
 use Rattle.host_core.specs.Entries.{Made}
 use Rattle.host_core.specs.declared.listing.Listing.{Listing}
 use Rattle.host_core.specs.Opening.{MayKeep}
-use Rattle.host_core.specs.Caller.{entry_of, Extends, Makes, Refuses, Frames, FramesAt, IsFullCall}
+use Rattle.host_core.specs.Caller.{entry_of, next_stamp, Extends, Makes, Refuses, Frames, FramesAt, IsFullCall}
 use Rattle.host_core.specs.Fullness.{IsNearlyFull, IsNearlyFullAt}
 use Rattle.host_core.specs.Listing.{IsListing, Lists, LooksAt}
 use Rattle.host_core.specs.Value.{Book}
 use Rattle.host_core.specs.Times.{steps_of, untimed}
-use Rattle.host_table.specs.Histories.{last_stamp, IsSeen}
-use Rattle.host_table.specs.Passes.{Place, PassView, Own, stamp_of, own_of, lock_of, base_of, top, seen_at, opening_seen, opening_at, sight_of, IsBase, Owns, HasOwn, IsSeat, IsPass, HasSeen, IsSamePass}
+use Rattle.host_table.specs.Histories.{IsSeen}
+use Rattle.host_table.specs.Passes.{Place, PassView, Own, stamp_of, own_of, lock_of, base_of, begin_seen, last_seen, top, seen_at, beginning_at, sight_of, IsBase, Owns, HasOwn, IsSeat, IsPass, HasSeen, IsSamePass}
 use Rattle.host_table.specs.Calls.{Calls, Glances, Looks}
 use Rattle.host_table.specs.Sights.{seen_alone}
 use Rattle.host_core.proofs.Timing.{entries-untimed}
-use Rattle.host_table.proofs.Stamps.{steps-append, steps-long, last_stamp-prefix, get_last}
+use Rattle.host_table.proofs.Stamps.{steps-append, steps-long, get_last}
 use Rattle.host_table.proofs.Owned.{AreOwn, owns-later, owns-push, own_after, own_stays, rises_after}
 use Rattle.host_core.proofs.Results.{ifok_map}
 use Rattle.host_table.proofs.Turning.{err_map, on_err, either_case}
 use Rattle.host_table.proofs.Homes.{children_home}
-use Rattle.host_table.proofs.Seats.{get_there, get_set, get_other, map_set, rises_of, seat_there, seats_set, own_seats, top_set, has_seen}
+use Rattle.host_table.proofs.Seats.{get_there, get_set, get_other, map_set, last_seen-later, seat_there, seats_set, own_seats, top_set, has_seen}
 
 -- the pass, with a seat changed
 abbrev pub with_seat : {F : Type 0} → PassView F → ℕ → Place F → ℕ → PassView F
-with_seat p k w last = record { number = p.number; last = last; weight = p.weight; opened = p.opened; first = p.first; capacity = p.capacity; seats = set p.seats k w }
+with_seat p k w last = record { number = p.number; last = last; weight = p.weight; opened = p.opened; first = p.first; limits = p.limits; seats = set p.seats k w }
 
 some_same : {A : Type 0} (x y : A) (o : Option A) → o ≡ Some x → o ≡ Some y → x ≡ y
 some_same x y o a b = cc (a, b)
@@ -41,29 +43,29 @@ module _ {F : Type 0} (p : PassView F) (k : ℕ) (v w : Place F) (inside : IsPas
   here : k < length p.seats
   here = let wide = inside.wide in omega arith
 
-  pub seat_is : IsSeat p.number p.weight p.opened p.first p.capacity k v
-  seat_is = seat_there p.number p.weight p.opened p.first p.capacity 0 k p.seats k v (omega arith) inside.seats here at
+  pub seat_is : IsSeat p.number p.weight p.opened p.first p.limits k v
+  seat_is = seat_there p.number p.weight p.opened p.first p.limits 0 k p.seats k v (omega arith) inside.seats here at
 
   was : slice_get p.seats k ≡ Some v
   was = get_there p.seats k v here at
 
   pub own_are : AreOwn p.number p.seats
-  own_are = own_seats p.number p.weight p.opened p.first p.capacity 0 p.seats inside.seats
+  own_are = own_seats p.number p.weight p.opened p.first p.limits 0 p.seats inside.seats
 
   -- the pass after the call keeps what each pass keeps
-  pub pass_after : (last : ℕ) → IsSeat p.number p.weight p.opened p.first p.capacity k w → IsPrefix v.seen w.seen → last ≡ max p.last (last_stamp w.seen)
+  pub pass_after : (last : ℕ) → IsSeat p.number p.weight p.opened p.first p.limits k w → w.base ≡ v.base → IsPrefix v.seen w.seen → last ≡ max p.last (last_seen w)
       → RisesFrom 0 (map stamp_of (own_of (with_seat p k w last))) → IsPass (with_seat p k w last)
-  pass_after last is later last_is rises =
-      let rising = rises_of is.base w.seen is.seen in
+  pass_after last is same later last_is rises =
+      let least = last_seen-later is.base v w (sym same ∙ is.based) is.based is.seen later in
       record {
-        seats = seats_set p.number p.weight p.opened p.first p.capacity 0 k p.seats k w (omega arith) inside.seats is;
-        last_is = last_is ∙ (ap (λ (n : ℕ). max n (last_stamp w.seen)) inside.last_is ∙ top_set p.seats k v w here at (last_stamp-prefix v.seen w.seen later rising));
+        seats = seats_set p.number p.weight p.opened p.first p.limits 0 k p.seats k w (omega arith) inside.seats is;
+        last_is = last_is ∙ (ap (λ (n : ℕ). max n (last_seen w)) inside.last_is ∙ top_set p.seats k v w here at least);
         wide = length-set p.seats k w ∙ inside.wide;
         rises = rises;
       }
 
   -- what the seat keeps
-  seat_after : (base : Book F) → v.base ≡ Some base → IsSeen base w.seen → w.base ≡ v.base → w.taken ≡ v.taken → w.weight ≡ v.weight → Owns p.number w.seen w.own → IsSeat p.number p.weight p.opened p.first p.capacity k w
+  seat_after : (base : Book F) → v.base ≡ Some base → IsSeen base w.seen → w.base ≡ v.base → w.taken ≡ v.taken → w.weight ≡ v.weight → Owns p.number w.seen w.own → IsSeat p.number p.weight p.opened p.first p.limits k w
   seat_after base based seen same_base same_taken same_weight owns =
       let old = seat_is in
       let one : base ≡ old.base = some_same base old.base v.base based old.based in
@@ -72,7 +74,7 @@ module _ {F : Type 0} (p : PassView F) (k : ℕ) (v w : Place F) (inside : IsPas
         weight_is = same_weight ∙ old.weight_is;
         base = base;
         based = same_base ∙ based;
-        is_base = subst (λ (b : Book F). IsBase p.opened p.first p.capacity k b) (sym one) old.is_base;
+        is_base = subst (λ (b : Book F). IsBase p.opened p.first p.limits k b) (sym one) old.is_base;
         seen = seen;
         owns = owns;
       }
@@ -83,16 +85,16 @@ module _ {F : Type 0} (p : PassView F) (k : ℕ) (v w : Place F) (inside : IsPas
     weight = refl;
     opened_is = refl;
     first_is = refl;
-    capacity_is = refl;
+    limits_is = refl;
     locks = map_set lock_of p.seats k v w at lock;
     bases = map_set base_of p.seats k v w at base;
   }
 
-  opening_same : w.base ≡ v.base → (shard : ℕ) → opening_at (slice_get (set p.seats k w) shard) ≡ opening_at (slice_get p.seats shard)
-  opening_same base shard = go shard p.seats k v at here base where
-    go : (j : ℕ) (ss : List (Place F)) (n : ℕ) (x : Place F) → x ≡ get_or ss n x → n < length ss → w.base ≡ x.base → opening_at (slice_get (set ss n w) j) ≡ opening_at (slice_get ss j)
+  begin_same : w.base ≡ v.base → (shard : ℕ) → beginning_at (slice_get (set p.seats k w) shard) ≡ beginning_at (slice_get p.seats shard)
+  begin_same base shard = go shard p.seats k v at here base where
+    go : (j : ℕ) (ss : List (Place F)) (n : ℕ) (x : Place F) → x ≡ get_or ss n x → n < length ss → w.base ≡ x.base → beginning_at (slice_get (set ss n w) j) ≡ beginning_at (slice_get ss j)
     go j [] n x e h b = refl
-    go zero (s ∷ ss) zero x e h b = ap opening_seen (b ∙ ap (λ (z : Place F). z.base) e)
+    go zero (s ∷ ss) zero x e h b = ap begin_seen (b ∙ ap (λ (z : Place F). z.base) e)
     go zero (s ∷ ss) (suc n) x e h b = refl
     go (suc j) (s ∷ ss) zero x e h b = refl
     go (suc j) (s ∷ ss) (suc n) x e h b = go j ss n x e (omega arith) b
@@ -100,22 +102,16 @@ module _ {F : Type 0} (p : PassView F) (k : ℕ) (v w : Place F) (inside : IsPas
   -- a seat's own shard is the only one of which more may have been seen
   frames_at : (last : ℕ) (base : Book F) → v.base ≡ Some base → w.base ≡ v.base → IsSeen base w.seen → FramesAt (sight_of p) (sight_of (with_seat p k w last)) k
   frames_at last base based same seen =
-      let old = seat_is in
-      let one : base ≡ old.base = some_same base old.base v.base based old.based in
-      let opened : base.opened ≡ p.opened = ap (λ (b : Book F). b.opened) one ∙ old.is_base.opened_is in
-      let oldest : base.first ≡ p.first = ap (λ (b : Book F). b.first) one ∙ old.is_base.first_is in
       let now : seen_at (slice_get (set p.seats k w) k) ≡ untimed w.seen = ap seen_at (get_set p.seats k w here) in
-      let opening : opening_at (slice_get p.seats k) ≡ base.opening = ap opening_at was ∙ ap opening_seen based in
-      let P : Opening × (ℕ × (ℕ × List Item)) → Type 0 = λ z. Legal z.0 z.1.0 z.1.1.0 z.1.1.1 in
-      let same_all : (base.opening, (base.opened, (base.first, untimed w.seen))) ≡ (opening_at (slice_get p.seats k), (p.opened, (p.first, seen_at (slice_get (set p.seats k w) k)))) = λ i. (sym opening i, (opened i, (oldest i, sym now i))) in
+      let begin : beginning_at (slice_get p.seats k) ≡ base.begin = ap beginning_at was ∙ ap begin_seen based in
+      let P : Begin × List Item → Type 0 = λ z. LegalFrom z.0 z.1 in
+      let same_all : (base.begin, untimed w.seen) ≡ (beginning_at (slice_get p.seats k), seen_at (slice_get (set p.seats k w) k)) = λ i. (sym begin i, sym now i) in
       record {
         others = λ shard differ. ap seen_at (get_other p.seats k shard w differ);
-        openings = opening_same same;
+        begins = begin_same same;
         home = λ other. refl;
         pass = refl;
-        capacity = refl;
-        opened = refl;
-        first = refl;
+        limits = refl;
         ticked = refl;
         alone = λ _. seen_alone (slice_get (set p.seats k w) k);
         legal = subst P same_all seen.legal;
@@ -130,7 +126,7 @@ module _ {F : Type 0} (p : PassView F) (k : ℕ) (v w : Place F) (inside : IsPas
   seen_by base based seen = let P : Option (Book F) → Type 0 = λ o. Prelude.IsSomeAnd o (λ b. IsSeen b w.seen) in subst P based seen
 
   -- the history so far was seen, and no entry was made
-  module _ (last : ℕ) (seen_all : Prelude.IsSomeAnd v.base (λ b. IsSeen b w.seen)) (last_is : last ≡ max p.last (last_stamp w.seen)) (glances : Glances v w) where
+  module _ (last : ℕ) (seen_all : Prelude.IsSomeAnd v.base (λ b. IsSeen b w.seen)) (last_is : last ≡ max p.last (last_seen w)) (glances : Glances v w) where
     abbrev after_glance : PassView F
     after_glance = with_seat p k w last
 
@@ -145,7 +141,7 @@ module _ {F : Type 0} (p : PassView F) (k : ℕ) (v w : Place F) (inside : IsPas
         subst P (sym (ap (λ (z : Place F). z.own) glances.same)) (owns-later p.number v.seen w.seen v.own glances.later (seat_is).owns)
 
     pub pass_glanced : IsPass after_glance
-    pass_glanced = pass_after last (seat_after glances.base glances.based (seen_by glances.base glances.based seen_all) base_stays (ap (λ (z : Place F). z.taken) glances.same) (ap (λ (z : Place F). z.weight) glances.same) owns_stays) glances.later last_is
+    pass_glanced = pass_after last (seat_after glances.base glances.based (seen_by glances.base glances.based seen_all) base_stays (ap (λ (z : Place F). z.taken) glances.same) (ap (λ (z : Place F). z.weight) glances.same) owns_stays) base_stays glances.later last_is
         (subst (λ (owns : List Own). RisesFrom 0 (map stamp_of owns)) (sym own_glanced) inside.rises)
 
     pub frames_glanced : FramesAt (sight_of p) (sight_of after_glance) k
@@ -169,41 +165,39 @@ module _ {F : Type 0} (p : PassView F) (k : ℕ) (v w : Place F) (inside : IsPas
     looks_glanced = record { own = ap (map (λ (one : Own). one.entry)) own_glanced; begins = begins_glanced; rest = frames_glanced }
 
     -- what a listing shows after the history that the seat has seen, it shows after what the pass has seen
-    pub lists_glanced : (listing : Listing) → Prelude.IsSomeAnd v.base (λ base. IsListing k base.opening base.opened base.first (untimed w.seen) listing) → Lists (sight_of after_glance) k listing
+    pub lists_glanced : (listing : Listing) → Prelude.IsSomeAnd v.base (λ base. IsListing k base.begin (untimed w.seen) listing) → Lists (sight_of after_glance) k listing
     lists_glanced listing shows =
         let base = glances.base in
         let seat = seat_is in
         let one : base ≡ seat.base = some_same base seat.base v.base glances.based seat.based in
-        let here_shows : IsListing k base.opening base.opened base.first (untimed w.seen) listing =
-        subst (λ (o : Option (Book F)). Prelude.IsSomeAnd o (λ b. IsListing k b.opening b.opened b.first (untimed w.seen) listing)) glances.based shows in
-        let opening : base.opening ≡ opening_at (slice_get (set p.seats k w) k) = sym (ap opening_at (get_set p.seats k w here) ∙ ap opening_seen (base_stays ∙ glances.based)) in
-        let opened : base.opened ≡ p.opened = ap (λ (b : Book F). b.opened) one ∙ seat.is_base.opened_is in
-        let oldest : base.first ≡ p.first = ap (λ (b : Book F). b.first) one ∙ seat.is_base.first_is in
+        let here_shows : IsListing k base.begin (untimed w.seen) listing =
+        subst (λ (o : Option (Book F)). Prelude.IsSomeAnd o (λ b. IsListing k b.begin (untimed w.seen) listing)) glances.based shows in
+        let begin : base.begin ≡ beginning_at (slice_get (set p.seats k w) k) = sym (ap beginning_at (get_set p.seats k w here) ∙ ap begin_seen (base_stays ∙ glances.based)) in
         let now : untimed w.seen ≡ seen_at (slice_get (set p.seats k w) k) = sym (ap seen_at (get_set p.seats k w here)) in
-        let P : Opening × (ℕ × (ℕ × List Item)) → Type 0 = λ z. IsListing k z.0 z.1.0 z.1.1.0 z.1.1.1 listing in
-        let all : (base.opening, (base.opened, (base.first, untimed w.seen))) ≡ (opening_at (slice_get (set p.seats k w) k), (p.opened, (p.first, seen_at (slice_get (set p.seats k w) k)))) = λ i. (opening i, (opened i, (oldest i, now i))) in
+        let P : Begin × List Item → Type 0 = λ z. IsListing k z.0 z.1 listing in
+        let all : (base.begin, untimed w.seen) ≡ (beginning_at (slice_get (set p.seats k w) k), seen_at (slice_get (set p.seats k w) k)) = λ i. (begin i, now i) in
         record {
           shows = subst P all here_shows;
-          homes = children_home k base w.seen listing (ap (λ (b : Book F). b.only) one ∙ seat.is_base.only) (subst (λ (b : Book F). AllByRecursion (λ file. MayKeep b.only file.0) b.opening) (sym one) seat.is_base.names)
+          homes = children_home k base w.seen listing (ap (λ (b : Book F). b.only) one ∙ seat.is_base.only) (subst (λ (b : Book F). AllByRecursion (λ (file : List ℕ × File). MayKeep b.only file.0) b.begin.files) (sym one) seat.is_base.names)
               (seen_by glances.base glances.based seen_all).named here_shows.children_are;
         }
 
     -- what is told of the history that the seat has seen, is told of what the pass has seen
-    pub weighed_glanced : (answer : Bool) → Prelude.IsSomeAnd v.base (λ base. IsTrue answer ↔ IsNearlyFull base.capacity base.opening (untimed w.seen)) → IsTrue answer ↔ IsNearlyFullAt (sight_of after_glance) k
+    pub weighed_glanced : (answer : Bool) → Prelude.IsSomeAnd v.base (λ base. IsTrue answer ↔ IsNearlyFull base.limits.calls base.begin (untimed w.seen)) → IsTrue answer ↔ IsNearlyFullAt (sight_of after_glance) k
     weighed_glanced answer tells =
         let base = glances.base in
         let seat = seat_is in
         let one : base ≡ seat.base = some_same base seat.base v.base glances.based seat.based in
-        let here_tells : IsTrue answer ↔ IsNearlyFull base.capacity base.opening (untimed w.seen) =
-        subst (λ (o : Option (Book F)). Prelude.IsSomeAnd o (λ b. IsTrue answer ↔ IsNearlyFull b.capacity b.opening (untimed w.seen))) glances.based tells in
-        let opening : base.opening ≡ opening_at (slice_get (set p.seats k w) k) = sym (ap opening_at (get_set p.seats k w here) ∙ ap opening_seen (base_stays ∙ glances.based)) in
-        let capacity : base.capacity ≡ p.capacity = ap (λ (b : Book F). b.capacity) one ∙ seat.is_base.capacity_is in
+        let here_tells : IsTrue answer ↔ IsNearlyFull base.limits.calls base.begin (untimed w.seen) =
+        subst (λ (o : Option (Book F)). Prelude.IsSomeAnd o (λ b. IsTrue answer ↔ IsNearlyFull b.limits.calls b.begin (untimed w.seen))) glances.based tells in
+        let begin : base.begin ≡ beginning_at (slice_get (set p.seats k w) k) = sym (ap beginning_at (get_set p.seats k w here) ∙ ap begin_seen (base_stays ∙ glances.based)) in
+        let limits : base.limits ≡ p.limits = ap (λ (b : Book F). b.limits) one ∙ seat.is_base.limits_is in
         let now : untimed w.seen ≡ seen_at (slice_get (set p.seats k w) k) = sym (ap seen_at (get_set p.seats k w here)) in
-        let P : Opening × (ℕ × List Item) → Type 0 = λ z. IsTrue answer ↔ IsNearlyFull z.1.0 z.0 z.1.1 in
-        let all : (base.opening, (base.capacity, untimed w.seen)) ≡ (opening_at (slice_get (set p.seats k w) k), (p.capacity, seen_at (slice_get (set p.seats k w) k))) = λ i. (opening i, (capacity i, now i)) in
+        let P : Begin × (Limits × List Item) → Type 0 = λ z. IsTrue answer ↔ IsNearlyFull z.1.0.calls z.0 z.1.1 in
+        let all : (base.begin, (base.limits, untimed w.seen)) ≡ (beginning_at (slice_get (set p.seats k w) k), (p.limits, seen_at (slice_get (set p.seats k w) k))) = λ i. (begin i, (limits i, now i)) in
         subst P all here_tells
 
-    pub weighed_then : (shard : ℕ) → k ≡ shard → (answer : Bool) → Prelude.IsSomeAnd v.base (λ base. IsTrue answer ↔ IsNearlyFull base.capacity base.opening (untimed w.seen))
+    pub weighed_then : (shard : ℕ) → k ≡ shard → (answer : Bool) → Prelude.IsSomeAnd v.base (λ base. IsTrue answer ↔ IsNearlyFull base.limits.calls base.begin (untimed w.seen))
         → IsTrue answer ↔ IsNearlyFullAt (sight_of after_glance) shard
     weighed_then shard is answer tells = let P : ℕ → Type 0 = λ n. IsTrue answer ↔ IsNearlyFullAt (sight_of after_glance) n in subst P is (weighed_glanced answer tells)
 
@@ -211,13 +205,13 @@ module _ {F : Type 0} (p : PassView F) (k : ℕ) (v w : Place F) (inside : IsPas
     pub looks_then : (shard : ℕ) → k ≡ shard → LooksAt (sight_of p) (sight_of after_glance) shard
     looks_then shard is = let P : ℕ → Type 0 = λ n. LooksAt (sight_of p) (sight_of after_glance) n in subst P is looks_glanced
 
-    pub lists_then : (shard : ℕ) → k ≡ shard → (answer : Result Listing Memory) → IfOk answer (λ listing. Prelude.IsSomeAnd v.base (λ base. IsListing shard base.opening base.opened base.first (untimed w.seen) listing))
+    pub lists_then : (shard : ℕ) → k ≡ shard → (answer : Result Listing Memory) → IfOk answer (λ listing. Prelude.IsSomeAnd v.base (λ base. IsListing shard base.begin (untimed w.seen) listing))
         → IfOk answer (Lists (sight_of after_glance) shard)
     lists_then shard is answer =
-        let P : ℕ → Type 0 = λ n. IfOk answer (λ listing. Prelude.IsSomeAnd v.base (λ base. IsListing n base.opening base.opened base.first (untimed w.seen) listing)) → IfOk answer (Lists (sight_of after_glance) n) in
+        let P : ℕ → Type 0 = λ n. IfOk answer (λ listing. Prelude.IsSomeAnd v.base (λ base. IsListing n base.begin (untimed w.seen) listing)) → IfOk answer (Lists (sight_of after_glance) n) in
         subst P is (λ shows. ifok_map answer _ _ lists_glanced shows)
 
-  module _ (last : ℕ) (call : Call) (moment : ℕ) (home : k ≡ shard_of call.name) (seen_all : Prelude.IsSomeAnd v.base (λ b. IsSeen b w.seen)) (last_is : last ≡ max p.last (last_stamp w.seen)) where
+  module _ (last : ℕ) (call : Call) (moment : ℕ) (home : k ≡ shard_of call.name) (seen_all : Prelude.IsSomeAnd v.base (λ b. IsSeen b w.seen)) (last_is : last ≡ max p.last (last_seen w)) where
     abbrev q : PassView F
     q = with_seat p k w last
 
@@ -255,7 +249,7 @@ module _ {F : Type 0} (p : PassView F) (k : ℕ) (v w : Place F) (inside : IsPas
           some_same receipt.shard k calls.base.only calls.shard only
 
       top_below : top p.seats < receipt.stamp
-      top_below = let stamp : receipt.stamp ≡ max p.last (last_from 0 (stamps (entries (untimed (v.seen ++ calls.between))))) + 1 = calls.stamp in let last_was = inside.last_is in omega arith
+      top_below = let stamp : receipt.stamp ≡ max p.last (last_from calls.base.begin.last (stamps (entries (untimed (v.seen ++ calls.between))))) + 1 = calls.stamp in let last_was = inside.last_is in omega arith
 
       pub own_call : own_of q ≡ own_of p ++ record { shard = receipt.shard; place = receipt.place; entry = entry_of p.number call moment receipt } ∷ []
       own_call =
@@ -268,7 +262,7 @@ module _ {F : Type 0} (p : PassView F) (k : ℕ) (v w : Place F) (inside : IsPas
           subst (RisesFrom 0) (sym more) (rises_after p.number receipt.stamp p.seats own_are top_below inside.rises)
 
       pub pass_called : IsPass q
-      pass_called = pass_after last (seat_after calls.base calls.based (seen_by calls.base calls.based seen_all) base_same (ap (λ (z : Place F). z.taken) calls.same) (ap (λ (z : Place F). z.weight) calls.same) owns_then) later last_is rises_then
+      pass_called = pass_after last (seat_after calls.base calls.based (seen_by calls.base calls.based seen_all) base_same (ap (λ (z : Place F). z.taken) calls.same) (ap (λ (z : Place F). z.weight) calls.same) owns_then) base_same later last_is rises_then
 
       pub frames_called : Frames (sight_of p) (sight_of q) call.name
       frames_called = frames last call home calls.base calls.based base_same (seen_by calls.base calls.based seen_all)
@@ -285,20 +279,19 @@ module _ {F : Type 0} (p : PassView F) (k : ℕ) (v w : Place F) (inside : IsPas
           let found : entries (untimed made) ≡ steps_of made = entries-untimed made in
           let seat = seat_is in
           let base : calls.base ≡ seat.base = some_same calls.base seat.base v.base calls.based seat.based in
-          let opening : opening_at (slice_get p.seats k) ≡ calls.base.opening = ap opening_at was ∙ ap opening_seen calls.based in
-          let opened : p.opened ≡ calls.base.opened = sym (ap (λ (b : Book F). b.opened) base ∙ seat.is_base.opened_is) in
-          let oldest : p.first ≡ calls.base.first = sym (ap (λ (b : Book F). b.first) base ∙ seat.is_base.first_is) in
-          let capacity : p.capacity ≡ calls.base.capacity = sym (ap (λ (b : Book F). b.capacity) base ∙ seat.is_base.capacity_is) in
-          let P : Opening × (ℕ × (ℕ × ℕ)) → Type 0 = λ z. FullAt z.0 z.1.0 z.1.1.0 z.1.1.1 (untimed made) p.last call moment → ⊥ in
-          let terms : (calls.base.opening, (calls.base.opened, (calls.base.first, calls.base.capacity))) ≡ (opening_at (slice_get p.seats k), (p.opened, (p.first, p.capacity))) =
-          λ i. (sym opening i, (sym opened i, (sym oldest i, sym capacity i))) in
-          let room : FullAt (opening_at (slice_get p.seats k)) p.opened p.first p.capacity (untimed made) p.last call moment → ⊥ = subst P terms calls.room in
+          let begin : beginning_at (slice_get p.seats k) ≡ calls.base.begin = ap beginning_at was ∙ ap begin_seen calls.based in
+          let limits : p.limits ≡ calls.base.limits = sym (ap (λ (b : Book F). b.limits) base ∙ seat.is_base.limits_is) in
+          let P : Begin × Limits → Type 0 = λ z. FullFrom z.1 z.0 (untimed made) p.last call moment → ⊥ in
+          let terms : (calls.base.begin, calls.base.limits) ≡ (beginning_at (slice_get p.seats k), p.limits) = λ i. (sym begin i, sym limits i) in
+          let room : FullFrom p.limits (beginning_at (slice_get p.seats k)) (untimed made) p.last call moment → ⊥ = subst P terms calls.room in
           let end : untimed (made ++ one ∷ []) ≡ untimed made ++ Step entry ∷ [] = ap (map Step) (steps-append made (one ∷ [])) ∙ map-append Step (steps_of made) (entry ∷ []) in
           let seen : seen_at (slice_get (set p.seats k w) k) ≡ untimed made ++ Step entry ∷ [] = ap seen_at (get_set p.seats k w here) ∙ (ap untimed calls.seen ∙ end) in
           let Seen : ℕ → Type 0 = λ n. seen_at (slice_get (set p.seats k w) n) ≡ untimed made ++ Step entry ∷ [] in
           let Last : ℕ → Type 0 = λ n. entries (seen_at (slice_get (set p.seats k w) n)) ≡ entries (untimed made) ++ entry ∷ [] in
           let Begins : ℕ → Type 0 = λ n. Extends (entries (seen_at (slice_get p.seats n))) (entries (untimed made)) in
-          let Room : ℕ → Type 0 = λ n. FullAt (opening_at (slice_get p.seats n)) p.opened p.first p.capacity (untimed made) p.last call moment → ⊥ in
+          let Room : ℕ → Type 0 = λ n. FullFrom p.limits (beginning_at (slice_get p.seats n)) (untimed made) p.last call moment → ⊥ in
+          let Stamp : ℕ → Type 0 = λ n. receipt.stamp ≡ next_stamp (beginning_at (slice_get p.seats n)) p.last (untimed made) in
+          let stamp : Stamp k = calls.stamp ∙ ap (λ (b : Begin). next_stamp b p.last (untimed made)) (sym begin) in
           record {
             found = untimed made;
             later = [];
@@ -308,7 +301,7 @@ module _ {F : Type 0} (p : PassView F) (k : ℕ) (v w : Place F) (inside : IsPas
             shard = shard_same ∙ home;
             place = calls.place ∙ sym (ap (λ (es : List Entry). length es) found ∙ steps-long made);
             begins = subst Begins home (steps_of calls.between, found ∙ (steps-append v.seen calls.between ∙ ap (λ (es : List Entry). es ++ steps_of calls.between) (sym old)));
-            stamp = calls.stamp;
+            stamp = subst Stamp home stamp;
             room = subst Room home room;
             back = calls.back;
           }
@@ -334,14 +327,11 @@ module _ {F : Type 0} (p : PassView F) (k : ℕ) (v w : Place F) (inside : IsPas
           let now : seen_at (slice_get (set p.seats k w) k) ≡ untimed w.seen = ap seen_at (get_set p.seats k w here) in
           let seat = seat_is in
           let base : glance.base ≡ seat.base = some_same glance.base seat.base v.base glance.based seat.based in
-          let opening : opening_at (slice_get p.seats k) ≡ glance.base.opening = ap opening_at was ∙ ap opening_seen glance.based in
-          let opened : p.opened ≡ glance.base.opened = sym (ap (λ (b : Book F). b.opened) base ∙ seat.is_base.opened_is) in
-          let oldest : p.first ≡ glance.base.first = sym (ap (λ (b : Book F). b.first) base ∙ seat.is_base.first_is) in
-          let capacity : p.capacity ≡ glance.base.capacity = sym (ap (λ (b : Book F). b.capacity) base ∙ seat.is_base.capacity_is) in
-          let P : Opening × (ℕ × (ℕ × (ℕ × List Item))) → Type 0 = λ z. IsFullCall refusal → FullAt z.0 z.1.0 z.1.1.0 z.1.1.1.0 z.1.1.1.1 p.last call moment in
-          let terms : (glance.base.opening, (glance.base.opened, (glance.base.first, (glance.base.capacity, untimed w.seen)))) ≡ (opening_at (slice_get p.seats k), (p.opened, (p.first, (p.capacity, seen_at (slice_get (set p.seats k w) k))))) =
-          λ i. (sym opening i, (sym opened i, (sym oldest i, (sym capacity i, sym now i)))) in
-          let Full : ℕ → Type 0 = λ n. IsFullCall refusal → FullAt (opening_at (slice_get p.seats n)) p.opened p.first p.capacity (seen_at (slice_get (set p.seats k w) n)) p.last call moment in
+          let begin : beginning_at (slice_get p.seats k) ≡ glance.base.begin = ap beginning_at was ∙ ap begin_seen glance.based in
+          let limits : p.limits ≡ glance.base.limits = sym (ap (λ (b : Book F). b.limits) base ∙ seat.is_base.limits_is) in
+          let P : Begin × (Limits × List Item) → Type 0 = λ z. IsFullCall refusal → FullFrom z.1.0 z.0 z.1.1 p.last call moment in
+          let terms : (glance.base.begin, (glance.base.limits, untimed w.seen)) ≡ (beginning_at (slice_get p.seats k), (p.limits, seen_at (slice_get (set p.seats k w) k))) = λ i. (sym begin i, (sym limits i, sym now i)) in
+          let Full : ℕ → Type 0 = λ n. IsFullCall refusal → FullFrom p.limits (beginning_at (slice_get p.seats n)) (seen_at (slice_get (set p.seats k w) n)) p.last call moment in
           let Begins : ℕ → Type 0 = λ n. Extends (entries (seen_at (slice_get p.seats n))) (entries (seen_at (slice_get (set p.seats k w) n))) in
           record {
             own = ap (map (λ (one : Own). one.entry)) own_looked;
@@ -378,7 +368,7 @@ module _ {F : Type 0} (p : PassView F) (k : ℕ) (v w : Place F) (inside : IsPas
       own_stays_then = on_err answer _ _ own_looked looked
 
 -- the seat of the call's shard has its turn there
-pub based_call : {F : Type 0} (p : PassView F) (k : ℕ) (v : Place F) (name : List ℕ) → IsSeat p.number p.weight p.opened p.first p.capacity k v → k ≡ shard_of name → Prelude.IsSomeAnd v.base (λ base. base.only ≡ Some (shard_of name))
+pub based_call : {F : Type 0} (p : PassView F) (k : ℕ) (v : Place F) (name : List ℕ) → IsSeat p.number p.weight p.opened p.first p.limits k v → k ≡ shard_of name → Prelude.IsSomeAnd v.base (λ base. base.only ≡ Some (shard_of name))
 based_call p k v name seat home =
     let P : Option (Book _) → Type 0 = λ o. Prelude.IsSomeAnd o (λ base. base.only ≡ Some (shard_of name)) in
     subst P (sym seat.based) (seat.is_base.only ∙ ap Some home)

@@ -1,11 +1,13 @@
 -- What a shard keeps under its lock, as a step is appended to it.
-use Rattle.std.proofs.Common.{◌≡◌, ◌≢◌, ℕ, ◌+◌, ◌≤◌, max, true, false, Option, Some, List, [], ◌∷◌, ◌++◌, length, inl, refl, sym, ap, subst, ◌∙◌, arith, length-append}
+use Rattle.std.proofs.Common.{◌≡◌, ◌≢◌, ℕ, ◌+◌, ◌≤◌, max, true, false, Option, None, Some, List, [], ◌∷◌, ◌++◌, length, inl, inr, refl, sym, ap, subst, ◌∙◌, arith, length-append}
 use Rattle.std.proofs.Math.Nat.{max_comm}
+use Rattle.std.proofs.lemmas.Bool.Decides.{nat_tests}
 use Rattle.outside.specs.Folder.{Files}
 use Rattle.wopi_text.specs.FileName.{shard_of}
 use Rattle.wopi_model.specs.declared.calls.Call.{Call}
-use Rattle.wopi_model.specs.Shard.{Entry, Legal, entries, stamps, last_from}
-use Rattle.wopi_model.specs.Host.{FullAt}
+use Rattle.wopi_model.specs.Begin.{Begin}
+use Rattle.wopi_model.specs.Shard.{Entry, Item, LegalFrom, entries, stamps, last_from}
+use Rattle.wopi_model.specs.Host.{FullFrom, HasNoCall}
 use Rattle.host_core.specs.declared.caller.Receipt.{Receipt}
 use Rattle.host_core.specs.declared.caller.CallFault.{CallFault}
 use Rattle.host_core.specs.Opening.{IsOfShard}
@@ -15,7 +17,7 @@ use Rattle.host_core.specs.LockActs.{is_lock_act}
 use Rattle.host_core.specs.Value.{Book}
 use Rattle.host_core.specs.Times.{untimed, GoesByEntries}
 use Rattle.host_table.specs.Histories.{as_opened, AreNamed, IsSeen}
-use Rattle.host_table.specs.Held.{IsHeld, Adds, Declines}
+use Rattle.host_table.specs.Held.{IsHeld, IsWithinCalls, Adds, Declines}
 use Rattle.host_table.proofs.Stamps.{steps-long}
 use Rattle.host_core.proofs.Timing.{entries-history, entries-untimed, full-untimed, full-timed}
 use Rattle.host_table.proofs.Timing.{named-push}
@@ -27,30 +29,40 @@ not_empty (first ∷ made) one e = absurd (cc e)
 named_here : (only : Option ℕ) (name : List ℕ) → only ≡ Some (shard_of name) → IsOfShard only name
 named_here only name is = subst (λ (o : Option ℕ). IsOfShard o name) (sym is) refl
 
+below_calls : (made more calls : ℕ) → more ≡ made + 1 → made ≤ calls → made ≢ calls → more ≤ calls
+below_calls made more calls next few apart = grind (arith, nat_tests)
+
+-- one entry more is within the calls that the store takes
+within_push : (calls : Option ℕ) (begin : Begin) (history : List Item) (call : Call) (moment made more : ℕ) → length (entries history) ≡ made → more ≡ made + 1 → IsWithinCalls calls made
+    → (HasNoCall calls begin history call moment → ⊥) → IsWithinCalls calls more
+within_push None begin history call moment made more long next few room = tt
+within_push (Some calls) begin history call moment made more long next few room =
+    below_calls made more calls next few (λ e. room (inl (long ∙ e)))
+
 pub held_push : {F : Type 0} (old : Book F) (folder : F) (one : Made) (start now now' : Option Files) (began count count' floor : ℕ) (call : Call) → IsHeld old start now began count
     → old.only ≡ Some (shard_of one.step.call.name)
-    → (FullAt old.opening old.opened old.first old.capacity (history_of old.made old.time) floor call one.step.moment → ⊥) → count ≤ count'
+    → (FullFrom old.limits old.begin (history_of old.made old.time) floor call one.step.moment → ⊥) → count ≤ count'
     → IsHeld (record old { made = old.made ++ one ∷ []; time = one.time; folder = folder }) start now' began count'
 held_push old folder one start now now' began count count' floor call h only room more =
-    let few = h.few in let counts = h.counts in
-    let apart : length old.made ≢ old.capacity = λ e. room (inl (ap (λ (es : List Entry). length es) (entries-history old.made old.time) ∙ (steps-long old.made ∙ e))) in
+    let counts = h.counts in
+    let long : length (entries (history_of old.made old.time)) ≡ length old.made = ap (λ (es : List Entry). length es) (entries-history old.made old.time) ∙ steps-long old.made in
     record {
       unticked = h.unticked;
       named = named-push old.only old.made one h.named (named_here old.only one.step.call.name only);
-      few = omega (arith, length-append old.made (one ∷ []));
+      few = within_push old.limits.calls old.begin (history_of old.made old.time) call one.step.moment (length old.made) _ long (length-append old.made (one ∷ [])) h.few (λ none. room (inr (inl none)));
       unchanged = λ e. absurd (not_empty old.made one e);
       counts = omega arith;
     }
 
 pub seen_of : {F : Type 0} (book : Book F) (start now : Option Files) (began count : ℕ) → IsHeld book start now began count
-    → (book.ticked ≡ false → Legal book.opening book.opened book.first (untimed book.made)) → IsSeen (as_opened book) book.made
+    → (book.ticked ≡ false → LegalFrom book.begin (untimed book.made)) → IsSeen (as_opened book) book.made
 seen_of book start now began count h alone = record { legal = alone h.unticked; named = h.named }
 
-pub held_adds : {F : Type 0} (old new : Book F) (call : Call) (pass floor moment : ℕ) (receipt : Receipt) → GoesByEntries old.opened old.made old.time
+pub held_adds : {F : Type 0} (old new : Book F) (call : Call) (pass floor moment : ℕ) (receipt : Receipt) → GoesByEntries old.begin.now old.made old.time
     → new ≡ record old { made = old.made ++ record { time = max old.time moment; step = entry_of pass call moment receipt } ∷ []; time = max old.time moment; folder = new.folder }
     → old.only ≡ Some receipt.shard → receipt.place ≡ length old.made
-    → receipt.stamp ≡ max (last_from 0 (stamps (entries (history_of old.made old.time)))) floor + 1
-    → (FullAt old.opening old.opened old.first old.capacity (history_of old.made old.time) floor call moment → ⊥)
+    → receipt.stamp ≡ max (last_from old.begin.last (stamps (entries (history_of old.made old.time)))) floor + 1
+    → (FullFrom old.limits old.begin (history_of old.made old.time) floor call moment → ⊥)
     → receipt.back ≡ back_of call.act receipt.ruling
     → Adds old new call pass floor moment receipt
 held_adds old new call pass floor moment receipt goes is shard place stamp room back = record {
@@ -58,25 +70,25 @@ held_adds old new call pass floor moment receipt goes is shard place stamp room 
   made = ap (λ (b : Book _). b.made) is;
   shard = shard;
   place = place;
-  stamp = stamp ∙ (ap (λ (es : List Entry). max (last_from 0 (stamps es)) floor + 1) (entries-history old.made old.time ∙ sym (entries-untimed old.made))
-      ∙ ap (λ (n : ℕ). n + 1) (max_comm (last_from 0 (stamps (entries (untimed old.made)))) floor));
-  room = λ full. room (full-timed old.opening old.opened old.first old.capacity old.made old.time floor call moment goes.timely goes.time_is full);
+  stamp = stamp ∙ (ap (λ (es : List Entry). max (last_from old.begin.last (stamps es)) floor + 1) (entries-history old.made old.time ∙ sym (entries-untimed old.made))
+      ∙ ap (λ (n : ℕ). n + 1) (max_comm (last_from old.begin.last (stamps (entries (untimed old.made)))) floor));
+  room = λ full. room (full-timed old.limits old.begin old.made old.time floor call moment goes.timely goes.time_is full);
   back = back;
 }
 
-pub held_declines : {F : Type 0} (old new : Book F) (call : Call) (floor moment : ℕ) (refusal : CallFault) → GoesByEntries old.opened old.made old.time
+pub held_declines : {F : Type 0} (old new : Book F) (call : Call) (floor moment : ℕ) (refusal : CallFault) → GoesByEntries old.begin.now old.made old.time
     → new ≡ record old { folder = new.folder }
-    → (IsFullCall refusal → FullAt old.opening old.opened old.first old.capacity (history_of old.made old.time) floor call moment) → called_back refusal ≡ call
+    → (IsFullCall refusal → FullFrom old.limits old.begin (history_of old.made old.time) floor call moment) → called_back refusal ≡ call
     → (is_lock_act call.act ≡ true → IsFullCall refusal) → Declines old new call floor moment refusal
 held_declines old new call floor moment refusal goes is full handed light = record {
   made = ap (λ (b : Book _). b.made) is;
-  full = λ f. full-untimed old.opening old.opened old.first old.capacity old.made old.time floor call moment goes.timely goes.time_is (full f);
+  full = λ f. full-untimed old.limits old.begin old.made old.time floor call moment goes.timely goes.time_is (full f);
   handed = handed;
   light = light;
 }
 
 pub seen_stays : {F : Type 0} (old new : Book F) (start now : Option Files) (began count : ℕ) → IsHeld old start now began count → new ≡ record old { folder = new.folder }
-    → (new.ticked ≡ false → Legal new.opening new.opened new.first (untimed new.made)) → IsSeen (as_opened new) new.made
+    → (new.ticked ≡ false → LegalFrom new.begin (untimed new.made)) → IsSeen (as_opened new) new.made
 seen_stays old new start now began count h is alone = record {
   legal = alone (ap (λ (b : Book _). b.ticked) is ∙ h.unticked);
   named = subst (λ (b : Book _). AreNamed b.only b.made) (sym is) h.named;

@@ -5,10 +5,11 @@ use Rattle.std.proofs.lemmas.Slice.Eq.{bytes_eq-Decides}
 use Rattle.std.specs.List.{AllByRecursion, Contains}
 use Rattle.std.specs.Str.{bytes_eq}
 use Rattle.wopi_text.specs.FileName.{shard_of}
-use Rattle.wopi_model.specs.File.{File}
+use Rattle.wopi_model.specs.File.{File, never_met}
 use Rattle.wopi_model.specs.Settle.{settled}
 use Rattle.wopi_model.specs.Shard as model
-use Rattle.wopi_model.specs.Shard.{Opening, Step, opening_file, opened_shard, at_moment, happens, after}
+use Rattle.wopi_model.specs.Begin.{at_name}
+use Rattle.wopi_model.specs.Shard.{Step, begun, at_moment, happens, after}
 use Rattle.host_core.specs.declared.children.Child.{Child}
 use Rattle.host_core.specs.declared.listing.Listing.{Listing}
 use Rattle.host_core.specs.Children.{AreChildren}
@@ -33,9 +34,9 @@ module _ (k : ℕ) (name : List ℕ) (apart : shard_of name ≡ k → ⊥) where
     go true e = absurd (other_name one home e)
     go false e = refl
 
-  not_opened : (first : ℕ) (opening : Opening) → AllByRecursion (λ file. MayKeep (Some k) file.0) opening → (opening_file first opening name).contents ≡ None
-  not_opened first [] all = refl
-  not_opened first ((one, contents) ∷ opening) all = ap (λ (f : File). f.contents) (if_other one _ (opening_file first opening name) all.0.1) ∙ not_opened first opening all.1
+  not_begun : (other : File) (files : List (List ℕ × File)) → other.contents ≡ None → AllByRecursion (λ file. MayKeep (Some k) file.0) files → (at_name other files name).contents ≡ None
+  not_begun other [] none all = none
+  not_begun other ((one, file) ∷ files) none all = ap (λ (f : File). f.contents) (if_other one file (at_name other files name) all.0.1) ∙ not_begun other files none all.1
 
   not_made : (shard : model.Shard) (made : List Made) → AreNamed (Some k) made → (shard.files name).contents ≡ None → ((after shard (untimed made)).files name).contents ≡ None
   not_made shard [] named none = none
@@ -48,14 +49,14 @@ nothing_there : (contents : Option (List ℕ)) (size : ℕ) → option_map (λ (
 nothing_there None size e h = cc e
 nothing_there (Some b) size e h = cc h
 
--- the children of a shard that was opened like that have names of that shard
-pub children_home : {F : Type 0} (k : ℕ) (base : Book F) (seen : List Made) (listing : Listing) → base.only ≡ Some k → AllByRecursion (λ file. MayKeep base.only file.0) base.opening → AreNamed base.only seen
-    → AreChildren (after (opened_shard base.opening base.opened base.first) (untimed seen)).files listing.children → AllByRecursion (λ child. shard_of child.name ≡ k) listing.children
+-- the children of a shard that began like that have names of that shard
+pub children_home : {F : Type 0} (k : ℕ) (base : Book F) (seen : List Made) (listing : Listing) → base.only ≡ Some k → AllByRecursion (λ file. MayKeep base.only file.0) base.begin.files → AreNamed base.only seen
+    → AreChildren (after (begun base.begin) (untimed seen)).files listing.children → AllByRecursion (λ child. shard_of child.name ≡ k) listing.children
 children_home k base seen listing only names named are = each_of (λ child. shard_of child.name ≡ k) listing.children (λ child there. home child ((are.exact child).0 there).0) where
-  home : (child : Child) → option_map (λ (b : List ℕ). length b) ((after (opened_shard base.opening base.opened base.first) (untimed seen)).files child.name).contents ≡ Some child.size → shard_of child.name ≡ k
+  home : (child : Child) → option_map (λ (b : List ℕ). length b) ((after (begun base.begin) (untimed seen)).files child.name).contents ≡ Some child.size → shard_of child.name ≡ k
   home child size = elim (eqb_tells (shard_of child.name) k) [
     | inl same ↦ same.1
     | inr other ↦ absurd (nothing_there _ child.size size
-        (not_made k child.name other.1 (opened_shard base.opening base.opened base.first) seen (subst (λ (o : Option ℕ). AreNamed o seen) only named)
-        (not_opened k child.name other.1 base.first base.opening (subst (λ (o : Option ℕ). AllByRecursion (λ file. MayKeep o file.0) base.opening) only names))))
+        (not_made k child.name other.1 (begun base.begin) seen (subst (λ (o : Option ℕ). AreNamed o seen) only named)
+        (not_begun k child.name other.1 (never_met base.begin.first) base.begin.files refl (subst (λ (o : Option ℕ). AllByRecursion (λ file. MayKeep o file.0) base.begin.files) only names))))
   ]

@@ -6,6 +6,7 @@ use mathlib.Core.List.{IsPrefix}
 use Rattle.turn_lock.specs.Places.{total}
 use Rattle.turn_lock.proofs.Prefixes.{prefix_self, prefix_trans}
 use Rattle.turn_lock.proofs.Sums.{total-append}
+use Rattle.wopi_model.specs.Host.{Limits}
 use Rattle.host_table.specs.Passes.{Place, PassView, lock_of, base_of, AreSeats, IsPass}
 use Rattle.host_table.specs.Close.{weight_of, IsJoined, AreJoined, AreFree, seat_in, column, places_in, IsGathered, IsBasedOn, IsJoinOf}
 
@@ -111,23 +112,23 @@ module _ {F : Type 0} where
     own = ap (λ (p : Place F). p.own) j.is ∙ ((λ i. g.own i ++ sym (append-nil o.own) i) ∙ sym (places-append col (o ∷ [])));
   }
 
-  seats_free : (number weight opened oldest capacity j : ℕ) (ss : List (Place F)) → AreSeats number weight opened oldest capacity j ss → AreFree ss
-  seats_free number weight opened oldest capacity j [] are = tt
-  seats_free number weight opened oldest capacity j (s ∷ ss) are = (are.0.free, seats_free number weight opened oldest capacity (j + 1) ss are.1)
+  seats_free : (number weight opened oldest : ℕ) (limits : Limits) (j : ℕ) (ss : List (Place F)) → AreSeats number weight opened oldest limits j ss → AreFree ss
+  seats_free number weight opened oldest limits j [] are = tt
+  seats_free number weight opened oldest limits j (s ∷ ss) are = (are.0.free, seats_free number weight opened oldest limits (j + 1) ss are.1)
 
-  seats_weigh : (number weight opened oldest capacity j : ℕ) (ss : List (Place F)) → AreSeats number weight opened oldest capacity j ss → Weigh weight ss
-  seats_weigh number weight opened oldest capacity j [] are = tt
-  seats_weigh number weight opened oldest capacity j (s ∷ ss) are = (are.0.weight_is, seats_weigh number weight opened oldest capacity (j + 1) ss are.1)
+  seats_weigh : (number weight opened oldest : ℕ) (limits : Limits) (j : ℕ) (ss : List (Place F)) → AreSeats number weight opened oldest limits j ss → Weigh weight ss
+  seats_weigh number weight opened oldest limits j [] are = tt
+  seats_weigh number weight opened oldest limits j (s ∷ ss) are = (are.0.weight_is, seats_weigh number weight opened oldest limits (j + 1) ss are.1)
 
   pub pass_free : (p : PassView F) → IsPass p → AreFree p.seats
-  pass_free p is = seats_free p.number p.weight p.opened p.first p.capacity 0 p.seats is.seats
+  pass_free p is = seats_free p.number p.weight p.opened p.first p.limits 0 p.seats is.seats
 
   pub join_first : (p : PassView F) → IsPass p → IsJoinOf (p ∷ []) p.seats
   join_first p is = record {
     passes_are = (is, tt);
     free = pass_free p is;
     based = refl;
-    weights = let one : p.weight ≡ p.weight + 0 = omega arith in subst (λ (w : ℕ). Weigh w p.seats) one (seats_weigh p.number p.weight p.opened p.first p.capacity 0 p.seats is.seats);
+    weights = let one : p.weight ≡ p.weight + 0 = omega arith in subst (λ (w : ℕ). Weigh w p.seats) one (seats_weigh p.number p.weight p.opened p.first p.limits 0 p.seats is.seats);
     gathered = λ k s e. let P : Option (Place F) → Type 0 = λ o. IsGathered (seat_in o ++ []) s in
         subst P (sym e) (record { seen = (prefix_self s.seen, tt); own = sym (append-nil s.own) });
   }
@@ -146,7 +147,7 @@ module _ {F : Type 0} where
     free = joined_free seats p.seats joined old.free are;
     based = based_more ps p seats joined (joined_bases seats p.seats joined are) old.based;
     weights = let sum : total weight_of ps + p.weight ≡ total weight_of (ps ++ p ∷ []) = omega (arith, total-append weight_of ps (p ∷ [])) in
-        subst (λ (w : ℕ). Weigh w joined) sum (joined_weights seats p.seats joined (total weight_of ps) p.weight old.weights (seats_weigh p.number p.weight p.opened p.first p.capacity 0 p.seats is.seats) are);
+        subst (λ (w : ℕ). Weigh w joined) sum (joined_weights seats p.seats joined (total weight_of ps) p.weight old.weights (seats_weigh p.number p.weight p.opened p.first p.limits 0 p.seats is.seats) are);
     gathered = λ k n e.
         let at = joined_at seats p.seats joined k n are e in
         let col : column k ps ++ at.1 ∷ [] ≡ column k (ps ++ p ∷ []) = sym (column-append k ps p ∙ ap (λ (o : Option (Place F)). column k ps ++ seat_in o) at.3) in

@@ -1,4 +1,5 @@
 -- The journal of a host and of all its passes.
+use Rattle.std.specs.Prelude.{unwrap_or, IsSomeAnd, IfSome}
 use Rattle.std.proofs.Common.{◌≡◌, ◌≢◌, ◌⊎◌, inl, inr, ℕ, zero, suc, ◌+◌, ◌*◌, ◌^◌, ◌≤◌, ◌<◌, ◌==◌, suc-mul, zero-mul, true, false, Bool, cond, Option, Some, List, [], ◌∷◌, ◌++◌, map, length, filter, slice_get, refl, ap, sym, subst, ◌∙◌, arith, IsPermutation}
 use Rattle.std.proofs.lemmas.Bool.Decides.{nat_tests}
 use Rattle.std.proofs.lemmas.List.{length-map, append-nil}
@@ -9,13 +10,15 @@ use mathlib.Core.List.{IsPrefix}
 use Rattle.turn_lock.specs.Places.{total, times}
 use Rattle.outside.specs.Folder.{Files}
 use Rattle.wopi_text.specs.FileName.{shard_of}
-use Rattle.wopi_model.specs.Shard.{Opening, Entry, Item, Step, Legal, RisesFrom, stamps}
-use Rattle.wopi_model.specs.Host.{shard_of_entry, opening_of, part_of, LegalHost, IsInOrder}
+use Rattle.wopi_model.specs.Shard.{Opening, Entry, Item, Step, Legal, LegalFrom, RisesFrom, entries, stamps}
+use Rattle.wopi_model.specs.File.{File}
+use Rattle.wopi_model.specs.Begin.{Begin, new_life}
+use Rattle.wopi_model.specs.Host.{Limits, kept_limits, shard_of_entry, opening_of, part_of, LegalHost, IsInOrder}
 use Rattle.host_core.specs.Opening.{MayKeep}
-use Rattle.host_core.specs.Entries.{Made}
+use Rattle.host_core.specs.Entries.{Made, history_of}
 use Rattle.host_core.specs.Value.{Book, InMemory, Left, IsLawful}
 use Rattle.host_table.specs.declared.journal.Spot.{Spot}
-use Rattle.host_core.specs.Times.{steps_of, untimed, last_time}
+use Rattle.host_core.specs.Times.{steps_of, untimed, last_time, IsTimely}
 use Rattle.host_table.specs.Histories.{as_opened, AreNamed}
 use Rattle.host_table.specs.Held.{IsTakenApart}
 use Rattle.host_table.specs.Passes.{Place, PassView, HostView, Own, stamp_of, own_of, owned_from, lock_of, base_of, IsPassOf, AreBases, IsPass, IsHost, HasOwn}
@@ -25,6 +28,8 @@ use Rattle.host_table.specs.Close.{number_of, capacity_of, AreFree, IsWhole, IsB
 use Rattle.host_core.proofs.Timing.{entries-history}
 use Rattle.host_table.proofs.Stamps.{prefix_get, get_inside}
 use Rattle.host_table.proofs.Owned.{has_own}
+use Rattle.host_table.proofs.Leaving.{life_is}
+use Rattle.host_table.proofs.NewLives.{opening_kept}
 use Rattle.host_table.proofs.Order.{Has, all_at, all_of, has_filter, filter_has, filter_none, has_map, map_has, filter_map_is, AreOrdered, ordered_filter, one_order, rises_ordered}
 use Rattle.host_table.proofs.Sorting.{AreRising, ArePlaced, sorted_found, sorted_ordered, entry_has, has_entry}
 use Rattle.host_table.proofs.Owners.{in_from, in_sorted, same_number, seat_at, owner_of, seen_begins, has_times}
@@ -70,43 +75,53 @@ module _ {F : Type 0} (files : F → Option Files) (faults : F → ℕ) where
   taken_long (b ∷ books) (p ∷ parts) (f ∷ folders) a = ap suc (taken_long books parts folders a.1)
 
   -- what a shard leaves is of the shard that was opened
-  ended_one : (h : Book (InMemory F)) (part : Left F) (folder : F) → IsTakenApart files faults h part folder → IsEnded files faults (as_opened h) part folder
-  ended_one h part folder t =
+  ended_one : (opened oldest : ℕ) (h : Book (InMemory F)) (part : Left F) (folder : F) → h.begin.opened ≡ opened → h.begin.first ≡ oldest → IsTakenApart files faults h part folder → IsEnded files faults opened oldest (as_opened h) part folder
+  ended_one opened oldest h part folder at begins t =
       let goes = t.lawful.timely t.held.unticked in
-      let time : last_time h.opened h.made ≡ h.time = sym goes.time_is in
-      let P : Left F × F → Type 0 = λ z. IsEnded files faults (as_opened h) z.0 z.1 in
-      let both : (record { opening = h.opening; made = h.made; start = h.start.folder }, h.folder.folder) ≡ (part, folder) = λ i. (sym t.left_is i, sym t.folder_is i) in
-      let Q : ℕ → Type 0 = λ n. IsLawful (record { only = h.only; opening = h.opening; opened = h.opened; first = h.first; capacity = h.capacity; made = h.made; time = n; ticked = h.ticked; start = h.start.folder; folder = h.folder.folder }) (files h.start.folder) (files h.folder.folder) (faults h.start.folder) (faults h.folder.folder) in
+      let now : h.begin.now ≡ opened = ap (λ (b : Begin). b.now) t.begin_is ∙ at in
+      let time : last_time h.begin.now h.made ≡ h.time = sym goes.time_is in
+      let P : Left F × F → Type 0 = λ z. IsEnded files faults opened oldest (as_opened h) z.0 z.1 in
+      let both : (record { opening = h.folder.opening; made = h.made; start = h.start.folder }, h.folder.folder) ≡ (part, folder) = λ i. (sym t.left_is i, sym t.folder_is i) in
+      let Q : ℕ → Type 0 = λ n. IsLawful (record { only = h.only; begin = h.begin; limits = h.limits; made = h.made; time = n; ticked = h.ticked; start = h.start.folder; folder = h.folder.folder }) (files h.start.folder) (files h.folder.folder) (faults h.start.folder) (faults h.folder.folder) in
       let was : Q h.time = record { legal = t.lawful.legal; folder = t.lawful.folder; faults = t.lawful.faults; timely = t.lawful.timely; alone = t.lawful.alone } in
-      subst P both (record { opening = refl; start = refl; timely = goes.timely; lawful = subst Q (sym time) was })
+      subst P both (record {
+        begin = t.begin_is ∙ (λ i. new_life h.folder.opening (at i) (begins i));
+        start = refl;
+        timely = subst (λ (n : ℕ). IsTimely n h.made) now goes.timely;
+        lawful = subst Q (sym time) was;
+      })
 
-  ended_all : (books : List (Book (InMemory F))) (parts : List (Left F)) (folders : List F) → AreTaken files faults books parts folders → AreEnded files faults (map as_opened books) parts folders
-  ended_all [] [] [] a = tt
-  ended_all [] [] (f ∷ folders) a = absurd a
-  ended_all [] (p ∷ parts) [] a = absurd a
-  ended_all [] (p ∷ parts) (f ∷ folders) a = absurd a
-  ended_all (b ∷ books) [] [] a = absurd a
-  ended_all (b ∷ books) [] (f ∷ folders) a = absurd a
-  ended_all (b ∷ books) (p ∷ parts) [] a = absurd a
-  ended_all (b ∷ books) (p ∷ parts) (f ∷ folders) a = (ended_one b p f a.0, ended_all books parts folders a.1)
+  ended_all : (opened oldest : ℕ) (limits : Limits) (j : ℕ) (books : List (Book (InMemory F))) (parts : List (Left F)) (folders : List F) → AreTaken files faults books parts folders → AreBases opened oldest limits j (map as_opened books)
+      → AreEnded files faults opened oldest (map as_opened books) parts folders
+  ended_all opened oldest limits j [] [] [] a e = tt
+  ended_all opened oldest limits j [] [] (f ∷ folders) a e = absurd a
+  ended_all opened oldest limits j [] (p ∷ parts) [] a e = absurd a
+  ended_all opened oldest limits j [] (p ∷ parts) (f ∷ folders) a e = absurd a
+  ended_all opened oldest limits j (b ∷ books) [] [] a e = absurd a
+  ended_all opened oldest limits j (b ∷ books) [] (f ∷ folders) a e = absurd a
+  ended_all opened oldest limits j (b ∷ books) (p ∷ parts) [] a e = absurd a
+  ended_all opened oldest limits j (b ∷ books) (p ∷ parts) (f ∷ folders) a e = (ended_one opened oldest b p f e.0.opened_is e.0.first_is a.0, ended_all opened oldest limits (j + 1) books parts folders a.1 e.1)
 
   -- each part's entries stand in their names' shard, and their stamps rise
-  parts_placed : (opened oldest capacity j : ℕ) (books : List (Book (InMemory F))) (parts : List (Left F)) (folders : List F) → AreTaken files faults books parts folders → AreBases opened oldest capacity j (map as_opened books) → ArePlaced j parts × AreRising parts
-  parts_placed opened oldest capacity j [] [] [] a b = (tt, tt)
-  parts_placed opened oldest capacity j [] [] (f ∷ folders) a b = absurd a
-  parts_placed opened oldest capacity j [] (p ∷ parts) [] a b = absurd a
-  parts_placed opened oldest capacity j [] (p ∷ parts) (f ∷ folders) a b = absurd a
-  parts_placed opened oldest capacity j (h ∷ books) [] [] a b = absurd a
-  parts_placed opened oldest capacity j (h ∷ books) [] (f ∷ folders) a b = absurd a
-  parts_placed opened oldest capacity j (h ∷ books) (p ∷ parts) [] a b = absurd a
-  parts_placed opened oldest capacity j (h ∷ books) (p ∷ parts) (f ∷ folders) a b =
+  parts_placed : (opened oldest : ℕ) (limits : Limits) (j : ℕ) (books : List (Book (InMemory F))) (parts : List (Left F)) (folders : List F) → AreTaken files faults books parts folders → AreBases opened oldest limits j (map as_opened books) → ArePlaced j parts × AreRising parts
+  parts_placed opened oldest limits j [] [] [] a b = (tt, tt)
+  parts_placed opened oldest limits j [] [] (f ∷ folders) a b = absurd a
+  parts_placed opened oldest limits j [] (p ∷ parts) [] a b = absurd a
+  parts_placed opened oldest limits j [] (p ∷ parts) (f ∷ folders) a b = absurd a
+  parts_placed opened oldest limits j (h ∷ books) [] [] a b = absurd a
+  parts_placed opened oldest limits j (h ∷ books) [] (f ∷ folders) a b = absurd a
+  parts_placed opened oldest limits j (h ∷ books) (p ∷ parts) [] a b = absurd a
+  parts_placed opened oldest limits j (h ∷ books) (p ∷ parts) (f ∷ folders) a b =
       let t = a.0 in
       let made : h.made ≡ p.made = sym (ap (λ (z : Left F). z.made) t.left_is) in
       let P : Option ℕ × List Made → Type 0 = λ z. AreNamed z.0 z.1 in
       let both : (h.only, h.made) ≡ (Some j, p.made) = λ i. (b.0.only i, made i) in
       let named : AreNamed (Some j) p.made = subst P both t.held.named in
-      let rises : RisesFrom 0 (stamps (steps_of h.made)) = subst (λ (es : List Entry). RisesFrom 0 (stamps es)) (entries-history h.made h.time) t.lawful.legal.stamps in
-      let rest = parts_placed opened oldest capacity (j + 1) books parts folders a.1 b.1 in
+      let new : h.begin.last ≡ 0 = ap (λ (z : Begin). z.last) t.begin_is in
+      let P' : ℕ × List Entry → Type 0 = λ z. RisesFrom z.0 (stamps z.1) in
+      let all : (h.begin.last, entries (history_of h.made h.time)) ≡ (0, steps_of h.made) = λ i. (new i, entries-history h.made h.time i) in
+      let rises : RisesFrom 0 (stamps (steps_of h.made)) = subst P' all t.lawful.legal.stamps in
+      let rest = parts_placed opened oldest limits (j + 1) books parts folders a.1 b.1 in
       ((named, rest.0), (subst (λ (m : List Made). RisesFrom 0 (stamps (steps_of m))) made rises, rest.1))
 
 -- the shards that lay under the locks are those that were opened
@@ -212,34 +227,37 @@ homed_files : (only : Option ℕ) (j : ℕ) (opening : Opening) → only ≡ Som
 homed_files only j [] e a = tt
 homed_files only j (file ∷ opening) e a = let P : Option ℕ → Type 0 = λ o. MayKeep o file.0 in ((subst P e a.0).1, homed_files only j opening e a.1)
 
-part_legal : {F : Type 0} (files : F → Option Files) (faults : F → ℕ) (h : Book (InMemory F)) (part : Left F) (folder : F) → IsTakenApart files faults h part folder → Legal part.opening h.opened h.first (untimed part.made)
+part_legal : {F : Type 0} (files : F → Option Files) (faults : F → ℕ) (h : Book (InMemory F)) (part : Left F) (folder : F) → IsTakenApart files faults h part folder → Legal part.opening h.begin.opened h.begin.first (untimed part.made)
 part_legal files faults h part folder t =
-    let P : Opening × List Made → Type 0 = λ z. Legal z.0 h.opened h.first (untimed z.1) in
-    let both : (h.opening, h.made) ≡ (part.opening, part.made) = λ i. ((sym t.left_is i).opening, (sym t.left_is i).made) in
+    let P : Begin × List Made → Type 0 = λ z. LegalFrom z.0 (untimed z.1) in
+    let life = life_is files faults h part folder t in
+    let both : (h.begin, h.made) ≡ (new_life part.opening h.begin.opened h.begin.first, part.made) = λ i. (life i, (sym t.left_is i).made) in
     subst P both (t.lawful.alone t.held.unticked)
 
 module _ {F : Type 0} where
-  homed_all : (files : F → Option Files) (faults : F → ℕ) (opened oldest capacity j : ℕ) (books : List (Book (InMemory F))) (parts : List (Left F)) (folders : List F) → AreTaken files faults books parts folders → AreBases opened oldest capacity j (map as_opened books) → AreHomed j parts
-  homed_all files faults opened oldest capacity j [] [] [] a b = tt
-  homed_all files faults opened oldest capacity j [] [] (f ∷ folders) a b = absurd a
-  homed_all files faults opened oldest capacity j [] (p ∷ parts) [] a b = absurd a
-  homed_all files faults opened oldest capacity j [] (p ∷ parts) (f ∷ folders) a b = absurd a
-  homed_all files faults opened oldest capacity j (h ∷ books) [] [] a b = absurd a
-  homed_all files faults opened oldest capacity j (h ∷ books) [] (f ∷ folders) a b = absurd a
-  homed_all files faults opened oldest capacity j (h ∷ books) (p ∷ parts) [] a b = absurd a
-  homed_all files faults opened oldest capacity j (h ∷ books) (p ∷ parts) (f ∷ folders) a b =
-      let opening : h.opening ≡ p.opening = sym (ap (λ (z : Left F). z.opening) a.0.left_is) in
-      (subst (λ (o : Opening). AllByRecursion (λ (file : List ℕ × List ℕ). shard_of file.0 ≡ j) o) opening (homed_files h.only j h.opening b.0.only b.0.names), homed_all files faults opened oldest capacity (j + 1) books parts folders a.1 b.1)
+  homed_all : (files : F → Option Files) (faults : F → ℕ) (opened oldest : ℕ) (limits : Limits) (j : ℕ) (books : List (Book (InMemory F))) (parts : List (Left F)) (folders : List F) → AreTaken files faults books parts folders → AreBases opened oldest limits j (map as_opened books) → AreHomed j parts
+  homed_all files faults opened oldest limits j [] [] [] a b = tt
+  homed_all files faults opened oldest limits j [] [] (f ∷ folders) a b = absurd a
+  homed_all files faults opened oldest limits j [] (p ∷ parts) [] a b = absurd a
+  homed_all files faults opened oldest limits j [] (p ∷ parts) (f ∷ folders) a b = absurd a
+  homed_all files faults opened oldest limits j (h ∷ books) [] [] a b = absurd a
+  homed_all files faults opened oldest limits j (h ∷ books) [] (f ∷ folders) a b = absurd a
+  homed_all files faults opened oldest limits j (h ∷ books) (p ∷ parts) [] a b = absurd a
+  homed_all files faults opened oldest limits j (h ∷ books) (p ∷ parts) (f ∷ folders) a b =
+      let life = life_is files faults h p f a.0 in
+      let kept : AllByRecursion (λ (file : List ℕ × List ℕ). MayKeep h.only file.0) p.opening =
+      opening_kept h.only h.begin.first p.opening (subst (λ (z : Begin). AllByRecursion (λ (file : List ℕ × File). MayKeep h.only file.0) z.files) life b.0.names) in
+      (homed_files h.only j p.opening b.0.only kept, homed_all files faults opened oldest limits (j + 1) books parts folders a.1 b.1)
 
-  base_opened : (opened oldest capacity j : ℕ) (books : List (Book F)) (i : ℕ) (h : Book F) → AreBases opened oldest capacity j (map as_opened books) → slice_get books i ≡ Some h → h.opened ≡ opened
-  base_opened opened oldest capacity j [] i h a e = absurd (cc e)
-  base_opened opened oldest capacity j (b ∷ books) zero h a e = let same : b ≡ h = cc e in ap (λ (z : Book F). z.opened) (sym same) ∙ a.0.opened_is
-  base_opened opened oldest capacity j (b ∷ books) (suc i) h a e = base_opened opened oldest capacity (j + 1) books i h a.1 e
+  base_opened : (opened oldest : ℕ) (limits : Limits) (j : ℕ) (books : List (Book F)) (i : ℕ) (h : Book F) → AreBases opened oldest limits j (map as_opened books) → slice_get books i ≡ Some h → h.begin.opened ≡ opened
+  base_opened opened oldest limits j [] i h a e = absurd (cc e)
+  base_opened opened oldest limits j (b ∷ books) zero h a e = let same : b ≡ h = cc e in ap (λ (z : Book F). z.begin.opened) (sym same) ∙ a.0.opened_is
+  base_opened opened oldest limits j (b ∷ books) (suc i) h a e = base_opened opened oldest limits (j + 1) books i h a.1 e
 
-  base_first : (opened oldest capacity j : ℕ) (books : List (Book F)) (i : ℕ) (h : Book F) → AreBases opened oldest capacity j (map as_opened books) → slice_get books i ≡ Some h → h.first ≡ oldest
-  base_first opened oldest capacity j [] i h a e = absurd (cc e)
-  base_first opened oldest capacity j (b ∷ books) zero h a e = let same : b ≡ h = cc e in ap (λ (z : Book F). z.first) (sym same) ∙ a.0.first_is
-  base_first opened oldest capacity j (b ∷ books) (suc i) h a e = base_first opened oldest capacity (j + 1) books i h a.1 e
+  base_first : (opened oldest : ℕ) (limits : Limits) (j : ℕ) (books : List (Book F)) (i : ℕ) (h : Book F) → AreBases opened oldest limits j (map as_opened books) → slice_get books i ≡ Some h → h.begin.first ≡ oldest
+  base_first opened oldest limits j [] i h a e = absurd (cc e)
+  base_first opened oldest limits j (b ∷ books) zero h a e = let same : b ≡ h = cc e in ap (λ (z : Book F). z.begin.first) (sym same) ∙ a.0.first_is
+  base_first opened oldest limits j (b ∷ books) (suc i) h a e = base_first opened oldest limits (j + 1) books i h a.1 e
 
   parts_are : (merge : List Made) (j : ℕ) (parts : List (Left F)) → ((i : ℕ) (part : Left F) → slice_get parts i ≡ Some part → part.made ≡ filter (λ one. shard_of_entry one.step == j + i) merge) → AreParts merge j parts
   parts_are merge j [] f = tt
@@ -255,17 +273,17 @@ module _ {F : Type 0} where
   seen_are (s ∷ seats) [] e f = absurd (omega arith)
   seen_are (s ∷ seats) (p ∷ parts) e f = (f 0 s p refl refl, seen_are seats parts (omega arith) (λ i t q a b. f (suc i) t q a b))
 
-module _ {F : Type 0} (files : F → Option Files) (faults : F → ℕ) (opened oldest capacity made : ℕ) (passes : List (PassView (InMemory F))) (seats : List (Place (InMemory F))) (books : List (Book (InMemory F))) (parts : List (Left F)) (folders : List F) (sorted : List Spot)
-    (whole : IsWhole made passes) (joined : IsJoinOf passes seats) (ends : AreEnds seats books) (bases : AreBases opened oldest capacity 0 (map as_opened books)) (taken : AreTaken files faults books parts folders) (long : length books ≡ 16)
+module _ {F : Type 0} (files : F → Option Files) (faults : F → ℕ) (opened oldest : ℕ) (limits : Limits) (made : ℕ) (passes : List (PassView (InMemory F))) (seats : List (Place (InMemory F))) (books : List (Book (InMemory F))) (parts : List (Left F)) (folders : List F) (sorted : List Spot)
+    (whole : IsWhole made passes) (joined : IsJoinOf passes seats) (ends : AreEnds seats books) (bases : AreBases opened oldest limits 0 (map as_opened books)) (taken : AreTaken files faults books parts folders) (long : length books ≡ 16)
     (moved : IsPermutation (all_spots 0 parts) sorted) (up : IsNonDecreasingBy order_of sorted) where
   abbrev merge : List Made
   merge = merge_of parts sorted
 
   placed : ArePlaced 0 parts
-  placed = (parts_placed files faults opened oldest capacity 0 books parts folders taken bases).0
+  placed = (parts_placed files faults opened oldest limits 0 books parts folders taken bases).0
 
   rising : AreRising parts
-  rising = (parts_placed files faults opened oldest capacity 0 books parts folders taken bases).1
+  rising = (parts_placed files faults opened oldest limits 0 books parts folders taken bases).1
 
   parts_long : length parts ≡ 16
   parts_long = taken_long files faults books parts folders taken ∙ long
@@ -316,7 +334,7 @@ module _ {F : Type 0} (files : F → Option Files) (faults : F → ℕ) (opened 
   there_in_merge p o mine h =
       let at = in_from 0 p.seats o (in_sorted (owned_from 0 p.seats) o h) in
       let is = all_at IsPass passes p joined.passes_are mine in
-      let seat = seat_at p.number p.weight p.opened p.first p.capacity 0 p.seats at.shard at.seat is.seats at.there in
+      let seat = seat_at p.number p.weight p.opened p.first p.limits 0 p.seats at.shard at.seat is.seats at.there in
       let own = has_own p.number (slice_get at.seat.seen at.place) (all_at (λ place. HasOwn p.number (slice_get at.seat.seen place)) at.seat.own at.place seat.owns at.own) in
       let same : own.0 ≡ at.one = cc (own.1, at.seen) in
       let inside = get_inside p.seats at.shard at.seat at.there in let wide = is.wide in let n = parts_long in
@@ -352,13 +370,13 @@ module _ {F : Type 0} (files : F → Option Files) (faults : F → ℕ) (opened 
       let n = parts_long in
       let part = got parts shard (omega arith) in
       let t = made_of shard part.0 part.1 in
-      let opening : opening_of shard (openings parts) ≡ part.0.opening = openings_at 0 parts shard part.0 shard (omega arith) (homed_all files faults opened oldest capacity 0 books parts folders taken bases) part.1 in
+      let opening : opening_of shard (openings parts) ≡ part.0.opening = openings_at 0 parts shard part.0 shard (omega arith) (homed_all files faults opened oldest limits 0 books parts folders taken bases) part.1 in
       let history : part_of shard (steps_of merge) ≡ untimed part.0.made =
       ap (map Step) (filter_map_is (λ (z : Made). z.step) (λ (e : Entry). shard_of_entry e == shard) merge) ∙ ap untimed (sym (part_is shard part.0 part.1)) in
-      let when : t.0.opened ≡ opened = base_opened opened oldest capacity 0 books shard t.0 bases t.2 in
-      let begins : t.0.first ≡ oldest = base_first opened oldest capacity 0 books shard t.0 bases t.2 in
+      let when : t.0.begin.opened ≡ opened = base_opened opened oldest limits 0 books shard t.0 bases t.2 in
+      let begins : t.0.begin.first ≡ oldest = base_first opened oldest limits 0 books shard t.0 bases t.2 in
       let P : Opening × (ℕ × (ℕ × List Item)) → Type 0 = λ z. Legal z.0 z.1.0 z.1.1.0 z.1.1.1 in
-      let all : (part.0.opening, (t.0.opened, (t.0.first, untimed part.0.made))) ≡ (opening_of shard (openings parts), (opened, (oldest, part_of shard (steps_of merge)))) =
+      let all : (part.0.opening, (t.0.begin.opened, (t.0.begin.first, untimed part.0.made))) ≡ (opening_of shard (openings parts), (opened, (oldest, part_of shard (steps_of merge)))) =
       λ i. (sym opening i, (when i, (begins i, sym history i))) in
       subst P all (part_legal files faults t.0 part.0 t.1 t.3)
 
@@ -404,22 +422,22 @@ module _ {F : Type 0} (files : F → Option Files) (faults : F → ℕ) (opened 
       omega (arith, same, below))
 
 pub ends_all : {F : Type 0} (files : F → Option Files) (faults : F → ℕ) (host : HostView (InMemory F)) (passes : List (PassView (InMemory F))) (seats : List (Place (InMemory F))) (books : List (Book (InMemory F))) (parts : List (Left F)) (folders : List F) (sorted : List Spot)
-    → AreBases host.opened host.first host.capacity 0 host.bases → length books ≡ 16 → AllByRecursion (IsPassOf host) passes → IsWhole host.made passes → IsJoinOf passes seats → AreEnds seats books → AreTaken files faults books parts folders
+    → AreBases host.opened host.first host.limits 0 host.bases → length books ≡ 16 → AllByRecursion (IsPassOf host) passes → IsWhole host.made passes → IsJoinOf passes seats → AreEnds seats books → AreTaken files faults books parts folders
     → IsPermutation (all_spots 0 parts) sorted → IsNonDecreasingBy order_of sorted
     → AreFound parts sorted × Ends files faults host passes (record { opened = host.opened; first = host.first; parts = parts; merge = merge_of parts sorted }) folders
 ends_all files faults host passes seats books parts folders sorted bases long of whole joined ends taken moved up =
     let same : map as_opened books ≡ host.bases = ended_bases seats books host.bases ends (based_on host passes seats of joined.based) in
-    let mine : AreBases host.opened host.first host.capacity 0 (map as_opened books) = subst (λ (bs : List (Book _)). AreBases host.opened host.first host.capacity 0 bs) (sym same) bases in (
-      spots_found files faults host.opened host.first host.capacity host.made passes seats books parts folders sorted whole joined ends mine taken long moved up,
+    let mine : AreBases host.opened host.first host.limits 0 (map as_opened books) = subst (λ (bs : List (Book _)). AreBases host.opened host.first host.limits 0 bs) (sym same) bases in (
+      spots_found files faults host.opened host.first host.limits host.made passes seats books parts folders sorted whole joined ends mine taken long moved up,
       record {
         opened_is = refl;
         first_is = refl;
-        legal = legal_host files faults host.opened host.first host.capacity host.made passes seats books parts folders sorted whole joined ends mine taken long moved up;
-        parts = all_parts files faults host.opened host.first host.capacity host.made passes seats books parts folders sorted whole joined ends mine taken long moved up;
-        ended = subst (λ (bs : List (Book _)). AreEnded files faults bs parts folders) same (ended_all files faults books parts folders taken);
-        seen = all_seen files faults host.opened host.first host.capacity host.made passes seats books parts folders sorted whole joined ends mine taken long moved up;
-        passes_are = all_made files faults host.opened host.first host.capacity host.made passes seats books parts folders sorted whole joined ends mine taken long moved up;
-        own = all_own files faults host.opened host.first host.capacity host.made passes seats books parts folders sorted whole joined ends mine taken long moved up;
+        legal = legal_host files faults host.opened host.first host.limits host.made passes seats books parts folders sorted whole joined ends mine taken long moved up;
+        parts = all_parts files faults host.opened host.first host.limits host.made passes seats books parts folders sorted whole joined ends mine taken long moved up;
+        ended = subst (λ (bs : List (Book _)). AreEnded files faults host.opened host.first bs parts folders) same (ended_all files faults host.opened host.first host.limits 0 books parts folders taken mine);
+        seen = all_seen files faults host.opened host.first host.limits host.made passes seats books parts folders sorted whole joined ends mine taken long moved up;
+        passes_are = all_made files faults host.opened host.first host.limits host.made passes seats books parts folders sorted whole joined ends mine taken long moved up;
+        own = all_own files faults host.opened host.first host.limits host.made passes seats books parts folders sorted whole joined ends mine taken long moved up;
       },
     )
 
@@ -434,13 +452,16 @@ module _ {F : Type 0} where
   ends_long (s ∷ seats) [] a = absurd a
   ends_long (s ∷ seats) (h ∷ books) a = ap suc (ends_long seats books a.1)
 
-  capacity_sum : (opened oldest capacity j : ℕ) (books : List (Book F)) → AreBases opened oldest capacity j (map as_opened books) → total capacity_of books ≡ length books * capacity
-  capacity_sum opened oldest capacity j [] a = sym (zero-mul capacity)
-  capacity_sum opened oldest capacity j (h ∷ books) a = let rest = capacity_sum opened oldest capacity (j + 1) books a.1 in let here = a.0.capacity_is in let more = suc-mul (length books) capacity in omega arith
+  capacity_sum : (opened oldest calls j : ℕ) (books : List (Book F)) → AreBases opened oldest (kept_limits calls) j (map as_opened books) → total capacity_of books ≡ length books * calls
+  capacity_sum opened oldest calls j [] a = sym (zero-mul calls)
+  capacity_sum opened oldest calls j (h ∷ books) a =
+      let rest = capacity_sum opened oldest calls (j + 1) books a.1 in let here : capacity_of h ≡ calls = ap (λ (l : Limits). unwrap_or l.calls 0) a.0.limits_is in let more = suc-mul (length books) calls in
+      omega (arith, rest, here, more)
 
-  capacity_fits : (opened oldest capacity j : ℕ) (books : List (Book F)) → capacity < 4294967296 → AreBases opened oldest capacity j (map as_opened books) → AllByRecursion (λ book. book.capacity < 4294967296) books
-  capacity_fits opened oldest capacity j [] h a = tt
-  capacity_fits opened oldest capacity j (b ∷ books) h a = let here = a.0.capacity_is in (omega arith, capacity_fits opened oldest capacity (j + 1) books h a.1)
+  capacity_fits : (opened oldest calls j : ℕ) (books : List (Book F)) → calls < 4294967296 → AreBases opened oldest (kept_limits calls) j (map as_opened books) → AllByRecursion (λ book. IsSomeAnd book.limits.calls (λ n. n < 4294967296)) books
+  capacity_fits opened oldest calls j [] h a = tt
+  capacity_fits opened oldest calls j (b ∷ books) h a =
+      (subst (λ (l : Limits). IsSomeAnd l.calls (λ n. n < 4294967296)) (sym a.0.limits_is) h, capacity_fits opened oldest calls (j + 1) books h a.1)
 
   -- the shards that lay under the locks, by what each pass is based on
   module _ (host : HostView F) (passes : List (PassView F)) (seats : List (Place F)) (shards old books : List (Book F)) (is : IsHost host) (of : AllByRecursion (IsPassOf host) passes) (joined : IsJoinOf passes seats)
@@ -454,11 +475,17 @@ module _ {F : Type 0} where
     pub shards_long : length shards ≡ 16
     shards_long = ends_long seats shards shards_ends ∙ (sym (length-map seats lock_of) ∙ (ap length locks ∙ is.wide))
 
-    pub shards_bases : AreBases host.opened host.first host.capacity 0 (map as_opened shards)
-    shards_bases = subst (λ (bs : List (Book F)). AreBases host.opened host.first host.capacity 0 bs) (sym (ended_bases seats shards host.bases shards_ends (based_on host passes seats of joined.based))) is.bases
+    pub shards_bases : AreBases host.opened host.first host.limits 0 (map as_opened shards)
+    shards_bases = subst (λ (bs : List (Book F)). AreBases host.opened host.first host.limits 0 bs) (sym (ended_bases seats shards host.bases shards_ends (based_on host passes seats of joined.based))) is.bases
 
-    pub shards_sum : total capacity_of shards ≡ 16 * host.capacity
-    shards_sum = capacity_sum host.opened host.first host.capacity 0 shards shards_bases ∙ ap (λ (n : ℕ). n * host.capacity) shards_long
+    module _ (calls : ℕ) (limits : host.limits ≡ kept_limits calls) where
+      shards_limits : AreBases host.opened host.first (kept_limits calls) 0 (map as_opened shards)
+      shards_limits = subst (λ (l : Limits). AreBases host.opened host.first l 0 (map as_opened shards)) limits shards_bases
 
-    pub shards_fit : AllByRecursion (λ book. book.capacity < 4294967296) shards
-    shards_fit = let small = is.small in capacity_fits host.opened host.first host.capacity 0 shards (omega arith) shards_bases
+      pub shards_sum : total capacity_of shards ≡ 16 * calls
+      shards_sum = capacity_sum host.opened host.first calls 0 shards shards_limits ∙ ap (λ (n : ℕ). n * calls) shards_long
+
+      pub shards_fit : AllByRecursion (λ book. IsSomeAnd book.limits.calls (λ n. n < 4294967296)) shards
+      shards_fit =
+          let small : calls ≤ 32768 = subst (λ (l : Limits). IfSome l.calls (λ n. n ≤ 32768)) limits is.small in
+          capacity_fits host.opened host.first calls 0 shards (omega (arith, small)) shards_limits

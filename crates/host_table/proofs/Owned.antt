@@ -6,7 +6,7 @@ use Rattle.wopi_model.specs.Shard.{RisesFrom, stamps, last_from}
 use Rattle.host_core.specs.Entries.{Made}
 use Rattle.host_core.specs.Times.{steps_of}
 use Rattle.host_table.specs.Histories.{last_stamp}
-use Rattle.host_table.specs.Passes.{Place, Own, owned_at, owned, stamp_of, put_in, by_stamp, owned_from, top, HasOwn, Owns}
+use Rattle.host_table.specs.Passes.{Place, Own, owned_at, owned, stamp_of, put_in, by_stamp, owned_from, begin_seen, last_seen, top, HasOwn, Owns}
 use Rattle.host_table.proofs.Stamps.{prefix_get, get_last, last_stamp-most}
 use Rattle.wopi_model.proofs.Histories.{RisesFrom-push}
 
@@ -78,14 +78,14 @@ last_below : (low n : ℕ) (xs : List Own) → low < n → AllBelow n xs → las
 last_below low n [] h b = h
 last_below low n (x ∷ xs) h b = last_below (stamp_of x) n xs b.0 b.1
 
-owned_below : (number shard n : ℕ) (xs : List Made) (places : List ℕ) → RisesFrom 0 (stamps (steps_of xs)) → Owns number xs places → last_stamp xs < n → AllBelow n (owned shard xs places)
-owned_below number shard n xs [] r o l = tt
-owned_below number shard n xs (place ∷ places) r o l =
+owned_below : (number shard low n : ℕ) (xs : List Made) (places : List ℕ) → RisesFrom low (stamps (steps_of xs)) → Owns number xs places → last_stamp low xs < n → AllBelow n (owned shard xs places)
+owned_below number shard low n xs [] r o l = tt
+owned_below number shard low n xs (place ∷ places) r o l =
     let one = has_own number (slice_get xs place) o.0 in
-    let most = last_stamp-most place xs one.0 one.1 r in
+    let most = last_stamp-most low place xs one.0 one.1 r in
     let here : stamp_of (record { shard = shard; place = place; entry = one.0.step }) < n = omega arith in
     let P : Option Made → Type 0 = λ (z : Option Made). AllBelow n (owned_at shard place z ++ owned shard xs places) in
-    subst P (sym one.1) (here, owned_below number shard n xs places r o.1 l)
+    subst P (sym one.1) (here, owned_below number shard low n xs places r o.1 l)
 
 record Split (old new : List Own) (x : Own) : Type 0 where
   left : List Own
@@ -97,12 +97,12 @@ module _ {F : Type 0} where
   -- of each seat: the stamps rise, and the own entries are the pass's
   abbrev pub AreOwn : ℕ → List (Place F) → Type 0
   AreOwn number [] = Unit {0}
-  AreOwn number (s ∷ ss) = (RisesFrom 0 (stamps (steps_of s.seen)) × Owns number s.seen s.own) × AreOwn number ss
+  AreOwn number (s ∷ ss) = (RisesFrom (begin_seen s.base).last (stamps (steps_of s.seen)) × Owns number s.seen s.own) × AreOwn number ss
 
   all_below : (number j n : ℕ) (ss : List (Place F)) → AreOwn number ss → top ss < n → 0 < n → AllBelow n (owned_from j ss)
   all_below number j n [] o l z = tt
-  all_below number j n (s ∷ ss) o l z = let a : last_stamp s.seen < n = grind arith in let b : top ss < n = grind arith in
-      below-append n (owned j s.seen s.own) (owned_from (j + 1) ss) (owned_below number j n s.seen s.own o.0.0 o.0.1 a) (all_below number (j + 1) n ss o.1 b z)
+  all_below number j n (s ∷ ss) o l z = let a : last_seen s < n = grind arith in let b : top ss < n = grind arith in
+      below-append n (owned j s.seen s.own) (owned_from (j + 1) ss) (owned_below number j (begin_seen s.base).last n s.seen s.own o.0.0 o.0.1 a) (all_below number (j + 1) n ss o.1 b z)
 
   split_at : (j n : ℕ) (ss : List (Place F)) (k : ℕ) (v w : Place F) (x : Own) → n ≡ j + k → k < length ss → v ≡ get_or ss k v → owned n w.seen w.own ≡ owned n v.seen v.own ++ x ∷ [] → Split (owned_from j ss) (owned_from j (set ss k w)) x
   split_at j n [] k v w x e h at m = absurd (omega arith)

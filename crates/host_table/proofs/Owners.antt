@@ -4,6 +4,7 @@ use Rattle.std.proofs.lemmas.Bool.Decides.{nat_tests}
 use mathlib.Core.List.{IsPrefix}
 use Rattle.turn_lock.specs.Places.{times}
 use Rattle.turn_lock.proofs.Prefixes.{prefix_trans}
+use Rattle.wopi_model.specs.Host.{Limits}
 use Rattle.host_core.specs.Entries.{Made}
 use Rattle.host_core.specs.Value.{Book}
 use Rattle.host_table.specs.Passes.{Place, PassView, Own, owned_at, owned, owned_from, put_in, by_stamp, stamp_of, own_of, HasOwn, IsSeat, AreSeats, IsPass}
@@ -162,15 +163,15 @@ module _ {F : Type 0} where
     twice : (n m : ℕ) (xs : List ℕ) → n ≡ m → 1 ≤ times m xs → times n (n ∷ xs) ≤ 1 → ⊥
     twice n m xs e a b = let same : times n xs ≡ times m xs = ap (λ (k : ℕ). times k xs) e in grind (arith, nat_tests)
 
-  pub seat_at : (number weight opened oldest capacity j : ℕ) (ss : List (Place F)) (i : ℕ) (s : Place F) → AreSeats number weight opened oldest capacity j ss → slice_get ss i ≡ Some s → IsSeat number weight opened oldest capacity (j + i) s
-  seat_at number weight opened oldest capacity j [] i s are e = absurd (cc e)
-  seat_at number weight opened oldest capacity j (x ∷ ss) zero s are e =
+  pub seat_at : (number weight opened oldest : ℕ) (limits : Limits) (j : ℕ) (ss : List (Place F)) (i : ℕ) (s : Place F) → AreSeats number weight opened oldest limits j ss → slice_get ss i ≡ Some s → IsSeat number weight opened oldest limits (j + i) s
+  seat_at number weight opened oldest limits j [] i s are e = absurd (cc e)
+  seat_at number weight opened oldest limits j (x ∷ ss) zero s are e =
       let same : x ≡ s = cc e in let z : j ≡ j + 0 = omega arith in
-      let P : ℕ × Place F → Type 0 = λ k. IsSeat number weight opened oldest capacity k.0 k.1 in
+      let P : ℕ × Place F → Type 0 = λ k. IsSeat number weight opened oldest limits k.0 k.1 in
       let both : (j, x) ≡ (j + 0, s) = λ i. (z i, same i) in subst P both are.0
-  seat_at number weight opened oldest capacity j (x ∷ ss) (suc i) s are e =
+  seat_at number weight opened oldest limits j (x ∷ ss) (suc i) s are e =
       let n : (j + 1) + i ≡ j + suc i = omega arith in
-      let P : ℕ → Type 0 = λ k. IsSeat number weight opened oldest capacity k s in subst P n (seat_at number weight opened oldest capacity (j + 1) ss i s are.1 e)
+      let P : ℕ → Type 0 = λ k. IsSeat number weight opened oldest limits k s in subst P n (seat_at number weight opened oldest limits (j + 1) ss i s are.1 e)
 
   pub end_at : (seats : List (Place F)) (books : List (Book F)) (i : ℕ) (h : Book F) → AreEnds seats books → slice_get books i ≡ Some h → (s : Place F) × (slice_get seats i ≡ Some s) × IsEnd s h
   end_at [] [] i h a e = absurd (cc e)
@@ -191,7 +192,7 @@ module _ {F : Type 0} where
       let own = in_places (column i passes) k (subst (λ (z : List ℕ). Has z k) g.own (times_has final.own k some)) in let s = own.0 in
       let q = in_column i passes s own.1 in
       let is = all_at IsPass passes q.0 joined.passes_are q.1 in
-      let seat = seat_at q.0.number q.0.weight q.0.opened q.0.first q.0.capacity 0 q.0.seats i s is.seats q.2 in
+      let seat = seat_at q.0.number q.0.weight q.0.opened q.0.first q.0.limits 0 q.0.seats i s is.seats q.2 in
       let mine = has_own q.0.number (slice_get s.seen k) (all_at (λ place. HasOwn q.0.number (slice_get s.seen place)) s.own k seat.owns own.2) in
       let begins : IsPrefix s.seen h.made = prefix_trans s.seen final.seen h.made (all_at (λ z. IsPrefix z.seen final.seen) (column i passes) s g.seen own.1) end.2.begins in
       let same : mine.0 ≡ one = cc (prefix_get s.seen h.made k mine.0 begins mine.1, e) in

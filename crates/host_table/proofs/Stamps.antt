@@ -35,8 +35,8 @@ last_from-prefix low (x ∷ xs) (y ∷ ys) p r =
     subst P (sym heads) (last_from-prefix y.step.stamp xs ys (p.0, cc (p.1)) r.1)
 
 -- the last stamp doesn't fall as a history grows
-pub last_stamp-prefix : (xs ys : List Made) → IsPrefix xs ys → RisesFrom 0 (stamps (steps_of ys)) → last_stamp xs ≤ last_stamp ys
-last_stamp-prefix xs ys = last_from-prefix 0 xs ys
+pub last_stamp-prefix : (low : ℕ) (xs ys : List Made) → IsPrefix xs ys → RisesFrom low (stamps (steps_of ys)) → last_stamp low xs ≤ last_stamp low ys
+last_stamp-prefix = last_from-prefix
 
 last_from-most : (low k : ℕ) (xs : List Made) (one : Made) → slice_get xs k ≡ Some one → RisesFrom low (stamps (steps_of xs)) → one.step.stamp ≤ last_from low (stamps (steps_of xs))
 last_from-most low k [] one e r = absurd (cc e)
@@ -46,8 +46,8 @@ last_from-most low zero (x ∷ xs) one e r =
 last_from-most low (suc k) (x ∷ xs) one e r = last_from-most x.step.stamp k xs one e r.1
 
 -- no stamp is greater than the last
-pub last_stamp-most : (k : ℕ) (xs : List Made) (one : Made) → slice_get xs k ≡ Some one → RisesFrom 0 (stamps (steps_of xs)) → one.step.stamp ≤ last_stamp xs
-last_stamp-most = last_from-most 0
+pub last_stamp-most : (low k : ℕ) (xs : List Made) (one : Made) → slice_get xs k ≡ Some one → RisesFrom low (stamps (steps_of xs)) → one.step.stamp ≤ last_stamp low xs
+last_stamp-most = last_from-most
 
 pub steps-long : (made : List Made) → length (steps_of made) ≡ length made
 steps-long [] = refl

@@ -2,6 +2,7 @@
 use Rattle.std.proofs.Common.{◌≡◌, ℕ, ◌+◌, Option, Some, List, [], ◌∷◌, ◌++◌, map, length, refl, ap, sym, subst, ◌∙◌, append_assoc, arith}
 use Rattle.outside.specs.Folder.{Files}
 use Rattle.outside.specs.Faults.{Rose}
+use Rattle.wopi_model.specs.Host.{Limits}
 use Rattle.host_core.specs.declared.opening.StartFault.{StartFault}
 use Rattle.host_core.specs.declared.opening.StartFault.TheVariants as fault
 use Rattle.host_core.specs.Opening.{IsTooLarge, IfTooLarge}
@@ -32,41 +33,41 @@ module _ {F : Type 0} (files : F → Option Files) (faults : F → ℕ) where
   handed_long (o ∷ olds) [] a = absurd a
   handed_long (o ∷ olds) (n ∷ news) a = let rest = handed_long olds news a.1 in omega arith
 
-  pub begun_push : (opened oldest capacity number n : ℕ) (folders : List F) (bases : List (Book F)) (folder : F) (base : Book F) → n ≡ number + length folders → AreBegun files faults opened oldest capacity number folders bases → IsBegun files faults opened oldest capacity n folder base
-      → AreBegun files faults opened oldest capacity number (folders ++ folder ∷ []) (bases ++ base ∷ [])
-  begun_push opened oldest capacity number n [] [] folder base e a is = let here : n ≡ number = omega arith in
-      let P : ℕ → Type 0 = λ z. IsBegun files faults opened oldest capacity z folder base in (subst P here is, tt)
-  begun_push opened oldest capacity number n [] (b ∷ bases) folder base e a is = absurd a
-  begun_push opened oldest capacity number n (f ∷ folders) [] folder base e a is = absurd a
-  begun_push opened oldest capacity number n (f ∷ folders) (b ∷ bases) folder base e a is = (a.0, begun_push opened oldest capacity (number + 1) n folders bases folder base (omega arith) a.1 is)
+  pub begun_push : (opened oldest : ℕ) (limits : Limits) (number n : ℕ) (folders : List F) (bases : List (Book F)) (folder : F) (base : Book F) → n ≡ number + length folders → AreBegun files faults opened oldest limits number folders bases → IsBegun files faults opened oldest limits n folder base
+      → AreBegun files faults opened oldest limits number (folders ++ folder ∷ []) (bases ++ base ∷ [])
+  begun_push opened oldest limits number n [] [] folder base e a is = let here : n ≡ number = omega arith in
+      let P : ℕ → Type 0 = λ z. IsBegun files faults opened oldest limits z folder base in (subst P here is, tt)
+  begun_push opened oldest limits number n [] (b ∷ bases) folder base e a is = absurd a
+  begun_push opened oldest limits number n (f ∷ folders) [] folder base e a is = absurd a
+  begun_push opened oldest limits number n (f ∷ folders) (b ∷ bases) folder base e a is = (a.0, begun_push opened oldest limits (number + 1) n folders bases folder base (omega arith) a.1 is)
 
-  pub begun_starts : (opened oldest capacity number : ℕ) (folders : List F) (bases : List (Book F)) → AreBegun files faults opened oldest capacity number folders bases → map start_of bases ≡ folders
-  begun_starts opened oldest capacity number [] [] a = refl
-  begun_starts opened oldest capacity number [] (b ∷ bases) a = absurd a
-  begun_starts opened oldest capacity number (f ∷ folders) [] a = absurd a
-  begun_starts opened oldest capacity number (f ∷ folders) (b ∷ bases) a =
-      let first : b.start ≡ f = ap start_of a.0.book in let rest = begun_starts opened oldest capacity (number + 1) folders bases a.1 in λ i. first i ∷ rest i
+  pub begun_starts : (opened oldest : ℕ) (limits : Limits) (number : ℕ) (folders : List F) (bases : List (Book F)) → AreBegun files faults opened oldest limits number folders bases → map start_of bases ≡ folders
+  begun_starts opened oldest limits number [] [] a = refl
+  begun_starts opened oldest limits number [] (b ∷ bases) a = absurd a
+  begun_starts opened oldest limits number (f ∷ folders) [] a = absurd a
+  begun_starts opened oldest limits number (f ∷ folders) (b ∷ bases) a =
+      let first : b.start ≡ f = ap start_of a.0.book in let rest = begun_starts opened oldest limits (number + 1) folders bases a.1 in λ i. first i ∷ rest i
 
-  pub begun_new : (opened oldest capacity number : ℕ) (folders : List F) (bases : List (Book F)) → AreBegun files faults opened oldest capacity number folders bases → AreNew bases
-  begun_new opened oldest capacity number [] [] a = tt
-  begun_new opened oldest capacity number [] (b ∷ bases) a = absurd a
-  begun_new opened oldest capacity number (f ∷ folders) [] a = absurd a
-  begun_new opened oldest capacity number (f ∷ folders) (b ∷ bases) a = (ap (λ (z : Book F). z.made) a.0.book, begun_new opened oldest capacity (number + 1) folders bases a.1)
+  pub begun_new : (opened oldest : ℕ) (limits : Limits) (number : ℕ) (folders : List F) (bases : List (Book F)) → AreBegun files faults opened oldest limits number folders bases → AreNew bases
+  begun_new opened oldest limits number [] [] a = tt
+  begun_new opened oldest limits number [] (b ∷ bases) a = absurd a
+  begun_new opened oldest limits number (f ∷ folders) [] a = absurd a
+  begun_new opened oldest limits number (f ∷ folders) (b ∷ bases) a = (ap (λ (z : Book F). z.made) a.0.book, begun_new opened oldest limits (number + 1) folders bases a.1)
 
-  pub begun_long : (opened oldest capacity number : ℕ) (folders : List F) (bases : List (Book F)) → AreBegun files faults opened oldest capacity number folders bases → length bases ≡ length folders
-  begun_long opened oldest capacity number [] [] a = refl
-  begun_long opened oldest capacity number [] (b ∷ bases) a = absurd a
-  begun_long opened oldest capacity number (f ∷ folders) [] a = absurd a
-  begun_long opened oldest capacity number (f ∷ folders) (b ∷ bases) a = let rest = begun_long opened oldest capacity (number + 1) folders bases a.1 in omega arith
+  pub begun_long : (opened oldest : ℕ) (limits : Limits) (number : ℕ) (folders : List F) (bases : List (Book F)) → AreBegun files faults opened oldest limits number folders bases → length bases ≡ length folders
+  begun_long opened oldest limits number [] [] a = refl
+  begun_long opened oldest limits number [] (b ∷ bases) a = absurd a
+  begun_long opened oldest limits number (f ∷ folders) [] a = absurd a
+  begun_long opened oldest limits number (f ∷ folders) (b ∷ bases) a = let rest = begun_long opened oldest limits (number + 1) folders bases a.1 in omega arith
 
-  pub begun_fine : (opened oldest capacity number : ℕ) (folders : List F) (bases : List (Book F)) → AreBegun files faults opened oldest capacity number folders bases → HaveOpenings files faults number folders
-  begun_fine opened oldest capacity number [] [] a = tt
-  begun_fine opened oldest capacity number [] (b ∷ bases) a = absurd a
-  begun_fine opened oldest capacity number (f ∷ folders) [] a = absurd a
-  begun_fine opened oldest capacity number (f ∷ folders) (b ∷ bases) a = ((b.opening, a.0.opening, a.0.fits), begun_fine opened oldest capacity (number + 1) folders bases a.1)
+  pub begun_fine : (opened oldest : ℕ) (limits : Limits) (number : ℕ) (folders : List F) (bases : List (Book F)) → AreBegun files faults opened oldest limits number folders bases → HaveOpenings files faults number folders
+  begun_fine opened oldest limits number [] [] a = tt
+  begun_fine opened oldest limits number [] (b ∷ bases) a = absurd a
+  begun_fine opened oldest limits number (f ∷ folders) [] a = absurd a
+  begun_fine opened oldest limits number (f ∷ folders) (b ∷ bases) a = ((a.0.stood, a.0.opening, a.0.fits), begun_fine opened oldest limits (number + 1) folders bases a.1)
 
-  module _ (opened oldest capacity n : ℕ) (folders done rest rest' : List F) (folder folder' : F) (shards : List (Book F)) (is : folders ≡ done ++ rest) (first : rest ≡ folder ∷ rest')
-      (begun : AreBegun files faults opened oldest capacity 0 done shards) (back1 back2 back3 handed : List F) (back0 : List F) (was_empty : back0 ≡ [])
+  module _ (opened oldest : ℕ) (limits : Limits) (n : ℕ) (folders done rest rest' : List F) (folder folder' : F) (shards : List (Book F)) (is : folders ≡ done ++ rest) (first : rest ≡ folder ∷ rest')
+      (begun : AreBegun files faults opened oldest limits 0 done shards) (back1 back2 back3 handed : List F) (back0 : List F) (was_empty : back0 ≡ [])
       (gave : back1 ≡ back0 ++ handed) (are : AreHanded files faults (map start_of shards) handed) (pushed : back2 ≡ back1 ++ folder' ∷ []) (moved : back3 ≡ back2 ++ rest') where
     all_is : folders ≡ done ++ folder ∷ rest'
     all_is = is ∙ ap (λ (z : List F). done ++ z) first
@@ -76,7 +77,7 @@ module _ {F : Type 0} (files : F → Option Files) (faults : F → ℕ) where
         moved ∙ (ap (λ (z : List F). z ++ rest') (pushed ∙ ap (λ (z : List F). z ++ folder' ∷ []) (gave ∙ ap (λ (z : List F). z ++ handed) was_empty)) ∙ append_assoc handed (folder' ∷ []) rest')
 
     done_handed : AreHanded files faults done handed
-    done_handed = subst (λ (olds : List F). AreHanded files faults olds handed) (begun_starts opened oldest capacity 0 done shards begun) are
+    done_handed = subst (λ (olds : List F). AreHanded files faults olds handed) (begun_starts opened oldest limits 0 done shards begun) are
 
     pub refused_handed : IsHanded files faults folder folder' → AreHanded files faults folders back3
     refused_handed one =
@@ -87,7 +88,7 @@ module _ {F : Type 0} (files : F → Option Files) (faults : F → ℕ) where
     pub refused_blames : (refusal : StartFault) → n ≡ length shards → IfTooLarge refusal (IsTooLarge (Some n) (files folder)) → (refusal ≡ fault.FolderFault → Rose (faults folder) (faults folder')) → IsBlamed files faults folders back3 refusal
     refused_blames refusal number large failed = go refusal large failed where
       count : n ≡ 0 + length done
-      count = let long = begun_long opened oldest capacity 0 done shards begun in omega arith
+      count = let long = begun_long opened oldest limits 0 done shards begun in omega arith
 
       blames : (r : StartFault) → IfTooLarge r (IsTooLarge (Some n) (files folder)) → (r ≡ fault.FolderFault → Rose (faults folder) (faults folder')) → Blames files faults 0 folders back3 r
       blames r l f = record {
@@ -95,7 +96,7 @@ module _ {F : Type 0} (files : F → Option Files) (faults : F → ℕ) where
         old = folder;
         after = rest';
         was = all_is;
-        fine = begun_fine opened oldest capacity 0 done shards begun;
+        fine = begun_fine opened oldest limits 0 done shards begun;
         handed = handed;
         new = folder';
         others = rest';

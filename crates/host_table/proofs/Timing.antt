@@ -17,5 +17,5 @@ last_from-at low zero (first ∷ second ∷ made) one at e = absurd (omega arith
 last_from-at low (suc k) (first ∷ made) one at e = last_from-at first.step.stamp k made one at (omega arith)
 
 -- the stamp of the last entry is the last stamp
-pub last_stamp-at : (k : ℕ) (made : List Made) (one : Made) → slice_get made k ≡ Some one → k + 1 ≡ length made → last_stamp made ≡ one.step.stamp
-last_stamp-at = last_from-at 0
+pub last_stamp-at : (low k : ℕ) (made : List Made) (one : Made) → slice_get made k ≡ Some one → k + 1 ≡ length made → last_stamp low made ≡ one.step.stamp
+last_stamp-at = last_from-at

@@ -5,7 +5,7 @@ use mathlib.Core.List.{IsPrefix}
 use Rattle.turn_lock.specs.Places.{places_from, places_behind}
 use Rattle.turn_lock.specs.Seats.{added_places}
 use Rattle.wopi_model.specs.declared.calls.Call.{Call}
-use Rattle.wopi_model.specs.Host.{FullAt}
+use Rattle.wopi_model.specs.Host.{FullFrom}
 use Rattle.host_core.specs.declared.caller.Receipt.{Receipt}
 use Rattle.host_core.specs.declared.caller.CallFault.{CallFault}
 use Rattle.host_core.specs.Caller.{entry_of, IsFullCall, next_stamp}
@@ -15,9 +15,9 @@ use Rattle.host_core.specs.Listing.{IsListing}
 use Rattle.host_core.specs.Entries.{Made}
 use Rattle.host_core.specs.Value.{Book}
 use Rattle.host_core.specs.Times.{untimed}
-use Rattle.host_table.specs.Histories.{as_opened, IsSeen}
+use Rattle.host_table.specs.Histories.{last_stamp, as_opened, IsSeen}
 use Rattle.host_table.specs.Held.{Adds, Declines}
-use Rattle.host_table.specs.Passes.{Place}
+use Rattle.host_table.specs.Passes.{Place, begin_seen, last_seen}
 use Rattle.host_table.specs.Calls.{Calls, Glances, Looks}
 
 places_one : (made : List Made) (one : Made) → places_behind made (made ++ one ∷ []) ≡ length made ∷ []
@@ -47,6 +47,15 @@ seen_call v w old new based same is seen =
     let later : IsSeen (as_opened new) w.seen = subst (IsSeen (as_opened new)) (sym (ap (λ (p : Place _). p.seen) is)) seen in
     subst P (sym based) (subst (λ (b : Book _). IsSeen b w.seen) same later)
 
+-- the shard's last stamp is the last that the seat has seen
+pub last_given : {F : Type 0} (v w : Place F) (old new : Book F) → v.base ≡ Some (as_opened old) → as_opened new ≡ as_opened old
+    → w ≡ record { lock = v.lock; seen = new.made; own = v.own ++ added_places (Some old.made) new.made; weight = v.weight; base = v.base; taken = None }
+    → last_stamp new.begin.last new.made ≡ last_seen w
+last_given v w old new based same is =
+    let base : w.base ≡ Some (as_opened new) = ap (λ (p : Place _). p.base) is ∙ (based ∙ ap Some (sym same)) in
+    let seen : w.seen ≡ new.made = ap (λ (p : Place _). p.seen) is in
+    λ i. last_stamp (begin_seen (sym base i)).last (sym seen i)
+
 pub made_call : {F : Type 0} (v w : Place F) (old new : Book F) (call : Call) (pass floor moment : ℕ) (receipt : Receipt) → v.taken ≡ None → v.base ≡ Some (as_opened old) → IsPrefix v.seen old.made
     → w ≡ record { lock = v.lock; seen = new.made; own = v.own ++ added_places (Some old.made) new.made; weight = v.weight; base = v.base; taken = None }
     → Adds old new call pass floor moment receipt → Calls v call pass floor moment receipt w
@@ -55,7 +64,7 @@ made_call v w old new call pass floor moment receipt free based begins is adds =
     let seen : w.seen ≡ new.made = ap (λ (p : Place _). p.seen) is in
     let own : v.own ++ added_places (Some old.made) new.made ≡ v.own ++ receipt.place ∷ [] =
     ap (λ (places : List ℕ). v.own ++ places) (ap (places_behind old.made) adds.made ∙ (places_one old.made one ∙ ap (λ (place : ℕ). place ∷ []) (sym adds.place))) in
-    let P : List Made → Type 0 = λ made. FullAt old.opening old.opened old.first old.capacity (untimed made) floor call moment → ⊥ in
+    let P : List Made → Type 0 = λ made. FullFrom old.limits old.begin (untimed made) floor call moment → ⊥ in
     record {
       base = as_opened old;
       based = based;
@@ -64,7 +73,7 @@ made_call v w old new call pass floor moment receipt free based begins is adds =
       seen = seen ∙ (adds.made ∙ ap (λ (made : List Made). made ++ one ∷ []) (sym begins.1));
       shard = adds.shard;
       place = adds.place ∙ ap (λ (made : List Made). length made) (sym begins.1);
-      stamp = adds.stamp ∙ ap (λ (made : List Made). next_stamp floor (untimed made)) (sym begins.1);
+      stamp = adds.stamp ∙ ap (λ (made : List Made). next_stamp old.begin floor (untimed made)) (sym begins.1);
       room = subst P (sym begins.1) adds.room;
       back = adds.back;
       same = is ∙ (λ i. record { lock = v.lock; seen = sym seen i; own = own i; weight = v.weight; base = v.base; taken = sym free i });
@@ -91,7 +100,7 @@ pub refused_call : {F : Type 0} (v w : Place F) (old new : Book F) (call : Call)
 unfolding glanced
 refused_call v w old new call floor moment refusal free based begins is declines =
     let same : w.seen ≡ old.made = ap (λ (p : Place _). p.seen) is ∙ declines.made in
-    let P : List Made → Type 0 = λ made. IsFullCall refusal → FullAt old.opening old.opened old.first old.capacity (untimed made) floor call moment in
+    let P : List Made → Type 0 = λ made. IsFullCall refusal → FullFrom old.limits old.begin (untimed made) floor call moment in
     record {
       glances = glanced v w old new free based begins is declines.made;
       full = subst P (sym same) declines.full;
@@ -102,23 +111,23 @@ refused_call v w old new call floor moment refusal free based begins is declines
 -- what a listing shows after the shard's history, it shows after what the seat has seen
 pub shows_seen : {F : Type 0} (v w : Place F) (book : Book F) (number : ℕ) (listing : Listing) → v.base ≡ Some (as_opened book)
     → w ≡ record { lock = v.lock; seen = book.made; own = v.own ++ added_places (Some book.made) book.made; weight = v.weight; base = v.base; taken = None }
-    → IsListing number book.opening book.opened book.first (untimed book.made) listing
-    → IsSomeAnd v.base (λ base. IsListing number base.opening base.opened base.first (untimed w.seen) listing)
+    → IsListing number book.begin (untimed book.made) listing
+    → IsSomeAnd v.base (λ base. IsListing number base.begin (untimed w.seen) listing)
 shows_seen v w book number listing based is shows =
-    let P : Option (Book _) → Type 0 = λ o. IsSomeAnd o (λ base. IsListing number base.opening base.opened base.first (untimed w.seen) listing) in
-    let Q : List Made → Type 0 = λ made. IsListing number book.opening book.opened book.first (untimed made) listing in
-    let here : IsListing number book.opening book.opened book.first (untimed w.seen) listing = subst Q (sym (ap (λ (p : Place _). p.seen) is)) shows in
+    let P : Option (Book _) → Type 0 = λ o. IsSomeAnd o (λ base. IsListing number base.begin (untimed w.seen) listing) in
+    let Q : List Made → Type 0 = λ made. IsListing number book.begin (untimed made) listing in
+    let here : IsListing number book.begin (untimed w.seen) listing = subst Q (sym (ap (λ (p : Place _). p.seen) is)) shows in
     subst P (sym based) here
 
 -- and so of how full the shard is
 pub weighed_seen : {F : Type 0} (v w : Place F) (book : Book F) (answer : Bool) → v.base ≡ Some (as_opened book)
     → w ≡ record { lock = v.lock; seen = book.made; own = v.own ++ added_places (Some book.made) book.made; weight = v.weight; base = v.base; taken = None }
-    → (IsTrue answer ↔ IsNearlyFull book.capacity book.opening (untimed book.made))
-    → IsSomeAnd v.base (λ base. IsTrue answer ↔ IsNearlyFull base.capacity base.opening (untimed w.seen))
+    → (IsTrue answer ↔ IsNearlyFull book.limits.calls book.begin (untimed book.made))
+    → IsSomeAnd v.base (λ base. IsTrue answer ↔ IsNearlyFull base.limits.calls base.begin (untimed w.seen))
 weighed_seen v w book answer based is tells =
-    let P : Option (Book _) → Type 0 = λ o. IsSomeAnd o (λ base. IsTrue answer ↔ IsNearlyFull base.capacity base.opening (untimed w.seen)) in
-    let Q : List Made → Type 0 = λ made. IsTrue answer ↔ IsNearlyFull book.capacity book.opening (untimed made) in
-    let here : IsTrue answer ↔ IsNearlyFull book.capacity book.opening (untimed w.seen) = subst Q (sym (ap (λ (p : Place _). p.seen) is)) tells in
+    let P : Option (Book _) → Type 0 = λ o. IsSomeAnd o (λ base. IsTrue answer ↔ IsNearlyFull base.limits.calls base.begin (untimed w.seen)) in
+    let Q : List Made → Type 0 = λ made. IsTrue answer ↔ IsNearlyFull book.limits.calls book.begin (untimed made) in
+    let here : IsTrue answer ↔ IsNearlyFull book.limits.calls book.begin (untimed w.seen) = subst Q (sym (ap (λ (p : Place _). p.seen) is)) tells in
     subst P (sym based) here
 
 pub err_map : {A E : Type 0} (r : Result A E) (P Q : E → Type 0) → ((e : E) → P e → Q e) → IfErr r P → IfErr r Q

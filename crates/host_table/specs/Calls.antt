@@ -2,7 +2,7 @@
 use Rattle.std.specs.Prelude.{◌≡◌, ℕ, List, [], ◌∷◌, ◌++◌, length, Some, true}
 use mathlib.Core.List.{IsPrefix}
 use Rattle.wopi_model.specs.declared.calls.Call.{Call}
-use Rattle.wopi_model.specs.Host.{FullAt}
+use Rattle.wopi_model.specs.Host.{FullFrom}
 use Rattle.host_core.specs.declared.caller.Receipt.{Receipt}
 use Rattle.host_core.specs.declared.caller.CallFault.{CallFault}
 use Rattle.host_core.specs.Caller.{entry_of, called_back, IsFullCall, next_stamp}
@@ -29,14 +29,14 @@ module _ {F : Type 0} (v : Place F) (call : Call) where
     pub seen : w.seen ≡ (v.seen ++ between) ++ record { time = time; step = entry_of pass call moment receipt } ∷ []
     pub shard : base.only ≡ Some receipt.shard
     pub place : receipt.place ≡ length (v.seen ++ between)
-    pub stamp : receipt.stamp ≡ next_stamp floor (untimed (v.seen ++ between))
-    pub room : FullAt base.opening base.opened base.first base.capacity (untimed (v.seen ++ between)) floor call moment → ⊥
+    pub stamp : receipt.stamp ≡ next_stamp base.begin floor (untimed (v.seen ++ between))
+    pub room : FullFrom base.limits base.begin (untimed (v.seen ++ between)) floor call moment → ⊥
     pub back : receipt.back ≡ back_of call.act receipt.ruling
     pub same : w ≡ record { lock = v.lock; seen = w.seen; own = v.own ++ receipt.place ∷ []; weight = v.weight; base = v.base; taken = v.taken }
 
   -- the call found the shard full, or there was no memory: the history so far was seen
   pub record Looks (floor moment : ℕ) (refusal : CallFault) (w : Place F) : Type 0 where
     pub glances : Glances v w
-    pub full : IsFullCall refusal → FullAt glances.base.opening glances.base.opened glances.base.first glances.base.capacity (untimed w.seen) floor call moment
+    pub full : IsFullCall refusal → FullFrom glances.base.limits glances.base.begin (untimed w.seen) floor call moment
     pub handed : called_back refusal ≡ call
     pub light : is_lock_act call.act ≡ true → IsFullCall refusal

@@ -1,9 +1,10 @@
 -- How a host ends. (Own.)
-use Rattle.std.specs.Prelude.{◌≡◌, ◌<◌, ⊤, ℕ, ◌+◌, ◌==◌, ◌^◌, List, [], ◌∷◌, ◌++◌, filter, map, Option, None, Some, slice_get}
+use Rattle.std.specs.Prelude.{◌≡◌, ◌<◌, ⊤, ℕ, ◌+◌, ◌==◌, ◌^◌, List, [], ◌∷◌, ◌++◌, filter, map, Option, None, Some, unwrap_or, slice_get}
 use Rattle.std.specs.List.{AllByRecursion}
 use mathlib.Core.List.{IsPrefix}
 use Rattle.turn_lock.specs.Places.{total, AreAllBelow, longer}
 use Rattle.outside.specs.Folder.{Files}
+use Rattle.wopi_model.specs.Begin.{new_life}
 use Rattle.wopi_model.specs.Host.{LegalHost}
 use Rattle.host_core.specs.Value.{Book, InMemory, Left, IsLawful}
 use Rattle.host_core.specs.Times.{steps_of, last_time, IsTimely}
@@ -79,19 +80,18 @@ module _ {F : Type 0} where
   abbrev pub ended_book : Book (InMemory F) → Left F → F → Book F
   ended_book base part folder = record {
     only = base.only;
-    opening = part.opening;
-    opened = base.opened;
-    first = base.first;
-    capacity = base.capacity;
+    begin = base.begin;
+    limits = base.limits;
     made = part.made;
-    time = last_time base.opened part.made;
+    time = last_time base.begin.now part.made;
     ticked = base.ticked;
     start = part.start;
     folder = folder;
   }
 
+  -- how many entries a shard may make, where that is bounded
   abbrev pub capacity_of : Book F → ℕ
-  capacity_of book = book.capacity
+  capacity_of book = unwrap_or book.limits.calls 0
 
 module _ {F : Type 0} (files : F → Option Files) (faults : F → ℕ) where
   -- each shard was taken apart
@@ -100,18 +100,18 @@ module _ {F : Type 0} (files : F → Option Files) (faults : F → ℕ) where
   AreTaken (book ∷ books) (part ∷ parts) (folder ∷ folders) = IsTakenApart files faults book part folder × AreTaken books parts folders
   AreTaken _ _ _ = ⊥
 
-  -- What a shard leaves is of the shard that was opened, and its folder is as the last step left it: it holds what the
+  -- What a shard leaves is of the shard that was opened with those files, and its folder is as the last step left it: it holds what the
   -- entries leave, and its count rose by each store call that failed.
-  pub record IsEnded (base : Book (InMemory F)) (part : Left F) (folder : F) : Type 0 where
-    pub opening : part.opening ≡ base.opening
+  pub record IsEnded (opened first : ℕ) (base : Book (InMemory F)) (part : Left F) (folder : F) : Type 0 where
+    pub begin : base.begin ≡ new_life part.opening opened first
     pub start : part.start ≡ base.start.folder
-    pub timely : IsTimely base.opened part.made
+    pub timely : IsTimely opened part.made
     pub lawful : IsLawful (ended_book base part folder) (files part.start) (files folder) (faults part.start) (faults folder)
 
-  abbrev pub AreEnded : List (Book (InMemory F)) → List (Left F) → List F → Type 0
-  AreEnded [] [] [] = ⊤
-  AreEnded (base ∷ bases) (part ∷ parts) (folder ∷ folders) = IsEnded base part folder × AreEnded bases parts folders
-  AreEnded _ _ _ = ⊥
+  abbrev pub AreEnded : ℕ → ℕ → List (Book (InMemory F)) → List (Left F) → List F → Type 0
+  AreEnded opened first [] [] [] = ⊤
+  AreEnded opened first (base ∷ bases) (part ∷ parts) (folder ∷ folders) = IsEnded opened first base part folder × AreEnded opened first bases parts folders
+  AreEnded opened first _ _ _ = ⊥
 
   -- the journal of a host and of all its passes, which has no entry of another, and the folders
   pub record Ends (host : HostView (InMemory F)) (passes : List (PassView (InMemory F))) (journal : JournalView F) (folders : List F) : Type 0 where
@@ -119,7 +119,7 @@ module _ {F : Type 0} (files : F → Option Files) (faults : F → ℕ) where
     pub first_is : journal.first ≡ host.first
     pub legal : LegalHost (openings journal.parts) journal.opened journal.first (steps_of journal.merge)
     pub parts : AreParts journal.merge 0 journal.parts
-    pub ended : AreEnded host.bases journal.parts folders
+    pub ended : AreEnded host.opened host.first host.bases journal.parts folders
     pub seen : AllByRecursion (λ pass. AreSeen pass.seats journal.parts) passes
     pub passes_are : AllByRecursion (λ one. one.step.pass < host.made) journal.merge
     pub own : AllByRecursion (λ pass. filter (λ entry. entry.pass == pass.number) (steps_of journal.merge) ≡ map (λ one. one.entry) (own_of pass)) passes

@@ -1,8 +1,9 @@
 -- A shard of a host, as it lies under its lock. (Own.)
-use Rattle.std.specs.Prelude.{◌≡◌, ℕ, ◌≤◌, true, false, [], ◌∷◌, ◌++◌, length, Option, Some}
+use Rattle.std.specs.Prelude.{◌≡◌, ⊤, ℕ, ◌≤◌, true, false, [], ◌∷◌, ◌++◌, length, Option, None, Some}
 use Rattle.outside.specs.Folder.{Files, Keeps}
 use Rattle.wopi_model.specs.declared.calls.Call.{Call}
-use Rattle.wopi_model.specs.Host.{FullAt}
+use Rattle.wopi_model.specs.Begin.{new_life}
+use Rattle.wopi_model.specs.Host.{FullFrom}
 use Rattle.host_core.specs.declared.caller.Receipt.{Receipt}
 use Rattle.host_core.specs.declared.caller.CallFault.{CallFault}
 use Rattle.host_core.specs.Caller.{entry_of, called_back, IsFullCall, next_stamp}
@@ -12,11 +13,16 @@ use Rattle.host_core.specs.Value.{Book, InMemory, Left, IsLawful}
 use Rattle.host_core.specs.Times.{untimed}
 use Rattle.host_table.specs.Histories.{AreNamed}
 
+-- no more entries than the store takes, where it bounds them
+abbrev pub IsWithinCalls : Option ℕ → ℕ → Type 0
+IsWithinCalls None made = ⊤
+IsWithinCalls (Some calls) made = made ≤ calls
+
 -- What each of a host's shards keeps: nobody set its time apart from an entry. Before its first entry the folder holds what it held at the start.
 pub record IsHeld {F : Type 0} (book : Book F) (start now : Option Files) (began count : ℕ) : Type 0 where
   pub unticked : book.ticked ≡ false
   pub named : AreNamed book.only book.made
-  pub few : length book.made ≤ book.capacity
+  pub few : IsWithinCalls book.limits.calls (length book.made)
   pub unchanged : book.made ≡ [] → Keeps start now
   pub counts : began ≤ count
 
@@ -26,20 +32,21 @@ pub record Adds {F : Type 0} (old new : Book F) (call : Call) (pass floor moment
   pub made : new.made ≡ old.made ++ record { time = time; step = entry_of pass call moment receipt } ∷ []
   pub shard : old.only ≡ Some receipt.shard
   pub place : receipt.place ≡ length old.made
-  pub stamp : receipt.stamp ≡ next_stamp floor (untimed old.made)
-  pub room : FullAt old.opening old.opened old.first old.capacity (untimed old.made) floor call moment → ⊥
+  pub stamp : receipt.stamp ≡ next_stamp old.begin floor (untimed old.made)
+  pub room : FullFrom old.limits old.begin (untimed old.made) floor call moment → ⊥
   pub back : receipt.back ≡ back_of call.act receipt.ruling
 
 -- a call that made none
 pub record Declines {F : Type 0} (old new : Book F) (call : Call) (floor moment : ℕ) (refusal : CallFault) : Type 0 where
   pub made : new.made ≡ old.made
-  pub full : IsFullCall refusal → FullAt old.opening old.opened old.first old.capacity (untimed old.made) floor call moment
+  pub full : IsFullCall refusal → FullFrom old.limits old.begin (untimed old.made) floor call moment
   pub handed : called_back refusal ≡ call
   pub light : is_lock_act call.act ≡ true → IsFullCall refusal
 
 -- what a shard leaves, and its folder as the last step left it
 pub record IsTakenApart {F : Type 0} (files : F → Option Files) (faults : F → ℕ) (book : Book (InMemory F)) (left : Left F) (folder : F) : Type 0 where
-  pub left_is : left ≡ record { opening = book.opening; made = book.made; start = book.start.folder }
+  pub left_is : left ≡ record { opening = book.folder.opening; made = book.made; start = book.start.folder }
   pub folder_is : folder ≡ book.folder.folder
+  pub begin_is : book.begin ≡ new_life book.folder.opening book.begin.opened book.begin.first
   pub held : IsHeld book (files book.start.folder) (files book.folder.folder) (faults book.start.folder) (faults book.folder.folder)
   pub lawful : IsLawful book (files book.start.folder) (files book.folder.folder) (faults book.start.folder) (faults book.folder.folder)

@@ -4,7 +4,7 @@ use Rattle.std.specs.List.{AllByRecursion}
 use Rattle.wopi_model.specs.Shard.{Opening}
 use Rattle.wopi_model.specs.Host.{shard_of_entry}
 use Rattle.host_core.specs.Entries.{Made}
-use Rattle.host_core.specs.Fullness.{IsNearlyFull}
+use Rattle.host_core.specs.Fullness.{WasNearlyFull}
 use Rattle.host_core.specs.Times.{untimed}
 use Rattle.host_core.specs.Value.{Left}
 use Rattle.host_table.specs.declared.journal.Spot.{Spot}
@@ -67,7 +67,7 @@ module _ {F : Type 0} where
   -- what a shard leaves shows that it was nearly full
   abbrev pub IsNearlyFullIn : ℕ → Option (Left F) → Type 0
   IsNearlyFullIn capacity None = ⊥
-  IsNearlyFullIn capacity (Some part) = IsNearlyFull capacity part.opening (untimed part.made)
+  IsNearlyFullIn capacity (Some part) = WasNearlyFull capacity part.opening (untimed part.made)
 
   -- each shard's entries are those of the merge that stand in it
   abbrev pub AreParts : List Made → ℕ → List (Left F) → Type 0

@@ -1,12 +1,18 @@
 -- A host and its passes, as contracts see them. (Own.)
-use Rattle.std.specs.Prelude.{◌≤◌, ◌≡◌, ⊤, ℕ, ◌+◌, ◌-◌, ◌/◌, max, ltb, false, List, [], ◌∷◌, ◌++◌, length, map, Option, None, Some, slice_get, if◌then◌else◌}
+use Rattle.std.specs.Prelude.{◌≤◌, ◌≡◌, ⊤, ℕ, ◌+◌, ◌-◌, ◌/◌, max, ltb, false, List, [], ◌∷◌, ◌++◌, length, map, Option, None, Some, IfSome, slice_get, if◌then◌else◌}
 use Rattle.std.specs.List.{AllByRecursion, Contains}
 use Rattle.atomic_table.specs.Seated.{TableId}
 use Rattle.turn_lock.specs.Seats.{SeatValue}
 use Rattle.wopi_text.specs.FileName.{shard_of}
 use Rattle.wopi_model.specs.Moment.{IsMoment}
-use Rattle.wopi_model.specs.Shard.{Opening, Item, Entry, RisesFrom, entries, stamps}
-use Rattle.host_core.specs.Opening.{IsByName, IsFirstVersion, MayKeep}
+use Rattle.std.specs.List.Sorted.{IsStrictlySortedBy}
+use Rattle.std.specs.Ordering.{nat_cmp}
+use Rattle.std.specs.Cmp.Lexicographic.{slice_cmp}
+use Rattle.wopi_model.specs.File.{File}
+use Rattle.wopi_model.specs.Begin.{Begin, new_life}
+use Rattle.wopi_model.specs.Host.{Limits}
+use Rattle.wopi_model.specs.Shard.{Item, Entry, RisesFrom, entries, stamps}
+use Rattle.host_core.specs.Opening.{IsFirstVersion, MayKeep}
 use Rattle.host_core.specs.Entries.{Made}
 use Rattle.host_core.specs.Caller.{Sight}
 use Rattle.host_core.specs.Value.{Book}
@@ -17,25 +23,25 @@ use Rattle.host_table.specs.Histories.{last_stamp, AreNamed, IsSeen}
 abbrev pub Place : Type 0 → Type 0
 Place F = SeatValue Made (Book F)
 
--- The pass's number, its last stamp, its weight, when its host opened, the version of the files that it began with, the
--- capacity of a shard, and its seats by shard.
+-- The pass's number, its last stamp, its weight, when its host opened, the version of the files that it began with, when a
+-- shard is full, and its seats by shard.
 pub record PassView (F : Type 0) : Type 0 where
   pub number : ℕ
   pub last : ℕ
   pub weight : ℕ
   pub opened : ℕ
   pub first : ℕ
-  pub capacity : ℕ
+  pub limits : Limits
   pub seats : List (Place F)
 
 -- The locks and the shards as they were opened, by number; when the host opened, the version of the files that it began
--- with, the capacity of a shard, and how many passes were made.
+-- with, when a shard is full, and how many passes were made.
 pub record HostView (F : Type 0) : Type 0 where
   pub locks : List TableId
   pub bases : List (Book F)
   pub opened : ℕ
   pub first : ℕ
-  pub capacity : ℕ
+  pub limits : Limits
   pub made : ℕ
 
 -- an entry of the pass's own, with its shard and its place
@@ -73,6 +79,10 @@ HasOwn number (Some one) = one.step.pass ≡ number
 abbrev pub Owns : ℕ → List Made → List ℕ → Type 0
 Owns number seen places = AllByRecursion (λ place. HasOwn number (slice_get seen place)) places
 
+-- the files stand in the order of their names' bytes
+abbrev pub AreByName : List (List ℕ × File) → Type 0
+AreByName files = IsStrictlySortedBy (slice_cmp nat_cmp) (map (λ file. file.0) files)
+
 module _ {F : Type 0} where
   abbrev pub lock_of : Place F → TableId
   lock_of seat = seat.lock
@@ -89,10 +99,19 @@ module _ {F : Type 0} where
   abbrev pub own_of : PassView F → List Own
   own_of pass = by_stamp (owned_from 0 pass.seats)
 
-  -- the greatest stamp that was seen in any shard, or 0
+  -- a seat with no base sees a shard that begins with nothing
+  abbrev pub begin_seen : Option (Book F) → Begin
+  begin_seen None = new_life [] 0 1
+  begin_seen (Some base) = base.begin
+
+  -- the last stamp that was seen of the shard, or the last one before its beginning
+  abbrev pub last_seen : Place F → ℕ
+  last_seen seat = last_stamp (begin_seen seat.base).last seat.seen
+
+  -- the greatest of all shards, or 0
   abbrev pub top : List (Place F) → ℕ
   top [] = 0
-  top (seat ∷ seats) = max (last_stamp seat.seen) (top seats)
+  top (seat ∷ seats) = max (last_seen seat) (top seats)
 
   abbrev pub locks_of : PassView F → List TableId
   locks_of pass = map lock_of pass.seats
@@ -106,13 +125,9 @@ module _ {F : Type 0} where
   seen_at None = []
   seen_at (Some seat) = untimed seat.seen
 
-  abbrev pub opening_seen : Option (Book F) → Opening
-  opening_seen None = []
-  opening_seen (Some base) = base.opening
-
-  abbrev pub opening_at : Option (Place F) → Opening
-  opening_at None = []
-  opening_at (Some seat) = opening_seen seat.base
+  abbrev pub beginning_at : Option (Place F) → Begin
+  beginning_at None = begin_seen None
+  beginning_at (Some seat) = begin_seen seat.base
 
   -- what a pass has seen, as of any caller
   abbrev pub sight_of : PassView F → Sight
@@ -120,42 +135,40 @@ module _ {F : Type 0} where
     own = map (λ one. one.entry) (own_of pass);
     pass = pass.number;
     floor = pass.last;
-    capacity = pass.capacity;
-    opened = pass.opened;
-    first = pass.first;
+    limits = pass.limits;
     ticked = false;
     home = shard_of;
-    openings = λ shard. opening_at (slice_get pass.seats shard);
+    begins = λ shard. beginning_at (slice_get pass.seats shard);
     seen = λ shard. seen_at (slice_get pass.seats shard);
   }
 
-  -- the shard of that number, as it was opened
-  pub record IsBase (opened first capacity shard : ℕ) (base : Book F) : Type 0 where
+  -- The shard of that number, as it was opened. All shards of a host have one opening, also where their lives go on.
+  pub record IsBase (opened first : ℕ) (limits : Limits) (shard : ℕ) (base : Book F) : Type 0 where
     pub only : base.only ≡ Some shard
-    pub opened_is : base.opened ≡ opened
-    pub first_is : base.first ≡ first
-    pub capacity_is : base.capacity ≡ capacity
+    pub opened_is : base.begin.opened ≡ opened
+    pub first_is : base.begin.first ≡ first
+    pub limits_is : base.limits ≡ limits
     pub unticked : base.ticked ≡ false
-    pub ordered : IsByName base.opening
-    pub names : AllByRecursion (λ file. MayKeep base.only file.0) base.opening
+    pub ordered : AreByName base.begin.files
+    pub names : AllByRecursion (λ file. MayKeep base.only file.0) base.begin.files
 
-  abbrev pub AreBases : ℕ → ℕ → ℕ → ℕ → List (Book F) → Type 0
-  AreBases opened first capacity shard [] = ⊤
-  AreBases opened first capacity shard (base ∷ bases) = IsBase opened first capacity shard base × AreBases opened first capacity (shard + 1) bases
+  abbrev pub AreBases : ℕ → ℕ → Limits → ℕ → List (Book F) → Type 0
+  AreBases opened first limits shard [] = ⊤
+  AreBases opened first limits shard (base ∷ bases) = IsBase opened first limits shard base × AreBases opened first limits (shard + 1) bases
 
   -- what a pass keeps of its seat at the shard of that number
-  pub record IsSeat (number weight opened first capacity shard : ℕ) (seat : Place F) : Type 0 where
+  pub record IsSeat (number weight opened first : ℕ) (limits : Limits) (shard : ℕ) (seat : Place F) : Type 0 where
     pub free : seat.taken ≡ None
     pub weight_is : seat.weight ≡ weight
     pub base : Book F
     pub based : seat.base ≡ Some base
-    pub is_base : IsBase opened first capacity shard base
+    pub is_base : IsBase opened first limits shard base
     pub seen : IsSeen base seat.seen
     pub owns : Owns number seat.seen seat.own
 
-  abbrev pub AreSeats : ℕ → ℕ → ℕ → ℕ → ℕ → ℕ → List (Place F) → Type 0
-  AreSeats number weight opened first capacity shard [] = ⊤
-  AreSeats number weight opened first capacity shard (seat ∷ seats) = IsSeat number weight opened first capacity shard seat × AreSeats number weight opened first capacity (shard + 1) seats
+  abbrev pub AreSeats : ℕ → ℕ → ℕ → ℕ → Limits → ℕ → List (Place F) → Type 0
+  AreSeats number weight opened first limits shard [] = ⊤
+  AreSeats number weight opened first limits shard (seat ∷ seats) = IsSeat number weight opened first limits shard seat × AreSeats number weight opened first limits (shard + 1) seats
 
   -- a pass that is split off, and what is left of the old one
   abbrev pub given_half : Place F → Place F
@@ -181,7 +194,7 @@ module _ {F : Type 0} where
 
   -- what holds of every pass
   pub record IsPass (pass : PassView F) : Type 0 where
-    pub seats : AreSeats pass.number pass.weight pass.opened pass.first pass.capacity 0 pass.seats
+    pub seats : AreSeats pass.number pass.weight pass.opened pass.first pass.limits 0 pass.seats
     pub last_is : pass.last ≡ top pass.seats
     pub wide : length pass.seats ≡ 16
     pub rises : RisesFrom 0 (map stamp_of (own_of pass))
@@ -198,15 +211,15 @@ module _ {F : Type 0} where
     pub weight : new.weight ≡ old.weight
     pub opened_is : new.opened ≡ old.opened
     pub first_is : new.first ≡ old.first
-    pub capacity_is : new.capacity ≡ old.capacity
+    pub limits_is : new.limits ≡ old.limits
     pub locks : locks_of new ≡ locks_of old
     pub bases : map base_of new.seats ≡ map base_of old.seats
 
   -- what holds of every host
   pub record IsHost (host : HostView F) : Type 0 where
-    pub bases : AreBases host.opened host.first host.capacity 0 host.bases
+    pub bases : AreBases host.opened host.first host.limits 0 host.bases
     pub wide : length host.locks ≡ 16
     pub many : length host.bases ≡ 16
-    pub small : host.capacity ≤ 32768
+    pub small : IfSome host.limits.calls (λ calls. calls ≤ 32768)
     pub opened_is : IsMoment host.opened
     pub first_is : IsFirstVersion host.first

@@ -5,12 +5,14 @@ use Rattle.atomic_table.specs.Seated.{TableId}
 use Rattle.turn_lock.specs.Seats.{first_seat}
 use Rattle.outside.specs.Faults.{Rose}
 use Rattle.outside.specs.Folder.{Files, Keeps}
+use Rattle.wopi_model.specs.Begin.{new_life}
+use Rattle.wopi_model.specs.Host.{Limits, kept_limits}
 use Rattle.wopi_model.specs.Shard.{Opening}
 use Rattle.host_core.specs.declared.opening.StartFault.{StartFault}
 use Rattle.host_core.specs.declared.opening.StartFault.TheVariants as fault
 use Rattle.host_core.specs.Opening.{IsOpening, Fits, IsTooLarge, IfTooLarge}
 use Rattle.host_core.specs.Value.{Book, InMemory}
-use Rattle.host_table.specs.Passes.{Place, HostView, PassView, IsPassOf}
+use Rattle.host_table.specs.Passes.{Place, HostView, PassView, IsPassOf, top}
 
 module _ {F : Type 0} where
   -- the first seats of locks over shards that were opened like that
@@ -19,9 +21,11 @@ module _ {F : Type 0} where
   first_seats (lock ∷ locks) [] = []
   first_seats (lock ∷ locks) (base ∷ bases) = first_seat lock base ∷ first_seats locks bases
 
-  -- the first pass has seen nothing and has all of the weight
+  -- the first pass has seen nothing, begins behind the last stamps of all shards, and has all of the weight
   abbrev pub first_pass : HostView F → PassView F
-  first_pass host = record { number = 0; last = 0; weight = 2 ^ 62; opened = host.opened; first = host.first; capacity = host.capacity; seats = first_seats host.locks host.bases }
+  first_pass host =
+      let seats = first_seats host.locks host.bases in
+      record { number = 0; last = top seats; weight = 2 ^ 62; opened = host.opened; first = host.first; limits = host.limits; seats = seats }
 
   abbrev pub start_of : Book F → F
   start_of book = book.start
@@ -73,24 +77,25 @@ module _ {F : Type 0} (files : F → Option Files) (faults : F → ℕ) where
   IsBlamed olds news fault.FolderFault = Blames 0 olds news fault.FolderFault
   IsBlamed olds news fault.Memory = ⊤
 
-  -- the shard of that number, as it was opened over a folder
-  pub record IsBegun (opened first capacity number : ℕ) (folder : F) (base : Book F) : Type 0 where
-    pub book : base ≡ record { only = Some number; opening = base.opening; opened = opened; first = first; capacity = capacity; made = []; time = opened; ticked = false; start = folder; folder = base.folder }
-    pub opening : IsOpening (Some number) (files folder) base.opening
-    pub fits : Fits base.opening
+  -- the shard of that number, as it was opened over a folder with these files
+  pub record IsBegun (opened first : ℕ) (limits : Limits) (number : ℕ) (folder : F) (base : Book F) : Type 0 where
+    pub stood : Opening
+    pub book : base ≡ record { only = Some number; begin = new_life stood opened first; limits = limits; made = []; time = opened; ticked = false; start = folder; folder = base.folder }
+    pub opening : IsOpening (Some number) (files folder) stood
+    pub fits : Fits stood
 
-  abbrev pub AreBegun : ℕ → ℕ → ℕ → ℕ → List F → List (Book F) → Type 0
-  AreBegun opened first capacity number [] [] = ⊤
-  AreBegun opened first capacity number [] (base ∷ bases) = ⊥
-  AreBegun opened first capacity number (folder ∷ folders) [] = ⊥
-  AreBegun opened first capacity number (folder ∷ folders) (base ∷ bases) = IsBegun opened first capacity number folder base × AreBegun opened first capacity (number + 1) folders bases
+  abbrev pub AreBegun : ℕ → ℕ → Limits → ℕ → List F → List (Book F) → Type 0
+  AreBegun opened first limits number [] [] = ⊤
+  AreBegun opened first limits number [] (base ∷ bases) = ⊥
+  AreBegun opened first limits number (folder ∷ folders) [] = ⊥
+  AreBegun opened first limits number (folder ∷ folders) (base ∷ bases) = IsBegun opened first limits number folder base × AreBegun opened first limits (number + 1) folders bases
 
   -- a host over these folders, and its first pass
   pub record Starts (folders : List F) (capacity opened first : ℕ) (host : HostView F) (pass : PassView F) : Type 0 where
-    pub bases : AreBegun opened first capacity 0 folders host.bases
+    pub bases : AreBegun opened first (kept_limits capacity) 0 folders host.bases
     pub opened_is : host.opened ≡ opened
     pub first_is : host.first ≡ first
-    pub capacity_is : host.capacity ≡ capacity
+    pub limits_is : host.limits ≡ kept_limits capacity
     pub made : host.made ≡ 1
     pub pass_is : pass ≡ first_pass host
     pub of_host : IsPassOf host pass

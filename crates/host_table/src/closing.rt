@@ -1,5 +1,5 @@
 //! How a host ends: all passes are joined, each lock is ended, and the shards are taken apart.
-ghost use Rattle.std.specs.Prelude.{◌≡◌, ◌+◌, ◌<◌, ◌*◌, ◌≤◌, [], ◌++◌, IfOk, map, length, vec_len, vec_capacity};
+ghost use Rattle.std.specs.Prelude.{◌≡◌, ◌+◌, ◌<◌, ◌*◌, ◌≤◌, [], ◌++◌, IfOk, IsSomeAnd, map, length, vec_len, vec_capacity};
 ghost use Rattle.std.specs.List.{AllByRecursion};
 ghost use Rattle.turn_lock.specs.Places.{total};
 ghost use Rattle.host_table.specs.Passes.{lock_of, locks_of, IsPassOf};
@@ -92,7 +92,7 @@ pub(crate) fn take_apart<F: Folder>(
     requires folders { (folders.old.items ≡ []) × (16 ≤ vec_capacity folders.old) }
     requires pasts { (pasts.old.items ≡ []) × (16 ≤ vec_capacity pasts.old) }
     requires spots { (spots.old.items ≡ []) × (total capacity_of shards.items ≤ vec_capacity spots.old) }
-    requires few { AllByRecursion (λ book. book.capacity < 4294967296) shards.items }
+    requires few { AllByRecursion (λ book. IsSomeAnd book.limits.calls (λ calls. calls < 4294967296)) shards.items }
     ensures taken { AreTaken F.files F.faults shards.items pasts.new.items folders.new.items }
     ensures spots { spots.new.items ≡ all_spots 0 pasts.new.items }
 {
@@ -150,7 +150,7 @@ pub(crate) fn end_host<F: Folder>(
     requires shards { (room.shards.items ≡ []) × (16 ≤ vec_capacity room.shards) }
     requires folders { (room.folders.items ≡ []) × (16 ≤ vec_capacity room.folders) }
     requires pasts { (room.pasts.items ≡ []) × (16 ≤ vec_capacity room.pasts) }
-    requires spots { (room.spots.items ≡ []) × (16 * host.capacity ≤ vec_capacity room.spots) }
+    requires spots { (room.spots.items ≡ []) × IsSomeAnd host.limits.calls (λ calls. 16 * calls ≤ vec_capacity room.spots) }
     ensures { Ends F.files F.faults host passes.items result.0 result.1.items }
 {
     let Host {

@@ -2,7 +2,10 @@
 ghost use Rattle.std.specs.Prelude.{◌≡◌, ◌≤◌, ◌<◌, Some, [], false, true, ◌↔◌, IfOk, IfErr, IsTrue};
 ghost use Rattle.outside.specs.Faults.{Rose};
 ghost use Rattle.outside.specs.Folder.{Keeps};
+ghost use Rattle.wopi_model.specs.Begin.{new_life};
+ghost use Rattle.wopi_model.specs.Host.{kept_limits};
 ghost use Rattle.wopi_model.specs.Moment.{IsMoment};
+ghost use Rattle.wopi_model.specs.Shard.{Opening};
 ghost use Rattle.host_core.specs.Fullness.{IsNearlyFull};
 ghost use Rattle.host_core.specs.Listing.{IsListing};
 ghost use Rattle.host_core.specs.Opening.{IsFirstVersion, IsOpening, Fits, IsTooLarge, IfTooLarge};
@@ -70,18 +73,15 @@ impl<F: Store> Held<F> {
         requires first { IsFirstVersion first }
         ensures opened { IfOk result (λ held. held ≡ record {
           only = Some number;
-          opening = held.opening;
-          opened = opened;
-          first = first;
-          capacity = capacity;
+          begin = held.begin;
+          limits = kept_limits capacity;
           made = [];
           time = opened;
           ticked = false;
           start = folder;
           folder = held.folder;
         }) }
-        ensures opening { IfOk result (λ held. IsOpening (Some number) (F.files folder) held.opening) }
-        ensures fits { IfOk result (λ held. Fits held.opening) }
+        ensures opening { IfOk result (λ held. (opening : Opening) × (held.begin ≡ new_life opening opened first) × IsOpening (Some number) (F.files folder) opening × Fits opening) }
         ensures same { IfOk result (λ held. Keeps (F.files folder) (F.files held.folder)) }
         ensures never_falls { IfOk result (λ held. F.faults folder ≤ F.faults held.folder) }
         ensures too_large { IfErr result (λ refused. IfTooLarge refused.1 (IsTooLarge (Some number) (F.files folder))) }
@@ -130,7 +130,7 @@ impl<F: Store> Held<F> {
     /// A listing of the shard, which is the one of that number.
     pub fn list(&self, number: u8) -> Result<Listing, Memory>
         ensures seen { IsSeen (as_opened self.now) self.now.made }
-        ensures shows { IfOk result (IsListing number self.now.opening self.now.opened self.now.first (untimed self.now.made)) }
+        ensures shows { IfOk result (IsListing number self.now.begin (untimed self.now.made)) }
     {
         let place = self.shard.len();
         match self.shard.children() {
@@ -148,14 +148,14 @@ impl<F: Store> Held<F> {
     /// Whether the shard has used nine tenths of its room.
     pub fn is_nearly_full(&self) -> bool
         ensures seen { IsSeen (as_opened self.now) self.now.made }
-        ensures value { IsTrue result ↔ IsNearlyFull self.now.capacity self.now.opening (untimed self.now.made) }
+        ensures value { IsTrue result ↔ IsNearlyFull self.now.limits.calls self.now.begin (untimed self.now.made) }
     {
         self.shard.is_nearly_full()
     }
 
-    /// The last stamp, or 0.
+    /// The last stamp, or the last one before the beginning.
     pub fn last(&self) -> u64
-        ensures { result ≡ last_stamp self.now.made }
+        ensures { result ≡ last_stamp self.now.begin.last self.now.made }
     {
         self.shard.last()
     }

@@ -1,6 +1,7 @@
 //! The host.
 ghost use Rattle.std.specs.Prelude.{◌≡◌, ◌+◌, ◌<◌, ◌≤◌, ◌∷◌, [], ◌++◌, length, map, IfOk, IfErr, OnOk, OnErr, None, Some, IsSomeAnd, IsTrue, max, ◌↔◌};
 ghost use Rattle.std.specs.List.{AllByRecursion};
+ghost use Rattle.wopi_model.specs.Host.{kept_limits};
 ghost use Rattle.wopi_model.specs.Moment.{IsMoment};
 ghost use Rattle.host_core.specs.Opening.{IsFirstVersion};
 ghost use Rattle.wopi_text.specs.FileName.{shard_of};
@@ -8,8 +9,8 @@ ghost use Rattle.host_core.specs.Caller.{Makes, Refuses, Frames, entry_of};
 ghost use Rattle.host_core.specs.Fullness.{IsNearlyFull, IsNearlyFullAt};
 ghost use Rattle.host_core.specs.Listing.{IsListing, Lists, LooksAt};
 ghost use Rattle.host_core.specs.Times.{untimed};
-ghost use Rattle.host_table.specs.Histories.{last_stamp, as_opened, IsSeen};
-ghost use Rattle.host_table.specs.Passes.{locks_of, own_of, top, sight_of, kept_pass, given_pass, IsPassOf, IsSamePass, HasSeen, AreBases};
+ghost use Rattle.host_table.specs.Histories.{as_opened, IsSeen};
+ghost use Rattle.host_table.specs.Passes.{locks_of, own_of, last_seen, top, sight_of, kept_pass, given_pass, IsPassOf, IsSamePass, HasSeen, AreBases};
 ghost use Rattle.host_table.specs.Start.{first_seats, first_pass, AreHanded, IsBlamed, Starts, StartsKept};
 ghost use Rattle.host_table.specs.Close.{IsWhole, Ends};
 ghost use Rattle.host_table.specs.Calls.{Calls, Glances, Looks};
@@ -70,7 +71,7 @@ pub enum CloseFault<F: Store> {
     Memory(Host<F>, Vec<Pass<F>>),
 }
 
-/// One call in the shard's turn. `last` is the greatest stamp that was seen in any shard.
+/// One call in the shard's turn. `last` is the pass's last stamp.
 fn turn<F: Store, R: Wait>(
     rt: &R,
     lock: &TurnLock<Held<F>>,
@@ -84,7 +85,7 @@ fn turn<F: Store, R: Wait>(
     requires free { seat.old.taken ≡ None }
     requires based { IsSomeAnd seat.old.base (λ base. base.only ≡ Some (shard_of call.name)) }
     requires moment { IsMoment moment }
-    ensures last { last.new ≡ max last.old (last_stamp seat.new.seen) }
+    ensures last { last.new ≡ max last.old (last_seen seat.new) }
     ensures seen { IsSomeAnd seat.old.base (λ base. IsSeen base seat.new.seen) }
     ensures made { IfOk result (λ receipt. Calls seat.old call number last.old moment receipt seat.new) }
     ensures refused { IfErr result (λ refusal. Looks seat.old call last.old moment refusal seat.new) }
@@ -96,7 +97,7 @@ fn turn<F: Store, R: Wait>(
     answer
 }
 
-/// A listing in the shard's turn. `last` is the greatest stamp that was seen in any shard.
+/// A listing in the shard's turn. `last` is the pass's last stamp.
 fn list_in_turn<F: Store, R: Wait>(
     rt: &R,
     lock: &TurnLock<Held<F>>,
@@ -106,10 +107,10 @@ fn list_in_turn<F: Store, R: Wait>(
 ) -> Result<Listing, Memory>
     requires lock { seat.old.lock ≡ lock.now }
     requires free { seat.old.taken ≡ None }
-    ensures last { last.new ≡ max last.old (last_stamp seat.new.seen) }
+    ensures last { last.new ≡ max last.old (last_seen seat.new) }
     ensures seen { IsSomeAnd seat.old.base (λ base. IsSeen base seat.new.seen) }
     ensures glances { Glances seat.old seat.new }
-    ensures shows { IfOk result (λ listing. IsSomeAnd seat.old.base (λ base. IsListing number base.opening base.opened base.first (untimed seat.new.seen) listing)) }
+    ensures shows { IfOk result (λ listing. IsSomeAnd seat.old.base (λ base. IsListing number base.begin (untimed seat.new.seen) listing)) }
 {
     let held = lock.take(rt, seat);
     let answer = held.list(number);
@@ -118,7 +119,7 @@ fn list_in_turn<F: Store, R: Wait>(
     answer
 }
 
-/// Whether the shard is nearly full, in its turn. `last` is the greatest stamp that was seen in any shard.
+/// Whether the shard is nearly full, in its turn. `last` is the pass's last stamp.
 fn weigh_in_turn<F: Store, R: Wait>(
     rt: &R,
     lock: &TurnLock<Held<F>>,
@@ -127,10 +128,10 @@ fn weigh_in_turn<F: Store, R: Wait>(
 ) -> bool
     requires lock { seat.old.lock ≡ lock.now }
     requires free { seat.old.taken ≡ None }
-    ensures last { last.new ≡ max last.old (last_stamp seat.new.seen) }
+    ensures last { last.new ≡ max last.old (last_seen seat.new) }
     ensures seen { IsSomeAnd seat.old.base (λ base. IsSeen base seat.new.seen) }
     ensures glances { Glances seat.old seat.new }
-    ensures tells { IsSomeAnd seat.old.base (λ base. IsTrue result ↔ IsNearlyFull base.capacity base.opening (untimed seat.new.seen)) }
+    ensures tells { IsSomeAnd seat.old.base (λ base. IsTrue result ↔ IsNearlyFull base.limits.calls base.begin (untimed seat.new.seen)) }
 {
     let held = lock.take(rt, seat);
     let answer = held.is_nearly_full();
@@ -139,12 +140,13 @@ fn weigh_in_turn<F: Store, R: Wait>(
     answer
 }
 
-/// The host over these locks, and the pass of their first seats.
+/// The host over these locks, and the pass of their first seats. `last` is the greatest of the shards' last stamps.
 fn begin<F: Store>(
     alloc: Global,
     locks: Vec<TurnLock<Held<F>>>,
     seats: Vec<Seat<Held<F>>>,
     shards: Snapshot<Vec<Held<F>>>,
+    last: u64,
     capacity: u32,
     opened: u64,
     first: u64,
@@ -154,14 +156,15 @@ fn begin<F: Store>(
     requires small { capacity ≤ 32768 }
     requires opened { IsMoment opened }
     requires first { IsFirstVersion first }
-    requires bases { AreBases opened first capacity 0 (map as_opened shards.value.items) }
-    ensures host { result.0 ≡ record { locks = locks.items; bases = map as_opened shards.value.items; opened = opened; first = first; capacity = capacity; made = 1 } }
+    requires last { last ≡ top (first_seats locks.items (map as_opened shards.value.items)) }
+    requires bases { AreBases opened first (kept_limits capacity) 0 (map as_opened shards.value.items) }
+    ensures host { result.0 ≡ record { locks = locks.items; bases = map as_opened shards.value.items; opened = opened; first = first; limits = kept_limits capacity; made = 1 } }
     ensures pass { result.1 ≡ first_pass result.0 }
     ensures of_host { IsPassOf result.0 result.1 }
 {
     let pass = Pass {
         number: 0,
-        last: 0,
+        last,
         weight: 1 << 62,
         opened: Snapshot::of(&opened),
         first: Snapshot::of(&first),
@@ -212,7 +215,7 @@ impl<F: Store> Host<F> {
                         return Err((back, StartFault::Memory));
                     }
                     Ok((locks, seats)) => {
-                        return Ok(begin(alloc, locks, seats, about, capacity, opened, first));
+                        return Ok(begin(alloc, locks, seats, about, 0, capacity, opened, first));
                     }
                 }
             }
@@ -397,7 +400,7 @@ impl<F: Folder> Host<Kept<F>> {
     pub fn close_into(self, passes: Vec<Pass<Kept<F>>>, room: CloseRoom<F>) -> (Journal<F>, Vec<F>)
         requires of_host { AllByRecursion (IsPassOf self) passes.items }
         requires whole { IsWhole self.made passes.items }
-        requires room { self.capacity ≤ room.capacity }
+        requires room { IsSomeAnd self.limits.calls (λ calls. calls ≤ room.capacity) }
         ensures { Ends F.files F.faults self passes.items result.0 result.1.items }
     {
         end_host(self, passes, room.room)

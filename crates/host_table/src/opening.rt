@@ -1,6 +1,7 @@
 //! How a host begins: a shard over each folder, and a lock round each shard.
 ghost use Rattle.std.specs.Prelude.{◌≡◌, ◌+◌, ◌≤◌, [], ◌++◌, List, map, length, vec_len, vec_capacity, IfOk, IfErr, OnOk};
 ghost use Rattle.std.specs.Vec.Iter.{into_iter_items, into_iter_len};
+ghost use Rattle.wopi_model.specs.Host.{kept_limits};
 ghost use Rattle.wopi_model.specs.Moment.{IsMoment};
 ghost use Rattle.host_core.specs.Opening.{IsFirstVersion};
 ghost use Rattle.host_table.specs.Histories.{as_opened};
@@ -53,7 +54,7 @@ pub(crate) fn open_all<F: Store>(
     requires opened { IsMoment opened }
     requires first { IsFirstVersion first }
     requires room { (back.old.items ≡ []) × (16 ≤ vec_capacity back.old) }
-    ensures begun { IfOk result (λ shards. AreBegun F.files F.faults opened first capacity 0 folders.items shards.items) }
+    ensures begun { IfOk result (λ shards. AreBegun F.files F.faults opened first (kept_limits capacity) 0 folders.items shards.items) }
     ensures back { OnOk result ((back.new.items ≡ []) × (vec_capacity back.new ≡ vec_capacity back.old)) }
     ensures handed { IfErr result (λ fault. AreHanded F.files F.faults folders.items back.new.items) }
     ensures blamed { IfErr result (λ fault. IsBlamed F.files F.faults folders.items back.new.items fault) }

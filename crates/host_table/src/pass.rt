@@ -14,7 +14,7 @@ use turn_lock::Seat;
 #[derive(Drop)]
 pub struct Pass<F: Store> {
     pub(crate) number: u32,
-    /// The greatest stamp of any entry that was seen.
+    /// The greatest stamp of any entry that was seen, or of one before the shards began.
     pub(crate) last: u64,
     /// That of each seat.
     pub(crate) weight: u64,

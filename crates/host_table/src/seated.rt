@@ -24,8 +24,8 @@ pub struct Seated<'a, R: Wait, F: Store> {
     ghost named: { AreInShards 0 pass.now.seats } by { AreInShards-prop 0 pass.now.seats },
 }
 
-/// What stands behind a pass at its host: the host, the pass's number and weight, and the shards as they were
-/// opened. Contracts alone see it, and no value of it is made.
+/// What stands behind a pass at its host: the host, the pass's number and weight, when the host opened and with
+/// which version, and the shards as they were opened. Contracts alone see it, and no value of it is made.
 pub struct Footing<F: Store> {
     start: Snapshot<F>,
 }
@@ -36,7 +36,7 @@ impl<F: Store> Model for Footing<F> {
 
     ghost Value = { Basis F };
 
-    ghost view = { λ _. record { locks = []; number = 0; weight = 0; bases = [] } };
+    ghost view = { λ _. record { locks = []; number = 0; weight = 0; opened = 0; first = 0; bases = [] } };
 }
 
 impl<'a, R: Wait, F: Store> Seated<'a, R, F> {

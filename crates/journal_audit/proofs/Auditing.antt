@@ -1,14 +1,13 @@
 -- What an auditor keeps, before a line and behind it.
-use Rattle.std.proofs.Common.{◌≡◌, ◌≢◌, ◌↔◌, ℕ, zero, suc, ◌+◌, ◌<◌, ◌≤◌, ◌==◌, max, Bool, true, false, cond, List, [], ◌∷◌, ◌++◌, Option, None, Some, length, filter, refl, ap, sym, ◌∙◌, subst, arith, true≢false}
-use Rattle.std.specs.Prelude.{IsTrue, is_some, take, slice_get, slice_set, IfSome}
+use Rattle.std.proofs.Common.{◌≡◌, ◌↔◌, ℕ, zero, suc, ◌+◌, ◌<◌, ◌≤◌, ◌==◌, max, Bool, true, false, cond, List, [], ◌∷◌, ◌++◌, Option, None, Some, length, refl, ap, sym, ◌∙◌, subst, arith, true≢false}
+use Rattle.std.specs.Prelude.{IsTrue, is_some, take, slice_get, slice_set}
 use Rattle.std.specs.Str.{bytes_eq}
 use Rattle.std.proofs.lemmas.List.{append-nil}
 use Rattle.std.proofs.lemmas.List.Elements.{filter-append}
 use Rattle.std.proofs.lemmas.Slice.Eq.{bytes_eq-Decides}
 use Rattle.wopi_text.specs.FileName.{shard_of}
 use Rattle.wopi_model.specs.File.{File, never_met, opened_with}
-use Rattle.wopi_model.specs.Act.{is_spent}
-use Rattle.wopi_model.specs.Settle.{settled, still_spent}
+use Rattle.wopi_model.specs.Settle.{settled}
 use Rattle.wopi_model.specs.Shard.{Opening, Shard, Step, at_moment, happens, opened_shard, opening_file}
 use Rattle.wopi_model.specs.Host.{opening_of}
 use Rattle.wopi_model.specs.Kept.{Shows, kept_after}
@@ -16,17 +15,16 @@ use Rattle.wopi_model.proofs.Keeping.{shows-entry, shown-at_moment}
 use Rattle.host_core.specs.Opening.{opened_contents}
 use Rattle.name_index.specs.Index.{number_of}
 use Rattle.journal_text.specs.declared.text.Line.{Line}
-use Rattle.journal_audit.specs.declared.order.Order.{Order}
 use Rattle.journal_audit.specs.declared.verdict.AuditFault.{AuditFault}
 use Rattle.journal_audit.specs.declared.verdict.AuditFault.TheVariants as fault
 use Rattle.journal_audit.specs.Audits.{AreOpened, AreTracked, Audited, IsOpenedHost, IsTurnIn, Judges, Keeps, Turns}
 use Rattle.journal_audit.specs.Calls.{entry_of, told_ruling}
 use Rattle.journal_audit.specs.Judging.{Placed}
-use Rattle.journal_audit.specs.Known.{IsKnown, opened_as, unmet}
-use Rattle.journal_audit.specs.Lines.{Begun, HasFault, IsBadAt, IsOrdered, IsRuledOn, IsTimedIn, LegalLines, MayCome, behind_line, behind_lines, opened_host}
+use Rattle.journal_audit.specs.Known.{opened_as, unmet}
+use Rattle.journal_audit.specs.Lines.{Begun, HasFault, IsBadAt, IsOrdered, IsRuledOn, LegalLines, MayCome, behind_line, behind_lines, opened_host}
 use Rattle.journal_audit.specs.Orders.{KeepsOrder}
 use Rattle.journal_audit.specs.Spent.{Ends, IsLater, refuses}
-use Rattle.journal_audit.specs.Tracks.{AreKnown, AreNumbered, IsKnownAt, IsOpened, IsOpenedAt, Knows, Takes, Tracked, all_left_by}
+use Rattle.journal_audit.specs.Tracks.{AreKnown, IsKnownAt, IsOpened, IsOpenedAt, Knows, Takes, Tracked, all_left_by}
 use Rattle.journal_audit.proofs.Knowing.{later_on}
 use Rattle.journal_audit.proofs.Merges.{by_eq}
 use Rattle.journal_audit.proofs.Tracking.{got_front, got_last, longer, got_other, got_set, some_same}

@@ -1,14 +1,14 @@
 -- What stood behind some lines of a legal journal is found in it.
-use Rattle.std.proofs.Common.{◌≡◌, ℕ, ◌+◌, ◌<◌, ◌≤◌, ◌==◌, Bool, true, false, cond, List, [], ◌∷◌, ◌++◌, Option, None, Some, length, refl, sym, ap, ◌∙◌, subst, arith, inl, inr, append_assoc, append-nil, true≢false}
+use Rattle.std.proofs.Common.{◌≡◌, ℕ, ◌<◌, ◌≤◌, ◌==◌, Bool, true, false, cond, List, [], ◌∷◌, ◌++◌, Option, None, Some, refl, sym, ap, ◌∙◌, subst, arith, inl, inr, append_assoc, append-nil, true≢false}
 use Rattle.std.specs.Prelude.{◌⊎◌}
 use Rattle.std.specs.Str.{bytes_eq}
 use Rattle.std.specs.List.{AllByRecursion}
-use Rattle.std.proofs.lemmas.Bool.{eq-eqb, eqb-true}
+use Rattle.std.proofs.lemmas.Bool.{eqb-true}
 use Rattle.std.proofs.lemmas.Slice.Eq.{bytes_eq-Decides}
 use Rattle.wopi_text.specs.FileName.{shard_of}
 use Rattle.wopi_model.specs.File.{File}
 use Rattle.wopi_model.specs.Step.{after_step, contents_after, effect, version_after}
-use Rattle.wopi_model.specs.Shard.{Shard, Step, at_moment, happens}
+use Rattle.wopi_model.specs.Shard.{Shard, Step, happens}
 use Rattle.host_core.specs.Opening.{opened_contents}
 use Rattle.host_core.specs.declared.entry.EntryAct.{EntryAct}
 use Rattle.host_core.specs.declared.entry.EntryAct.TheVariants as act
@@ -18,7 +18,7 @@ use Rattle.journal_text.specs.declared.text.JournalText.{JournalText}
 use Rattle.journal_text.specs.declared.text.Line.{Line}
 use Rattle.journal_text.specs.Lines.{AreSized, IsLine, size_of, told_size}
 use Rattle.journal_audit.specs.Calls.{act_of, call_of, entry_of, told_ruling}
-use Rattle.journal_audit.specs.Contents.{Gives, GivesNone, HadContents, IsGiven, Stood, StoodThere, left_of}
+use Rattle.journal_audit.specs.Contents.{Gives, GivesNone, HadContents, IsGiven, Stood, StoodThere}
 use Rattle.journal_audit.specs.Known.{version_told}
 use Rattle.journal_audit.specs.Lines.{Begun, KeepsBounds, LegalLines, LegalText, MayCome, behind_line, behind_lines, opened_host}
 use Rattle.journal_audit.proofs.Auditing.{file_of, opening-file}

@@ -1,10 +1,10 @@
 -- The journal of a host is legal, and safe.
-use Rattle.std.proofs.Common.{◌≡◌, ◌↔◌, ℕ, zero, suc, ◌+◌, ◌<◌, ◌≤◌, ◌==◌, Bool, true, false, List, [], ◌∷◌, ◌++◌, length, map, filter, refl, ap, sym, ◌∙◌, subst, arith}
+use Rattle.std.proofs.Common.{◌≡◌, ◌↔◌, ℕ, zero, suc, ◌+◌, ◌<◌, ◌≤◌, List, [], ◌∷◌, ◌++◌, length, refl, ap, sym, ◌∙◌, subst, arith}
 use Rattle.std.specs.List.{AllByRecursion}
 use Rattle.outside.specs.Folder.{Files}
 use Rattle.std.specs.Prelude.{Option}
-use Rattle.wopi_model.specs.Shard.{Along, IsAllowed, Opening, opened_shard}
-use Rattle.wopi_model.specs.Host.{LegalHost, opening_of, part_of, shard_of_entry}
+use Rattle.wopi_model.specs.Shard.{IsAllowed, opened_shard}
+use Rattle.wopi_model.specs.Host.{opening_of, part_of}
 use Rattle.wopi_model.specs.Safety.{KeepsContents, TellsWhy}
 use Rattle.wopi_model.proofs.Conflicts.{tells_why}
 use Rattle.wopi_model.proofs.Replacing.{Along-weaker, keeps_contents}
@@ -13,16 +13,16 @@ use Rattle.host_core.specs.Times.{IsTimely, steps_of}
 use Rattle.host_core.specs.Value.{InMemory, Book, Left}
 use Rattle.host_table.specs.Close.{AreEnded, Ends}
 use Rattle.host_table.specs.Journal.{AreParts, JournalView, openings}
-use Rattle.host_table.specs.Passes.{AreBases, HostView, IsHost, PassView}
+use Rattle.host_table.specs.Passes.{HostView, IsHost, PassView}
 use Rattle.journal_text.specs.declared.text.Format.{Format}
 use Rattle.journal_text.specs.declared.text.JournalText.{JournalText}
 use Rattle.journal_text.specs.declared.text.Line.{Line}
 use Rattle.journal_text.specs.Lines.{IsLine}
-use Rattle.journal_text.specs.Told.{line_of, told_by}
+use Rattle.journal_text.specs.Told.{told_by}
 use Rattle.journal_audit.specs.declared.verdict.AuditFault.{AuditFault}
 use Rattle.journal_audit.specs.declared.verdict.AuditFault.TheVariants as fault
 use Rattle.journal_audit.specs.Lines.{Begun, HasFault, IsBadAt, IsBadLine, KeepsBounds, LegalLines, LegalText, MayCome, behind_line, behind_lines, opened_host}
-use Rattle.journal_audit.specs.Merges.{AreTimely, GoesOn, IsOfHost, IsSafe, made_in}
+use Rattle.journal_audit.specs.Merges.{AreTimely, IsOfHost, IsSafe, made_in}
 use Rattle.journal_audit.specs.Tracks.{IsSound}
 use Rattle.journal_audit.proofs.Merges.{by_eq, goes_of, host_of, told_by_lines, told_lines}
 
@@ -93,26 +93,25 @@ tells_host text keeps =
 -- ---- a host's journal
 
 module _ {F : Type 0} (files : F → Option Files) (faults : F → ℕ) where
-  timely_from : (opened first capacity shard n : ℕ) (merge : List Made) (bases : List (Book (InMemory F))) (parts : List (Left F)) (folders : List F) → AreBases opened first capacity shard bases →
-      AreParts merge shard parts → AreEnded files faults bases parts folders → shard ≤ n → n < shard + length bases → IsTimely opened (made_in n merge)
-  timely_from opened first capacity shard n merge [] parts folders are these ended le less = absurd (omega (arith, le, less))
-  timely_from opened first capacity shard n merge (base ∷ bases) [] [] are these ended le less = absurd ended
-  timely_from opened first capacity shard n merge (base ∷ bases) [] (folder ∷ folders) are these ended le less = absurd ended
-  timely_from opened first capacity shard n merge (base ∷ bases) (part ∷ parts) [] are these ended le less = absurd ended
-  timely_from opened first capacity shard n merge (base ∷ bases) (part ∷ parts) (folder ∷ folders) are these ended le less =
+  timely_from : (opened first shard n : ℕ) (merge : List Made) (bases : List (Book (InMemory F))) (parts : List (Left F)) (folders : List F) →
+      AreParts merge shard parts → AreEnded files faults opened first bases parts folders → shard ≤ n → n < shard + length bases → IsTimely opened (made_in n merge)
+  timely_from opened first shard n merge [] parts folders these ended le less = absurd (omega (arith, le, less))
+  timely_from opened first shard n merge (base ∷ bases) [] [] these ended le less = absurd ended
+  timely_from opened first shard n merge (base ∷ bases) [] (folder ∷ folders) these ended le less = absurd ended
+  timely_from opened first shard n merge (base ∷ bases) (part ∷ parts) [] these ended le less = absurd ended
+  timely_from opened first shard n merge (base ∷ bases) (part ∷ parts) (folder ∷ folders) these ended le less =
       by_eq shard n (λ b. IsTimely opened (made_in n merge))
       (λ e.
-      let mine : IsTimely base.opened part.made = ended.0.timely in
-      let here : IsTimely opened part.made = subst (λ (t : ℕ). IsTimely t part.made) are.0.opened_is mine in
+      let here : IsTimely opened part.made = ended.0.timely in
       subst (λ (l : List Made). IsTimely opened l) (these.0 ∙ ap (λ k. made_in k merge) e) here)
-      (λ apart. timely_from opened first capacity (shard + 1) n merge bases parts folders are.1 these.1 ended.1 (omega (arith, le, apart)) (omega (arith, less)))
+      (λ apart. timely_from opened first (shard + 1) n merge bases parts folders these.1 ended.1 (omega (arith, le, apart)) (omega (arith, less)))
 
   pub journal_is_legal : (host : HostView (InMemory F)) (passes : List (PassView (InMemory F))) (journal : JournalView F) (folders : List F) → IsHost host → Ends files faults host passes journal folders → LegalText (told_by journal)
   journal_is_legal host passes journal folders is ends =
       let many = is.many in
       let timely : AreTimely (λ shard. journal.opened) journal.merge = λ n small.
       subst (λ (t : ℕ). IsTimely t (made_in n journal.merge)) (sym ends.opened_is)
-      (timely_from host.opened host.first host.capacity 0 n journal.merge host.bases journal.parts folders is.bases ends.parts ends.ended (omega arith) (omega (arith, small, many))) in
+      (timely_from host.opened host.first 0 n journal.merge host.bases journal.parts folders ends.parts ends.ended (omega arith) (omega (arith, small, many))) in
       told_lines (opened_host (openings journal.parts) journal.opened journal.first) journal.merge
       (goes_of (openings journal.parts) journal.opened journal.first journal.merge ends.legal timely)
 

@@ -1,9 +1,8 @@
 -- What is known of one file, before a line and behind it.
-use Rattle.std.proofs.Common.{◌≡◌, ◌↔◌, ℕ, ◌≤◌, ◌+◌, ◌==◌, Bool, true, false, cond, ◌&&◌, ◌||◌, List, [], ◌∷◌, Option, None, Some, length, refl, ap, sym, ◌∙◌, subst, arith, inl, inr}
-use Rattle.std.specs.Prelude.{nat_lt, replicate, option_map, IsTrue, IfSome}
+use Rattle.std.proofs.Common.{◌≡◌, ℕ, ◌≤◌, ◌==◌, Bool, true, false, cond, ◌&&◌, ◌||◌, List, ◌∷◌, Option, None, Some, length, refl, ap, sym, ◌∙◌, subst, arith}
+use Rattle.std.specs.Prelude.{nat_lt, replicate, IfSome}
 use Rattle.std.specs.Str.{bytes_eq}
 use Rattle.std.proofs.lemmas.List.{length-replicate}
-use Rattle.std.proofs.lemmas.Bool.Decides.{nat_tests}
 use Rattle.wopi_model.specs.Moment.{IsMoment}
 use Rattle.wopi_model.specs.declared.calls.Call.{Call}
 use Rattle.wopi_model.specs.declared.calls.Ruling.{Ruling}
@@ -13,19 +12,19 @@ use Rattle.wopi_model.specs.File.{File}
 use Rattle.wopi_model.specs.Act.{is_spent, lock_act}
 use Rattle.wopi_model.specs.LockTable.{lock_after, spent_by}
 use Rattle.wopi_model.specs.Settle.{is_over, standing, expired, with_spent, still_spent, settled}
-use Rattle.wopi_model.specs.Step.{IsOutcome, after_step, contents_after, effect, decision, file_of, version_after}
+use Rattle.wopi_model.specs.Step.{after_step, contents_after, effect, decision, file_of}
 use Rattle.wopi_model.proofs.Settling.{still-still}
 use Rattle.host_core.specs.declared.entry.EntryAct.{EntryAct}
 use Rattle.host_core.specs.declared.entry.EntryAct.TheVariants as act
 use Rattle.host_core.specs.Entries.{kept_act}
 use Rattle.journal_text.specs.declared.text.Line.{Line}
 use Rattle.journal_text.specs.Lines.{AreSized, told_size}
-use Rattle.journal_audit.specs.Calls.{Said, act_of, call_of, said_by, said_of, told_ruling}
+use Rattle.journal_audit.specs.Calls.{Said, act_of, call_of, told_ruling}
 use Rattle.journal_audit.specs.Judging.{IsSize, Placed, sized_ask}
 use Rattle.journal_audit.specs.Known.{IsKnown, placed_after, settled_place, size_after, version_told}
 use Rattle.journal_audit.specs.Lines.{IsRuledOn}
 use Rattle.journal_audit.specs.Spent.{ends}
-use Rattle.journal_audit.specs.Tracks.{IsSound, left_by}
+use Rattle.journal_audit.specs.Tracks.{IsSound}
 use Rattle.journal_audit.proofs.Rulings.{told_outcome, version_outcome}
 use Rattle.journal_audit.proofs.Sizes.{Stands, ask-same}
 

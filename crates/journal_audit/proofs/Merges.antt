@@ -1,5 +1,5 @@
 -- Legal lines tell of the entries of a legal merge, and those of a legal merge are told by legal lines.
-use Rattle.std.proofs.Common.{◌≡◌, ◌↔◌, ◌⊎◌, inl, inr, ℕ, ◌<◌, ◌==◌, max, Bool, true, false, cond, List, [], ◌∷◌, Option, None, Some, map, filter, length, refl, ap, sym, ◌∙◌, subst, arith, true≢false}
+use Rattle.std.proofs.Common.{◌≡◌, inl, inr, ℕ, ◌<◌, ◌==◌, max, Bool, true, false, cond, List, [], ◌∷◌, Option, None, Some, map, filter, length, refl, ap, sym, ◌∙◌, subst, arith, true≢false}
 use Rattle.std.specs.Prelude.{option_map}
 use Rattle.std.proofs.lemmas.Bool.{eqb-true, eqb-false, eq-eqb}
 use Rattle.std.specs.List.{AllByRecursion}
@@ -11,8 +11,8 @@ use Rattle.wopi_model.specs.declared.calls.Ruling.{Ruling}
 use Rattle.wopi_model.specs.File.{File}
 use Rattle.wopi_model.specs.Act.{is_spent, is_stored}
 use Rattle.wopi_model.specs.Step.{Decision, Refuse, Conflict, Accept, IsOutcome, decision, effect, ruling_of}
-use Rattle.wopi_model.specs.Shard.{Along, Entry, IsAllowed, Item, Legal, Opening, RisesFrom, Shard, Step, after_entry, at_moment, entries, happens, opened_shard, stamps, with_file}
-use Rattle.wopi_model.specs.Host.{ComesBefore, IsInOrder, LegalHost, opening_of, part_of, shard_of_entry}
+use Rattle.wopi_model.specs.Shard.{Along, Entry, IsAllowed, Opening, RisesFrom, Shard, Step, at_moment, entries, happens, stamps, with_file}
+use Rattle.wopi_model.specs.Host.{ComesBefore, IsInOrder, LegalHost, shard_of_entry}
 use Rattle.host_core.specs.declared.entry.EntryAct.{EntryAct}
 use Rattle.host_core.specs.declared.entry.EntryAct.TheVariants as act
 use Rattle.host_core.specs.Entries.{Made, accepted_contents, brought_by, kept_act}
@@ -20,7 +20,7 @@ use Rattle.host_core.specs.Times.{IsTimely, steps_of}
 use Rattle.journal_text.specs.declared.text.Line.{Line}
 use Rattle.journal_text.specs.Lines.{AreSized, size_of}
 use Rattle.journal_text.specs.Told.{line_of, lock_of}
-use Rattle.journal_audit.specs.Calls.{Said, act_of, call_of, contents_of, entry_of, said_by, said_of, told_ruling}
+use Rattle.journal_audit.specs.Calls.{Said, act_of, call_of, entry_of, said_by, said_of, told_ruling}
 use Rattle.journal_audit.specs.Lines.{Begun, IsBehind, IsRuled, IsRuledOn, LegalLines, MayCome, behind_line, opened_host}
 use Rattle.journal_audit.specs.Merges.{AreTimely, ComesBehind, GoesOn, behind_entry, made_in}
 use Rattle.journal_audit.specs.Tracks.{IsSound}

@@ -11,7 +11,7 @@ use Rattle.host_table.proofs.WritingLemmas.{all_append}
 use Rattle.journal_text.specs.declared.text.JournalText.{JournalText}
 use Rattle.journal_text.specs.declared.text.Line.{Line}
 use Rattle.journal_text.specs.Reader.{begun_text, with_file, with_line}
-use Rattle.journal_audit.specs.Contents.{Gives, GivesNone, HadContents, IsGiven, StoodThere}
+use Rattle.journal_audit.specs.Contents.{GivesNone, HadContents, IsGiven, StoodThere}
 use Rattle.journal_text.specs.Coming.{IsKeptOf}
 use Rattle.journal_audit.specs.declared.sought.Sought.{Sought}
 use Rattle.journal_audit.specs.Streams.{IsFound, IsFoundIn, Seeks, SeeksIn}

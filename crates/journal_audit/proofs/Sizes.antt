@@ -1,16 +1,12 @@
 -- Sizes decide what contents decide.
-use Rattle.std.proofs.Common.{◌≡◌, ℕ, ◌+◌, Bool, cond, not, ◌&&◌, ◌||◌, List, [], ◌∷◌, Option, None, Some, length, refl, ap, sym, ◌∙◌, subst, arith, inl, inr}
+use Rattle.std.proofs.Common.{◌≡◌, ℕ, ◌+◌, Bool, cond, not, ◌&&◌, ◌||◌, List, [], ◌∷◌, Option, None, Some, length, refl, ap, sym, ◌∙◌, arith, inl, inr}
 use Rattle.std.specs.Prelude.{is_some, option_map, unwrap_or, nat_lt}
 use Rattle.std.proofs.lemmas.Bool.Decides.{nat_tests}
 use Rattle.std.specs.Str.{bytes_eq}
 use Rattle.wopi_text.specs.declared.reason.Reason.{Reason}
 use Rattle.wopi_model.specs.declared.calls.Call.{Call}
-use Rattle.wopi_model.specs.declared.calls.Act.{Act}
-use Rattle.wopi_model.specs.declared.calls.Act.TheVariants as acts
-use Rattle.wopi_model.specs.declared.calls.Ruling.{Ruling}
 use Rattle.wopi_model.specs.declared.locks.Lock.{Lock}
 use Rattle.wopi_model.specs.declared.locks.LockAct.TheVariants as asks
-use Rattle.wopi_model.specs.declared.locks.LockAct.{LockAct}
 use Rattle.wopi_model.specs.declared.locks.Spent.{Spent}
 use Rattle.wopi_model.specs.declared.locks.Verdict.{Verdict}
 use Rattle.wopi_model.specs.declared.locks.Verdict.TheVariants as says
@@ -19,12 +15,12 @@ use Rattle.wopi_model.specs.File as files
 use Rattle.wopi_model.specs.Act.{is_create, is_spent, is_stored, lock_act, needs_write, presents_spent}
 use Rattle.wopi_model.specs.LockTable.{lock_after, verdict}
 use Rattle.wopi_model.specs.Token.{is_live}
-use Rattle.wopi_model.specs.Step.{Decision, Refuse, Conflict, Accept, IsOutcome, acceptance, decision, effect, is_too_large, lock_field, ruling_of, store_fault}
+use Rattle.wopi_model.specs.Step.{Decision, Refuse, Conflict, Accept, acceptance, decision, effect, is_too_large, lock_field, ruling_of, store_fault}
 use Rattle.host_core.specs.declared.entry.EntryAct.{EntryAct}
 use Rattle.host_core.specs.declared.entry.EntryAct.TheVariants as act
 use Rattle.journal_text.specs.declared.text.Line.{Line}
 use Rattle.journal_text.specs.Told.{lock_of}
-use Rattle.journal_audit.specs.Calls.{Said, act_of, call_of, said_by, said_of}
+use Rattle.journal_audit.specs.Calls.{Said, act_of, call_of, said_of}
 use Rattle.journal_audit.specs.Lines.{IsRuledOn}
 use Rattle.journal_audit.specs.Judging.{IsSize, Placed, SaysOutcome, accepted_as, creates, has_no_bytes, is_over_most, lock_id, said, shows_spent, sized_ask, sized_decision, stores, writes}
 

@@ -8,7 +8,7 @@ use Rattle.std.proofs.lemmas.Bool.Decides.{nat_tests}
 use Rattle.std.proofs.lemmas.Bool.{eq-eqb}
 use Rattle.std.proofs.lemmas.Slice.Eq.{bytes_eq-Decides}
 use Rattle.journal_audit.specs.declared.spent.SpentOn.{SpentOn}
-use Rattle.journal_audit.specs.Spent.{Ends, end_of, ends_after, is_same, pairs_of, refused_in, refuses, same_parts}
+use Rattle.journal_audit.specs.Spent.{end_of, ends_after, is_same, pairs_of, refused_in, refuses, same_parts}
 
 abbrev pair_of : SpentOn × ℕ → (ℕ × List ℕ) × ℕ
 pair_of one = ((one.0.file, one.0.id), one.1)

@@ -1,5 +1,5 @@
 -- What is found of a legal journal stood there.
-use Rattle.std.proofs.Common.{◌≡◌, ℕ, ◌+◌, ◌==◌, Bool, true, false, cond, List, [], ◌∷◌, ◌++◌, Option, None, Some, filter, refl, sym, ap, ◌∙◌, subst, inl, inr, append_assoc, true≢false}
+use Rattle.std.proofs.Common.{◌≡◌, ℕ, ◌==◌, Bool, true, false, cond, List, [], ◌∷◌, ◌++◌, Option, None, Some, refl, sym, ap, ◌∙◌, subst, inl, inr, append_assoc, true≢false}
 use Rattle.std.specs.Str.{bytes_eq}
 use Rattle.std.specs.List.{AllByRecursion}
 use Rattle.std.proofs.lemmas.Bool.{eq-eqb}
@@ -12,12 +12,11 @@ use Rattle.wopi_model.specs.Host.{opening_of}
 use Rattle.host_core.specs.Opening.{opened_contents}
 use Rattle.host_core.specs.declared.entry.EntryAct.{EntryAct}
 use Rattle.host_core.specs.declared.entry.EntryAct.TheVariants as act
-use Rattle.journal_text.specs.declared.text.Format.{Format}
 use Rattle.journal_text.specs.declared.text.JournalText.{JournalText}
 use Rattle.journal_text.specs.declared.text.Line.{Line}
 use Rattle.journal_text.specs.Lines.{AreSized, IsLine, size_of, told_size}
 use Rattle.journal_audit.specs.Calls.{Said, act_of, call_of, entry_of, told_ruling}
-use Rattle.journal_audit.specs.Contents.{Gives, HadContents, IsGiven, Stood, StoodThere, left_of}
+use Rattle.journal_audit.specs.Contents.{HadContents, IsGiven, Stood, StoodThere, left_of}
 use Rattle.journal_audit.specs.Known.{version_told}
 use Rattle.journal_audit.specs.Lines.{Begun, IsRuledOn, KeepsBounds, LegalLines, LegalText, MayCome, behind_line, behind_lines, opened_host}
 use Rattle.journal_audit.proofs.Auditing.{file_of, opening-file}

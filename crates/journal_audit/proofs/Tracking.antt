@@ -1,17 +1,15 @@
 -- What a line does to what is known of all files.
-use Rattle.std.proofs.Common.{◌≡◌, ◌≢◌, ◌⊎◌, inl, inr, ◌↔◌, ℕ, zero, suc, ◌+◌, ◌<◌, ◌≤◌, Bool, true, false, cond, List, [], ◌∷◌, ◌++◌, Option, None, Some, length, refl, ap, sym, ◌∙◌, subst, arith, true≢false}
-use Rattle.std.specs.Prelude.{IsTrue, get_or, slice_get, slice_set}
+use Rattle.std.proofs.Common.{◌≡◌, ◌≢◌, ◌⊎◌, inl, inr, ℕ, zero, suc, ◌+◌, ◌<◌, ◌≤◌, Bool, true, false, cond, List, [], ◌∷◌, ◌++◌, Option, None, Some, length, refl, ap, sym, ◌∙◌, subst, arith, true≢false}
+use Rattle.std.specs.Prelude.{get_or, slice_get, slice_set}
 use Rattle.std.specs.Str.{bytes_eq}
 use Rattle.std.proofs.lemmas.Slice.Eq.{bytes_eq-Decides}
 use Rattle.wopi_model.specs.File.{File}
-use Rattle.wopi_model.specs.Settle.{settled}
 use Rattle.name_index.specs.Index.{number_of}
 use Rattle.journal_text.specs.declared.text.Line.{Line}
 use Rattle.journal_audit.specs.Judging.{Placed}
 use Rattle.journal_audit.specs.Known.{IsKnown, unmet}
-use Rattle.journal_audit.specs.Lines.{IsRuledOn}
 use Rattle.journal_audit.specs.Spent.{Ends, refuses}
-use Rattle.journal_audit.specs.Tracks.{AreKnown, AreNumbered, IsKnownAt, OthersStay, Steps, Takes, all_left_by, left_by}
+use Rattle.journal_audit.specs.Tracks.{AreNumbered, IsKnownAt, OthersStay, Steps, Takes, all_left_by, left_by}
 use Rattle.journal_audit.proofs.Knowing.{later_on}
 
 module _ {A : Type 0} where

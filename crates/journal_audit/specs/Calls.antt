@@ -1,5 +1,5 @@
 -- The calls and the rulings that the lines of a journal tell. (Own.)
-use Rattle.std.specs.Prelude.{◌≡◌, ℕ, List, Option, None, Some, replicate}
+use Rattle.std.specs.Prelude.{ℕ, List, Option, None, Some, replicate}
 use Rattle.wopi_text.specs.declared.lock_field.LockField.{LockField}
 use Rattle.wopi_text.specs.declared.lock_field.LockField.TheVariants as field
 use Rattle.wopi_text.specs.declared.reason.Reason.{Reason}

@@ -1,7 +1,6 @@
 -- What is decided of a line's call where contents are known by their size alone. (Own.)
 use Rattle.std.specs.Prelude.{◌⊎◌, ◌+◌, ◌≡◌, ℕ, Bool, true, false, not, ◌&&◌, ◌||◌, ◌==◌, List, Option, None, Some, is_some, option_map, length, nat_lt, unwrap_or, if◌then◌else◌}
 use Rattle.std.specs.Str.{bytes_eq}
-use Rattle.wopi_text.specs.declared.reason.Reason.{Reason}
 use Rattle.wopi_model.specs.declared.locks.Lock.{Lock}
 use Rattle.wopi_model.specs.declared.locks.LockAct.{LockAct}
 use Rattle.wopi_model.specs.declared.locks.LockAct.TheVariants as asks

@@ -1,16 +1,12 @@
 -- What is known of a file of which nobody keeps the contents. (Own.)
 use Rattle.std.specs.Prelude.{◌≡◌, ℕ, ◌-◌, ◌≤◌, Bool, List, Option, None, Some, unwrap_or, IfSome}
 use Rattle.wopi_model.specs.Moment.{IsMoment}
-use Rattle.wopi_model.specs.declared.locks.Lock.{Lock}
-use Rattle.wopi_model.specs.declared.locks.LockAct.{LockAct}
-use Rattle.wopi_model.specs.declared.locks.LockAct.TheVariants as asks
 use Rattle.wopi_model.specs.File.{File}
 use Rattle.wopi_model.specs.Act.{is_spent}
 use Rattle.wopi_model.specs.Settle.{standing, still_spent}
 use Rattle.wopi_model.specs.LockTable.{lock_after}
 use Rattle.host_core.specs.declared.entry.EntryAct.{EntryAct}
 use Rattle.host_core.specs.declared.entry.EntryAct.TheVariants as act
-use Rattle.journal_audit.specs.declared.file.KnownFile.{KnownFile}
 use Rattle.journal_audit.specs.Judging.{IsSize, Placed, sized_ask}
 
 -- a name that was never met

@@ -1,5 +1,5 @@
 -- The order of lines, as it is kept. (Own.)
-use Rattle.std.specs.Prelude.{◌≡◌, ◌↔◌, ℕ, ◌<◌, ◌≤◌, ◌==◌, true, List, Option, None, Some, IsTrue}
+use Rattle.std.specs.Prelude.{◌≡◌, ◌↔◌, ℕ, ◌<◌, ◌≤◌, ◌==◌, List, Option, None, Some, IsTrue}
 use Rattle.std.specs.List.{list_any}
 use Rattle.journal_audit.specs.declared.order.Order.{Order}
 use Rattle.journal_audit.specs.Lines.{Begun}

@@ -14,10 +14,11 @@ use Rattle.wopi_text.specs.FileName.{IsFileName}
 use Rattle.wopi_model.specs.File.{File}
 use Rattle.wopi_model.specs.Host.{kept}
 use Rattle.wopi_model.specs.Step.{after_step}
-use Rattle.wopi_model.specs.Shard.{Shard, Opening, Entry, Legal, Tick, opening_file, opened_shard, at_moment, after_entry, after, entries}
+use Rattle.wopi_model.specs.Shard.{Shard, Opening, Entry, LegalFrom, Along, IsAllowed, Tick, opening_file, begun, opened_shard, at_moment, after_entry, after, entries}
 use Rattle.wopi_model.specs.Shard as run
 use Rattle.wopi_model.proofs.Histories.{after-append, entries-append}
 use Rattle.wopi_model.proofs.Soundness.{same_bytes}
+use Rattle.wopi_model.specs.Begin.{Begin}
 use Rattle.host_core.specs.Entries.{Made, items_of, history_of}
 use Rattle.host_core.specs.Opening.{IsOpening, IsTooLarge, MayKeep, opened_contents}
 use Rattle.host_core.specs.Opening as host
@@ -40,6 +41,7 @@ use Rattle.wopi_world.specs.History.{Item, Restarted, restarted, IsNextFirst}
 use Rattle.wopi_world.specs.World as in_world
 use Rattle.wopi_world.specs.World.{Setting, World, Restarts, comes, next_first}
 use Rattle.wopi_world.proofs.Versions.{next_first_one}
+use Rattle.replay_cmd.specs.Begun.{opening_in}
 use Rattle.replay_cmd.specs.declared.history.Item.{Item as Kept}
 use Rattle.replay_cmd.specs.declared.history.Item.TheVariants as item
 use Rattle.replay_cmd.specs.declared.replies.Reply.{Reply}
@@ -60,7 +62,7 @@ use Rattle.replay_cmd.proofs.FirstWorld.{has_form, opening_contents}
 use Rattle.replay_cmd.proofs.LastRun.{entries_restarted, kept_pushed}
 use Rattle.replay_cmd.proofs.Opened.{distinct, names_in, OneFile}
 use Rattle.replay_cmd.proofs.ReplyLemmas.{AreReplies-later}
-use Rattle.replay_cmd.proofs.Sizes.{names_size, bytes_found}
+use Rattle.replay_cmd.proofs.Sizes.{names_size, bytes_found, size_in}
 
 -- ---- what a shard leaves
 
@@ -88,19 +90,27 @@ named_opening : (opening : Opening) (opened first : ℕ) → AllByRecursion (λ 
 named_opening opening opened first all name contents e = has_form IsFileName opening name contents all (sym (opening_contents first opening name) ∙ e)
 
 module _ {F : Type 0} (book : Book F) (names : HasFileNames book) where
-  abbrev begun : Shard
-  begun = opened_shard book.opening book.opened book.first
+  abbrev start_of : Shard
+  start_of = begun book.begin
 
   abbrev state : Shard
-  state = state_of book.opening book.opened book.first book.made book.time
+  state = state_of book.begin book.made book.time
 
-  state_is : state ≡ at_moment (after begun (items_of book.made)) book.time
-  state_is = after-append begun (items_of book.made) (Tick book.time ∷ [])
+  state_is : state ≡ at_moment (after start_of (items_of book.made)) book.time
+  state_is = after-append start_of (items_of book.made) (Tick book.time ∷ [])
 
   named_in : (name contents : List ℕ) → (file_in book name).contents ≡ Some contents → IsFileName name
   named_in name contents e =
-      named_made begun book.made names.made (named_opening book.opening book.opened book.first names.opening) name contents
+      named_made start_of book.made names.made (subst (λ (b : Begin). AreNamed (begun b)) (sym names.new) (named_opening (opening_in book.begin) book.begin.opened book.begin.first names.opening)) name contents
       (ap (λ (s : Shard). (s.files name).contents) (sym state_is) ∙ e)
+
+  -- the files of these names have no more bytes than the shard kept
+  sizes_kept : (given : List (List ℕ)) → IsDistinct bytes_eq given → LegalFrom book.begin (history_of book.made book.time)
+      → sum_by (size_in state) given ≤ kept (opening_in book.begin) (history_of book.made book.time)
+  sizes_kept given apart legal =
+      let history = history_of book.made book.time in
+      subst (λ (b : Begin). sum_by (size_in (after (begun b) history)) given ≤ kept (opening_in book.begin) history) (sym names.new)
+      (names_size (opening_in book.begin) book.begin.opened book.begin.first history given apart (subst (λ (b : Begin). Along IsAllowed (begun b) history) names.new legal.allowed))
 
   -- no name is torn where no store failed
   whole_from : (made : List Made) (name : List ℕ) → AllByRecursion IsStored (map (λ one. one.step) made) → torn_from false made name ≡ false
@@ -134,24 +144,23 @@ module _ {F : Type 0} (book : Book F) (names : HasFileNames book) where
             let may : MayKeep None name = has_form (MayKeep None) opening name contents is.taken e in
             is.whole name may ∙ left_at name may
 
-    pub left_small : Legal book.opening book.opened book.first (history_of book.made book.time)
-        → sum_by (λ (file : OneFile). length file.1) opening ≤ kept book.opening (items_of book.made)
+    pub left_small : LegalFrom book.begin (history_of book.made book.time)
+        → sum_by (λ (file : OneFile). length file.1) opening ≤ kept (opening_in book.begin) (items_of book.made)
     left_small legal =
-        let names : List (List ℕ) = names_in opening in
-        let most = names_size book.opening book.opened book.first (history_of book.made book.time) names (distinct opening is.ordered) legal.allowed in
+        let most = sizes_kept (names_in opening) (distinct opening is.ordered) legal in
         let bytes = bytes_found opening (λ (name : List ℕ). (file_in book name).contents) (distinct opening is.ordered) (λ name contents e. sym (left_contents name) ∙ e) in
         let same : entries (history_of book.made book.time) ≡ entries (items_of book.made) = entries-append (items_of book.made) (Tick book.time ∷ []) ∙ append-nil (entries (items_of book.made)) in
-        let all : kept book.opening (history_of book.made book.time) ≡ kept book.opening (items_of book.made) =
-        ap (λ (l : List Entry). sum_by (λ (file : OneFile). length file.1) book.opening + sum_by kept_by l) same in
+        let all : kept (opening_in book.begin) (history_of book.made book.time) ≡ kept (opening_in book.begin) (items_of book.made) =
+        ap (λ (l : List Entry). sum_by (λ (file : OneFile). length file.1) (opening_in book.begin) + sum_by kept_by l) same in
         omega (arith, most, bytes, all)
 
-    pub left_over : (moment first : ℕ) (new : Book F) → new.opening ≡ opening → HasOpened moment first new → Legal book.opening book.opened book.first (history_of book.made book.time)
+    pub left_over : (moment first : ℕ) (new : Book F) → opening_in new.begin ≡ opening → HasOpened moment first new → LegalFrom book.begin (history_of book.made book.time)
         → Reopens book moment first new
     left_over moment first new same has legal =
         record {
           has = has;
           contents = λ name. ap (λ (l : Opening). opened_contents l name) same ∙ left_contents name;
-          small = subst (λ (l : Opening). sum_by (λ (file : OneFile). length file.1) l ≤ kept book.opening (items_of book.made)) (sym same) (left_small legal);
+          small = subst (λ (l : Opening). sum_by (λ (file : OneFile). length file.1) l ≤ kept (opening_in book.begin) (items_of book.made)) (sym same) (left_small legal);
         }
 
 -- a name that comes before another isn't that one
@@ -165,7 +174,7 @@ apart_from name (file ∷ opening) smaller = (
 
 module _ {F : Type 0} (book : Book F) (names : HasFileNames book) (start now : Files)
     (agrees : Agrees None (Some start) (Some now) (state book names).files (is_torn book.made)) (stored : faults_in book.made ≡ 0)
-    (legal : Legal book.opening book.opened book.first (history_of book.made book.time)) (name : List ℕ) (large : IsTooLarge None (Some now) name) where
+    (legal : LegalFrom book.begin (history_of book.made book.time)) (name : List ℕ) (large : IsTooLarge None (Some now) name) where
   abbrev before : Opening
   before = large.before
 
@@ -198,12 +207,12 @@ module _ {F : Type 0} (book : Book F) (names : HasFileNames book) (start now : F
     | inl long ↦ inl (name, subst (λ (c : Option (List ℕ)). host.most_contents < length (unwrap_or c [])) (sym own_contents) long)
     | inr many ↦ inr (
         let files : Opening = (name, contents) ∷ before in
-        let most = names_size book.opening book.opened book.first (history_of book.made book.time) (names_in files) distinct_names legal.allowed in
+        let most = sizes_kept book names (names_in files) distinct_names legal in
         let bytes = bytes_found files (λ (other : List ℕ). (file_in book other).contents) distinct_names found_in in
         let parts = sum_by-cons (λ (file : OneFile). length file.1) (name, contents) before in
         let same : entries (history_of book.made book.time) ≡ entries (items_of book.made) = entries-append (items_of book.made) (Tick book.time ∷ []) ∙ append-nil (entries (items_of book.made)) in
-        let all : kept book.opening (history_of book.made book.time) ≡ kept book.opening (items_of book.made) =
-        ap (λ (l : List Entry). sum_by (λ (file : OneFile). length file.1) book.opening + sum_by kept_by l) same in
+        let all : kept (opening_in book.begin) (history_of book.made book.time) ≡ kept (opening_in book.begin) (items_of book.made) =
+        ap (λ (l : List Entry). sum_by (λ (file : OneFile). length file.1) (opening_in book.begin) + sum_by kept_by l) same in
         omega (arith, most, bytes, parts, all, many)
         )
   ]
@@ -242,7 +251,7 @@ module _ (desk desk' : Desk) (same_keys : desk'.keys ≡ desk.keys) (same_base :
 
 module _ {F : Type 0} (setting : Setting) (desk : Desk) (book book' : Book F) (history : List Kept) (requests : List Request) (replies : List Reply) (members : List Member) (world : World)
     (shows : Shows setting desk book history requests replies members world) (moment first : ℕ)
-    (told : IsNextFirst (state_of book.opening book.opened book.first book.made book.time) first) (next : IsNextFirst world.shard (next_first setting world)) (reopens : Reopens book moment first book') where
+    (told : IsNextFirst (state_of book.begin book.made book.time) first) (next : IsNextFirst world.shard (next_first setting world)) (reopens : Reopens book moment first book') where
   abbrev stands : StandsFor book world
   stands = shows.host
 
@@ -252,17 +261,18 @@ module _ {F : Type 0} (setting : Setting) (desk : Desk) (book book' : Book F) (h
       let at_time : IsNextFirst (at_moment world.shard book.time) first = subst (λ (s : Shard). IsNextFirst s first) (sym stands.shard) told in
       next_first_one world.shard first (next_first setting world) (record { least = at_time.least; above = λ name. at_time.above name; reached = at_time.reached }) next
 
-  same_contents : (name : List ℕ) → (opening_file first book'.opening name).contents ≡ (world.shard.files name).contents
+  same_contents : (name : List ℕ) → (opening_file first (opening_in book'.begin) name).contents ≡ (world.shard.files name).contents
   same_contents name =
-      opening_contents first book'.opening name ∙ reopens.contents name ∙ ap (λ (s : Shard). (s.files name).contents) (sym stands.shard)
+      opening_contents first (opening_in book'.begin) name ∙ reopens.contents name ∙ ap (λ (s : Shard). (s.files name).contents) (sym stands.shard)
 
   module _ (anew : (shard : Shard) (opening : Opening) (m f : ℕ) → ((name : List ℕ) → (opening_file f opening name).contents ≡ (shard.files name).contents) → restarted shard m f ≡ opened_shard opening m f) where
-    same_shard : at_moment (restarted world.shard moment first) book'.time ≡ state_of book'.opening book'.opened book'.first book'.made book'.time
+    same_shard : at_moment (restarted world.shard moment first) book'.time ≡ state_of book'.begin book'.made book'.time
     same_shard =
-        let opens : restarted world.shard moment first ≡ opened_shard book'.opening moment first = anew world.shard book'.opening moment first same_contents in
+        let opens : restarted world.shard moment first ≡ opened_shard (opening_in book'.begin) moment first = anew world.shard (opening_in book'.begin) moment first same_contents in
         let has = reopens.has in
         ap (λ (s : Shard). at_moment s book'.time) opens
-        ∙ (λ i. after (opened_shard book'.opening (sym has.opened i) (sym has.first i)) (history_of (sym has.made i) book'.time))
+        ∙ (λ i. after (opened_shard (opening_in book'.begin) (sym has.opened i) (sym has.first i)) (history_of (sym has.made i) book'.time))
+        ∙ ap (λ (b : Begin). state_of b book'.made book'.time) (sym has.new)
 
     abbrev after_restart : World
     after_restart = in_world.with_item world (Restarted moment first)
@@ -273,9 +283,10 @@ module _ {F : Type 0} (setting : Setting) (desk : Desk) (book book' : Book F) (h
         let none : entries (items_of book'.made) ≡ [] = ap (λ (l : List Made). entries (items_of l)) has.made in
         let nothing : sum_by kept_by (entries (items_of book'.made)) ≡ 0 = ap (λ (l : List Entry). sum_by kept_by l) none in
         let more : kept_in (world.history ++ Restarted moment first ∷ []) ≡ kept_in world.history + 0 = kept_pushed world.history (Restarted moment first) in
-        let old : sum_by (λ (file : OneFile). length file.1) book.opening + sum_by kept_by (entries (items_of book.made)) ≤ most_contents * most_lines + kept_in world.history = stands.small in
-        let left : sum_by (λ (file : OneFile). length file.1) book'.opening ≤ sum_by (λ (file : OneFile). length file.1) book.opening + sum_by kept_by (entries (items_of book.made)) = reopens.small in
+        let old : sum_by (λ (file : OneFile). length file.1) (opening_in book.begin) + sum_by kept_by (entries (items_of book.made)) ≤ most_contents * most_lines + kept_in world.history = stands.small in
+        let left : sum_by (λ (file : OneFile). length file.1) (opening_in book'.begin) ≤ sum_by (λ (file : OneFile). length file.1) (opening_in book.begin) + sum_by kept_by (entries (items_of book.made)) = reopens.small in
         record {
+          new = has.new;
           quiet = stands.quiet;
           time = sym has.time;
           shard = same_shard;
@@ -293,7 +304,7 @@ module _ {F : Type 0} (setting : Setting) (desk : Desk) (book book' : Book F) (h
             desk_is = record { keys = subst (λ (k : Keys). IsWordOf k (codes "4a656665")) (sym same_keys) shows.set_up.desk_is.keys; base = same_base ∙ shows.set_up.desk_is.base };
             opened = opened ∙ sym has.opened;
             only = has.only;
-            capacity = has.capacity;
+            limits = has.limits;
           };
           host = stands_anew;
           items = ap (λ (l : List Kept). l ++ item.Restart moment first ∷ []) shows.items ∙ sym (map-append item_kept world.history (Restarted moment first ∷ []));
@@ -312,4 +323,4 @@ after_opened shard (run.Step entry ∷ items) = after_opened (after_entry (at_mo
 
 pub same_opened : {F : Type 0} (desk : Desk) (book : Book F) (world : World) → IsSetUp desk book → StandsFor book world → desk.opened ≡ world.shard.opened
 same_opened desk book world set stands =
-    set.opened ∙ sym (after_opened (opened_shard book.opening book.opened book.first) (history_of book.made book.time)) ∙ ap (λ (s : Shard). s.opened) (sym stands.shard)
+    set.opened ∙ sym (after_opened (begun book.begin) (history_of book.made book.time)) ∙ ap (λ (s : Shard). s.opened) (sym stands.shard)

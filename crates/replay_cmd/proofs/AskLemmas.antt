@@ -2,7 +2,7 @@
 use Rattle.std.proofs.Common.{◌≡◌, ℕ, List, [], ◌∷◌, ◌++◌, map, Ok, refl, sym, ap, ◌∙◌, subst, inl, inr}
 use Rattle.std.specs.List.{AllByRecursion}
 use Rattle.std.proofs.lemmas.List.{map-append, append_cancel_left}
-use Rattle.wopi_model.specs.Shard.{Entry, Legal, entries}
+use Rattle.wopi_model.specs.Shard.{Entry, LegalFrom, entries}
 use Rattle.wopi_headers.specs.declared.answer.Answer.{Answer}
 use Rattle.wopi_headers.specs.declared.ask.Ask.{Ask}
 use Rattle.host_core.specs.Entries.{Made, items_of, history_of}
@@ -27,7 +27,7 @@ entries_made (one ∷ made) = ap (λ (l : List Entry). one.step ∷ l) (entries_
 
 pub exchanged : {F : Type 0} (desk : Desk) (ask : Ask) (body : List ℕ) (moment : ℕ) (old start new : Book F) (a : Answer) → start ≡ old
     → Tells (Ruled desk ask body moment) SeesItsOwn (sight_of old) (sight_of new) (Ok a) → HasGrown start new
-    → Legal new.opening new.opened new.first (history_of new.made new.time) → faults_in new.made ≡ 0 → Exchanges desk ask body moment old new a
+    → LegalFrom new.begin (history_of new.made new.time) → faults_in new.made ≡ 0 → Exchanges desk ask body moment old new a
 exchanged {F} desk ask body moment old start new a same tells grown legal fine =
     let deeds : List Deed = tells.0 in
     let does : Does SeesItsOwn (sight_of old) (sight_of new) deeds = tells.1 in

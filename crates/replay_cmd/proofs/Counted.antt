@@ -1,5 +1,5 @@
 -- A file that has contents was met, and no version is lower than that of a name never met.
-use Rattle.std.proofs.Common.{◌≡◌, ◌==◌, ℕ, ◌+◌, ◌-◌, ◌≤◌, Bool, true, false, nat_lt, List, [], ◌∷◌, length, Option, None, Some, IsSome, is_some, unwrap_or, refl, sym, ap, ◌∙◌, arith}
+use Rattle.std.proofs.Common.{◌≡◌, ◌==◌, ℕ, ◌+◌, ◌-◌, ◌≤◌, Bool, true, false, nat_lt, List, [], ◌∷◌, length, Option, None, Some, IsSome, is_some, unwrap_or, refl, sym, ap, subst, ◌∙◌, arith}
 use Rattle.std.proofs.lemmas.Bool.{cond_both, false≢true, ltb-true, ltb-false}
 use Rattle.std.specs.Str.{bytes_eq}
 use Rattle.wopi_model.specs.declared.calls.Act.{Act}
@@ -8,9 +8,11 @@ use Rattle.wopi_model.specs.declared.calls.Call.{Call}
 use Rattle.wopi_model.specs.declared.calls.Ruling.{Ruling}
 use Rattle.wopi_model.specs.File.{File, opened_with}
 use Rattle.wopi_model.specs.Step.{Decision, Refuse, Conflict, Accept, decision, contents_after, version_after, file_of, after_step}
-use Rattle.wopi_model.specs.Shard.{Shard, Opening, Item, Tick, Step, Entry, opening_file, opened_shard, at_moment, after_entry, happens, after}
+use Rattle.wopi_model.specs.Shard.{Shard, Opening, Item, Tick, Step, Entry, opening_file, begun, opened_shard, at_moment, after_entry, happens, after}
+use Rattle.wopi_model.specs.Begin.{Begin}
 use Rattle.host_core.specs.Entries.{history_of}
 use Rattle.host_core.specs.Value.{Book}
+use Rattle.replay_cmd.specs.Begun.{IsNew, opening_in}
 use Rattle.replay_cmd.specs.Replying.{file_in}
 
 -- the version that files begin with is no greater than the next of this file, and no greater than its own where it has contents
@@ -69,9 +71,11 @@ counted_opening first ((one, bytes) ∷ rest) name =
     cond_both (bytes_eq one name) (opened_with first bytes) (opening_file first rest name) (IsCounted first)
     (λ e. record { least = omega arith; there = λ contents e2. omega arith }) (λ e. counted_opening first rest name)
 
-pub counted_in : {F : Type 0} (book : Book F) (name : List ℕ) → IsCounted book.first (file_in book name)
-counted_in book name =
-    counted_after book.first (opened_shard book.opening book.opened book.first) (history_of book.made book.time) (counted_opening book.first book.opening) name
+pub counted_in : {F : Type 0} (book : Book F) (name : List ℕ) → IsNew book.begin → IsCounted book.begin.first (file_in book name)
+counted_in book name new =
+    let first = book.begin.first in
+    let began : AreCounted first (begun book.begin) = subst (λ (b : Begin). AreCounted first (begun b)) (sym new) (counted_opening first (opening_in book.begin)) in
+    counted_after first (begun book.begin) (history_of book.made book.time) began name
 
 -- a name that wasn't met stands one below, without contents
 pub uncounted : (first : ℕ) (file : File) → IsCounted first file → ((first ≤ file.version) → ⊥) → (first - 1 ≡ file.version) × (0 ≡ length (unwrap_or file.contents []))

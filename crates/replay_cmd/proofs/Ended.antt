@@ -7,7 +7,7 @@ use Rattle.std.proofs.lemmas.Option.{get_or_from_slice_get, slice_get_within}
 use Rattle.std.proofs.Math.Seq.{take-length}
 use Rattle.std.proofs.lemmas.List.Sums.{sum_by-cons, sum_by-append}
 use Rattle.wopi_model.specs.Shard as shard
-use Rattle.wopi_model.specs.Shard.{Shard, AreNames, at_moment, opened_shard}
+use Rattle.wopi_model.specs.Shard.{Shard, AreNames, at_moment, begun, opened_shard}
 use Rattle.wopi_headers.specs.declared.answer.Answer.{Answer}
 use Rattle.wopi_world.specs.History as past
 use Rattle.wopi_world.specs.Requests.{Client}
@@ -43,7 +43,7 @@ pub ends_shown : {F : Type 0} (book : Book F) (world : World) → StandsFor book
     → (names : List (List ℕ)) × AreNames world.shard names × (new ≡ old ++ ends_text names world)
 ends_shown book world stands old new told =
     let names : List (List ℕ) = told.0 in
-    let state : Shard = state_of book.opening book.opened book.first book.made book.time in
+    let state : Shard = state_of book.begin book.made book.time in
     let at_time : AreNames (at_moment world.shard book.time) names = subst (λ (s : Shard). AreNames s names) (sym stands.shard) told.1 in
     let same : state ≡ at_moment world.shard world.shard.now = sym stands.shard ∙ ap (at_moment world.shard) (sym stands.time) in (
       names,
@@ -56,11 +56,11 @@ pub found : (names : List (List ℕ)) (k : ℕ) (name : List ℕ) → Some name 
 found names k name at = (k, slice_get_within names k name (sym at), get_or_from_slice_get names k name name (sym at))
 
 -- the names were met
-pub met_names : {F : Type 0} (book : Book F) (names : List (List ℕ)) → AreNames (state_of book.opening book.opened book.first book.made book.time) names
-    → (name : List ℕ) → Contains names name → book.first ≤ (file_in book name).version
+pub met_names : {F : Type 0} (book : Book F) (names : List (List ℕ)) → AreNames (state_of book.begin book.made book.time) names
+    → (name : List ℕ) → Contains names name → book.begin.first ≤ (file_in book name).version
 met_names book names are name there =
     let met = (are.exact name).0 there in
-    subst (λ (n : ℕ). n ≤ (file_in book name).version) (after_first (opened_shard book.opening book.opened book.first) (history_of book.made book.time)) met
+    subst (λ (n : ℕ). n ≤ (file_in book name).version) (after_first (begun book.begin) (history_of book.made book.time)) met
   where
     after_first : (begun : Shard) (items : List shard.Item) → (shard.after begun items).first ≡ begun.first
     after_first begun [] = refl

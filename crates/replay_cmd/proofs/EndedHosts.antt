@@ -11,6 +11,7 @@ use Rattle.wopi_world.specs.World as in_world
 use Rattle.wopi_world.specs.World.{Setting, World, Event, comes, entry_of, first_shard}
 use Rattle.wopi_world.proofs.Coming.{kept-comes}
 use Rattle.wopi_world.proofs.Moving.{same_reopened}
+use Rattle.replay_cmd.specs.Begun.{opening_in}
 use Rattle.replay_cmd.specs.Hosts.{StandsFor}
 use Rattle.replay_cmd.specs.Pasts.{Ended, ended_from, began_from, IsOver, IsPast, ArePasts, ShowsHosts, past_left_by}
 use Rattle.replay_cmd.specs.Stages.{Shows, IsStageOf}
@@ -93,8 +94,8 @@ past_more (other ∷ pasts) (another ∷ hosts) past host h one = (h.0, past_mor
 
 -- at a restart one more comes, from the host that ends
 pub hosts_more : {F : Type 0} (start : Shard) (pasts : List (Left F)) (book book' : Book (InMemory F)) (world : World) (moment first next : ℕ)
-    → after start world.history ≡ world.shard → StandsFor book world → Reopens book moment first book' → ShowsHosts start pasts book.opening world.history
-    → ShowsHosts start (pasts ++ past_left_by book ∷ []) book'.opening (world.history ++ Restarted moment next ∷ [])
+    → after start world.history ≡ world.shard → StandsFor book world → Reopens book moment first book' → ShowsHosts start pasts (opening_in book.begin) world.history
+    → ShowsHosts start (pasts ++ past_left_by book ∷ []) (opening_in book'.begin) (world.history ++ Restarted moment next ∷ [])
 hosts_more start pasts book book' world moment first next leaves stands reopens shows =
     let began : Shard = began_from start [] world.history in
     let last : Ended = record { began = began; ran = last_run world.history } in
@@ -117,14 +118,14 @@ hosts_first start pasts opening none over = record { ended = subst (λ l. ArePas
 
 -- what a stage shows after an event, where its host runs on
 pub with_hosts : (setting : Setting) (old new : Stage) (world : World) (event : Event) {P : Type 0} → IsNoRestart event
-    → new.pasts.items ≡ old.pasts.items → new.host.shard.opening ≡ old.host.shard.opening → IsStageOf setting old world
+    → new.pasts.items ≡ old.pasts.items → opening_in new.host.shard.begin ≡ opening_in old.host.shard.begin → IsStageOf setting old world
     → Shows setting new.desk new.host.shard new.history.items new.requests.items new.replies.items new.members.items (comes setting world event) × P
     → IsStageOf setting new (comes setting world event) × P
 with_hosts setting old new world event runs same_pasts same_opening was shows = (
   record {
     shows = shows.0;
-    pasts = subst (λ l. ShowsHosts (first_shard setting) l new.host.shard.opening (comes setting world event).history) (sym same_pasts)
-        (hosts_stay (first_shard setting) old.pasts.items old.host.shard.opening new.host.shard.opening world (comes setting world event) same_opening
+    pasts = subst (λ l. ShowsHosts (first_shard setting) l (opening_in new.host.shard.begin) (comes setting world event).history) (sym same_pasts)
+        (hosts_stay (first_shard setting) old.pasts.items (opening_in old.host.shard.begin) (opening_in new.host.shard.begin) world (comes setting world event) same_opening
         (same_hosts setting world event runs) was.pasts);
   },
   shows.1,

@@ -5,11 +5,12 @@ use Rattle.std.specs.List.{Contains, slice_get}
 use Rattle.std.specs.Option.{option_map}
 use Rattle.std.proofs.lemmas.Option.{slice_get_cases}
 use Rattle.wopi_model.specs.File.{File}
-use Rattle.wopi_model.specs.Shard.{Shard, Item, Tick, Step, AreNames, at_moment, after_entry, after, opened_shard}
+use Rattle.wopi_model.specs.Shard.{Shard, Item, Tick, Step, AreNames, at_moment, after_entry, after, begun, opened_shard}
 use Rattle.host_core.specs.Entries.{history_of}
 use Rattle.host_core.specs.Value.{Book, state_of}
 use Rattle.wopi_world.specs.History.{IsNextFirst, greatest}
 use Rattle.wopi_world.proofs.Versions.{IsFresh, IsIn, next_first_is}
+use Rattle.replay_cmd.specs.Begun.{IsNew}
 use Rattle.replay_cmd.specs.Replying.{file_in}
 use Rattle.replay_cmd.proofs.Counted.{IsCounted, counted_in, uncounted}
 use Rattle.replay_cmd.proofs.Ended.{take_next}
@@ -53,29 +54,29 @@ no_contents None none = refl
 no_contents (Some bytes) none = absurd (none bytes refl)
 
 -- the shard has the version of its opening
-pub state_first : {F : Type 0} (book : Book F) → (state_of book.opening book.opened book.first book.made book.time).first ≡ book.first
-state_first book = after_first (opened_shard book.opening book.opened book.first) (history_of book.made book.time)
+pub state_first : {F : Type 0} (book : Book F) → (state_of book.begin book.made book.time).first ≡ book.begin.first
+state_first book = after_first (begun book.begin) (history_of book.made book.time)
 
 -- one more than the greatest of the names that were met is above all versions
-pub next_of_names : {F : Type 0} (book : Book F) (names : List (List ℕ)) → AreNames (state_of book.opening book.opened book.first book.made book.time) names
-    → IsNextFirst (state_of book.opening book.opened book.first book.made book.time) (greatest (state_of book.opening book.opened book.first book.made book.time) names + 1)
-next_of_names book names are = next_first_is state names known
+pub next_of_names : {F : Type 0} (book : Book F) (names : List (List ℕ)) → IsNew book.begin → AreNames (state_of book.begin book.made book.time) names
+    → IsNextFirst (state_of book.begin book.made book.time) (greatest (state_of book.begin book.made book.time) names + 1)
+next_of_names book names new are = next_first_is state names known
   where
     state : Shard
-    state = state_of book.opening book.opened book.first book.made book.time
+    state = state_of book.begin book.made book.time
 
-    first_is : state.first ≡ book.first
-    first_is = after_first (opened_shard book.opening book.opened book.first) (history_of book.made book.time)
+    first_is : state.first ≡ book.begin.first
+    first_is = after_first (begun book.begin) (history_of book.made book.time)
 
     known : (name : List ℕ) → IsFresh state.first (state.files name) ⊎ IsIn name names
     known name =
         let file : File = file_in book name in
-        let counted : IsCounted book.first file = counted_in book name in
-        elim (cases_lt file.version book.first) [
+        let counted : IsCounted book.begin.first file = counted_in book name new in
+        elim (cases_lt file.version book.begin.first) [
           | inl below ↦
-              let unmet : (book.first ≤ file.version) → ⊥ = λ met. omega (arith, below, met) in
+              let unmet : (book.begin.first ≤ file.version) → ⊥ = λ met. omega (arith, below, met) in
               inl (
-                sym (uncounted book.first file counted unmet).0 ∙ ap (λ (n : ℕ). n - 1) (sym first_is),
+                sym (uncounted book.begin.first file counted unmet).0 ∙ ap (λ (n : ℕ). n - 1) (sym first_is),
                 no_contents file.contents (λ bytes e. unmet (counted.there bytes e)),
               )
           | inr met ↦ inr (is_in names name ((are.exact name).1 (subst (λ (n : ℕ). n ≤ file.version) (sym first_is) met)))

@@ -48,3 +48,4 @@ mod OneSchedule
 mod SessionRows
 mod Latest
 mod Carryings
+pub mod NewLives

@@ -15,6 +15,7 @@ use Rattle.std.proofs.lemmas.Map.Text.{is_eq-slice_cmp}
 use Rattle.wopi_model.specs.Shard.{Opening}
 use Rattle.host_core.specs.Opening.{IsByName, IsTooLarge, MayKeep, opened_contents}
 use Rattle.host_core.specs.Value.{Book}
+use Rattle.replay_cmd.specs.Begun.{opening_in}
 use Rattle.replay_cmd.specs.declared.schedule.FileLine.{FileLine}
 use Rattle.replay_cmd.specs.Schedules.{most_contents, most_lines}
 use Rattle.replay_cmd.specs.Starts.{Opens}
@@ -129,16 +130,16 @@ sum_short (file ∷ opening) h =
 
 pub opening_small : {F : Type 0} (files : List FileLine) (book : Book F) → Opens (opened_contents (map (λ (f : FileLine). (f.name, f.contents)) files)) 0 1 book
     → AllByRecursion (λ (f : FileLine). length f.contents ≤ most_contents) files → length files ≤ most_lines
-    → sum_by (λ (file : OneFile). length file.1) book.opening ≤ most_contents * most_lines
+    → sum_by (λ (file : OneFile). length file.1) (opening_in book.begin) ≤ most_contents * most_lines
 opening_small files book opens short few =
     let given : Opening = map (λ (f : FileLine). (f.name, f.contents)) files in
-    let among : (name contents : List ℕ) → opened_contents book.opening name ≡ Some contents → opened_contents given name ≡ Some contents =
-    λ name contents e. sym (opens.opening.whole name (has_form (MayKeep None) book.opening name contents opens.opening.taken e)) ∙ e in
-    let count : length book.opening ≤ length given = few_files given book.opening opens.opening.ordered among in
+    let among : (name contents : List ℕ) → opened_contents (opening_in book.begin) name ≡ Some contents → opened_contents given name ≡ Some contents =
+    λ name contents e. sym (opens.opening.whole name (has_form (MayKeep None) (opening_in book.begin) name contents opens.opening.taken e)) ∙ e in
+    let count : length (opening_in book.begin) ≤ length given = few_files given (opening_in book.begin) opens.opening.ordered among in
     let same : length given ≡ length files = length-map files (λ (f : FileLine). (f.name, f.contents)) in
-    let each = each_file (λ contents. length contents ≤ most_contents) book.opening (distinct book.opening opens.opening.ordered)
+    let each = each_file (λ contents. length contents ≤ most_contents) (opening_in book.begin) (distinct (opening_in book.begin) opens.opening.ordered)
     (λ name contents e. short_found files name contents short (among name contents e)) in
-    let sum = sum_short book.opening each in
+    let sum = sum_short (opening_in book.begin) each in
     omega (arith, count, same, sum, few)
 
 -- nor is any of them too large

@@ -5,6 +5,7 @@ use Rattle.host_core.specs.Entries.{items_of}
 use Rattle.host_core.specs.Value.{Book, state_of}
 use Rattle.wopi_world.specs.History.{greatest}
 use Rattle.wopi_world.specs.World.{World}
+use Rattle.replay_cmd.specs.Begun.{opening_in}
 use Rattle.replay_cmd.specs.Hosts.{StandsFor}
 use Rattle.replay_cmd.specs.Limits.{kept_by, kept_in, HasSpace}
 use Rattle.replay_cmd.specs.Replying.{file_in}
@@ -23,16 +24,16 @@ module _ {F : Type 0} (book : Book F) (world : World) (stands : StandsFor book w
   files_fit (inr much) =
       let count = space.fewer in
       let held : kept_in world.history ≤ most_contents * space.count = space.within.held.small in
-      let small : sum_by (λ (file : List ℕ × List ℕ). length file.1) book.opening + sum_by kept_by (entries (items_of book.made)) ≤ most_contents * most_lines + kept_in world.history = stands.small in
+      let small : sum_by (λ (file : List ℕ × List ℕ). length file.1) (opening_in book.begin) + sum_by kept_by (entries (items_of book.made)) ≤ most_contents * most_lines + kept_in world.history = stands.small in
       omega (arith, count, held, small, much)
 
-  pub versions_left : AreUsedUp (state_of book.opening book.opened book.first book.made book.time) → ⊥
+  pub versions_left : AreUsedUp (state_of book.begin book.made book.time) → ⊥
   versions_left used =
       let names : List (List ℕ) = used.0 in
       let count = space.fewer in
       let low : greatest (at_moment world.shard book.time) names ≤ 2 * space.count + 1 =
       greatest_low (2 * space.count + 1) (at_moment world.shard book.time) (low_later (2 * space.count + 1) world.shard space.within.files book.time) names in
-      let same : greatest (at_moment world.shard book.time) names ≡ greatest (state_of book.opening book.opened book.first book.made book.time) names =
+      let same : greatest (at_moment world.shard book.time) names ≡ greatest (state_of book.begin book.made book.time) names =
       ap (λ (s : Shard). greatest s names) stands.shard in
       let all = used.1 in
       omega (arith, count, low, same, all)

@@ -120,7 +120,7 @@ stepped_size file call opened now ruling (inr fault) =
 
 -- ---- a history
 
-abbrev size_in : Shard → List ℕ → ℕ
+abbrev pub size_in : Shard → List ℕ → ℕ
 size_in shard name = size_of (shard.files name).contents
 
 module _ (shard : Shard) (entry : Entry) where

@@ -6,8 +6,10 @@ use Rattle.std.proofs.lemmas.List.Sums.{sum_by_push}
 use Rattle.wopi_model.specs.declared.calls.Act.{Act}
 use Rattle.wopi_model.specs.declared.calls.Act.TheVariants as act
 use Rattle.wopi_model.specs.declared.calls.Call.{Call}
-use Rattle.wopi_model.specs.Host.{FullAt, new_bytes, most_kept}
-use Rattle.wopi_model.specs.Shard.{Entry, entries, stamps, last_from}
+use Rattle.wopi_model.specs.Begin.{Begin, new_life}
+use Rattle.wopi_model.specs.Host.{FullAt, FullFrom, Limits, kept_limits, new_bytes, most_kept}
+use Rattle.wopi_model.specs.Shard.{Opening, Entry, LegalFrom, entries, stamps, last_from}
+use Rattle.wopi_model.proofs.Fullness.{full_of_kept}
 use Rattle.wopi_headers.specs.declared.answer.Answer.{Answer}
 use Rattle.wopi_headers.specs.declared.ask.Ask.{Ask}
 use Rattle.wopi_headers.specs.declared.ask.Op.{Op}
@@ -31,6 +33,7 @@ use Rattle.host_server.specs.Answering.{Ruled, unauthorized, ruled, full, copied
 use Rattle.host_server.specs.Copies.{Copied, Tried, look, create, tries}
 use Rattle.host_server.specs.Copies as copies
 use Rattle.host_server.specs.Deeds.{Deed, Made as DeedMade, Blocked, made, IsFull, IsBetween, FindsRoom, AreMet}
+use Rattle.replay_cmd.specs.Begun.{IsNew, opening_in}
 use Rattle.replay_cmd.specs.declared.history.Item.{Item}
 use Rattle.replay_cmd.specs.declared.history.Item.TheVariants as item
 use Rattle.replay_cmd.specs.Exchanges.{Exchanges, IsStored}
@@ -51,10 +54,11 @@ pub record AskedWell {F : Type 0} (desk : Desk) (ask : Ask) (body : List ℕ) (m
   pub noted : history' ≡ history ++ replicate (length new.made - length old.made) item.Entry
 
 -- a caller that sees all of its shard finds it full only at a limit
-no_block : (old new before after : Sight) (call : Call) (moment : ℕ) → IsBetween SeesItsOwn old new [] before after → IsFull call moment before after
-    → length old.own < old.capacity → last_from 0 (stamps old.own) < 2 ^ 64 - 1
-    → (sum_by (λ file. length file.1) (old.openings 0) + sum_by kept_by old.own) + new_bytes call.act ≤ most_kept → ⊥
-no_block old new before after call moment between is_full few last small = by_cause at
+no_block : (old new before after : Sight) (call : Call) (moment capacity : ℕ) → IsBetween SeesItsOwn old new [] before after → IsFull call moment before after
+    → LegalFrom (before.begins (before.home call.name)) (after.seen (before.home call.name)) → old.limits ≡ kept_limits capacity → IsNew (old.begins 0)
+    → length old.own < capacity → last_from 0 (stamps old.own) < 2 ^ 64 - 1
+    → (sum_by (λ file. length file.1) (opening_in (old.begins 0)) + sum_by kept_by old.own) + new_bytes call.act ≤ most_kept → ⊥
+no_block old new before after call moment capacity between is_full legal limits new_life_is few last small = by_cause full
   where
     home : before.home call.name ≡ 0
     home = between.always_before.home call.name
@@ -62,26 +66,42 @@ no_block old new before after call moment between is_full few last small = by_ca
     seen : entries (after.seen 0) ≡ old.own
     seen = between.always_after.own ∙ between.own_after ∙ append-nil old.own
 
-    at : FullAt (before.openings 0) before.opened before.first before.capacity (after.seen 0) before.floor call moment
-    at = subst (λ (n : ℕ). FullAt (before.openings n) before.opened before.first before.capacity (after.seen n) before.floor call moment) home is_full
+    opening : Opening
+    opening = opening_in (old.begins 0)
 
-    by_cause : FullAt (before.openings 0) before.opened before.first before.capacity (after.seen 0) before.floor call moment → ⊥
+    life : Begin
+    life = new_life opening (old.begins 0).opened (old.begins 0).first
+
+    begins : before.begins 0 ≡ life
+    begins = between.first.begins 0 ∙ new_life_is
+
+    legal_from : LegalFrom life (after.seen 0)
+    legal_from = subst (λ (b : Begin). LegalFrom b (after.seen 0)) begins (subst (λ (n : ℕ). LegalFrom (before.begins n) (after.seen n)) home legal)
+
+    count : length (entries (after.seen 0)) ≡ length old.own
+    count = ap (λ (l : List Entry). length l) seen
+
+    at : FullFrom (kept_limits capacity) life (after.seen 0) before.floor call moment
+    at = subst (λ (l : Limits). FullFrom l life (after.seen 0) before.floor call moment) (between.first.limits ∙ limits)
+        (subst (λ (b : Begin). FullFrom before.limits b (after.seen 0) before.floor call moment) begins
+        (subst (λ (n : ℕ). FullFrom before.limits (before.begins n) (after.seen n) before.floor call moment) home is_full))
+
+    full : FullAt opening (old.begins 0).opened (old.begins 0).first capacity (after.seen 0) before.floor call moment
+    full = (full_of_kept opening (old.begins 0).opened (old.begins 0).first capacity (after.seen 0) before.floor call moment legal_from (omega (arith, count, few))).0 at
+
+    by_cause : FullAt opening (old.begins 0).opened (old.begins 0).first capacity (after.seen 0) before.floor call moment → ⊥
     by_cause (inl place) =
-        let capacity : before.capacity ≡ old.capacity = between.first.capacity in
-        let count : length (entries (after.seen 0)) ≡ length old.own = ap (λ (l : List Entry). length l) seen in
-        let whole : length (entries (after.seen 0)) ≡ before.capacity = place in
-        omega (arith, capacity, count, whole, few)
+        let whole : length (entries (after.seen 0)) ≡ capacity = place in
+        omega (arith, count, whole, few)
     by_cause (inr (inl stamp)) =
         let floor : before.floor ≡ 0 = between.always_before.floor in
         let same : last_from 0 (stamps (entries (after.seen 0))) ≡ last_from 0 (stamps old.own) = ap (λ (l : List Entry). last_from 0 (stamps l)) seen in
         let greatest : max before.floor (last_from 0 (stamps (entries (after.seen 0)))) ≡ 2 ^ 64 - 1 = stamp in
         omega (arith, floor, same, greatest, last)
     by_cause (inr (inr room)) =
-        let opening : sum_by (λ (file : List ℕ × List ℕ). length file.1) (before.openings 0) ≡ sum_by (λ (file : List ℕ × List ℕ). length file.1) (old.openings 0) =
-        ap (λ (l : List (List ℕ × List ℕ)). sum_by (λ (file : List ℕ × List ℕ). length file.1) l) (between.first.openings 0) in
         let same : sum_by kept_by (entries (after.seen 0)) ≡ sum_by kept_by old.own = ap (λ (l : List Entry). sum_by kept_by l) seen in
-        let much : most_kept < (sum_by (λ (file : List ℕ × List ℕ). length file.1) (before.openings 0) + sum_by kept_by (entries (after.seen 0))) + new_bytes call.act = room.2 in
-        omega (arith, opening, same, much, small)
+        let much : most_kept < (sum_by (λ (file : List ℕ × List ℕ). length file.1) opening + sum_by kept_by (entries (after.seen 0))) + new_bytes call.act = room.2 in
+        omega (arith, same, much, small)
 
 -- the deeds behind one that made an entry
 later_met : (always : Sight → Type 0) (old new : Sight) (entry : Entry) (deeds : List Deed) → (met : AreMet always old new (DeedMade entry ∷ deeds))
@@ -112,7 +132,7 @@ module _ {F : Type 0} (desk : Desk) (book book' : Book F) (world : World) (set :
   own = entries (items_of book.made)
 
   abbrev opening_bytes : ℕ
-  opening_bytes = sum_by (λ (file : List ℕ × List ℕ). length file.1) book.opening
+  opening_bytes = sum_by (λ (file : List ℕ × List ℕ). length file.1) (opening_in book.begin)
 
   few : length own < 32000
   few =
@@ -140,9 +160,9 @@ module _ {F : Type 0} (desk : Desk) (book book' : Book F) (world : World) (set :
       → deeds ≡ Blocked call moment before after ∷ [] → IsFull call moment before after → new_bytes call.act ≤ most_contents → ⊥
   first_room call moment before after deeds met is is_full short =
       let found : AreMet SeesItsOwn (sight_of book) (sight_of book') (Blocked call moment before after ∷ []) = subst (AreMet SeesItsOwn (sight_of book) (sight_of book')) is met in
-      let room : length own < book.capacity = let known = few in let capacity = set.capacity in omega (arith, known, capacity) in
+      let room : length own < 32768 = let known = few in omega (arith, known) in
       let low : last_from 0 (stamps own) < 2 ^ 64 - 1 = let known = last in omega (arith, known) in
-      no_block (sight_of book) (sight_of book') before after call moment found.0.between is_full room low (small (new_bytes call.act) short)
+      no_block (sight_of book) (sight_of book') before after call moment 32768 found.0.between is_full found.0.legal set.limits stands.new room low (small (new_bytes call.act) short)
 
   -- the one after an entry that keeps nothing
   second_room : (looked : Entry) (call : Call) (moment : ℕ) (before after : Sight) (deeds : List Deed) → AreMet SeesItsOwn (sight_of book) (sight_of book') deeds
@@ -154,20 +174,22 @@ module _ {F : Type 0} (desk : Desk) (book book' : Book F) (world : World) (set :
       let finds : FindsRoom SeesItsOwn (sight_of book) (sight_of book') looked = found.0 in
       let middle : Sight = finds.after in
       let grew : middle.own ≡ own ++ looked ∷ [] = finds.between.own_after in
-      let capacity : middle.capacity ≡ book.capacity = finds.between.second.capacity ∙ finds.between.first.capacity in
-      let opening : middle.openings 0 ≡ book.opening = finds.between.second.openings 0 ∙ finds.between.first.openings 0 in
+      let limits : middle.limits ≡ kept_limits 32768 = finds.between.second.limits ∙ finds.between.first.limits ∙ set.limits in
+      let begins : middle.begins 0 ≡ book.begin = finds.between.second.begins 0 ∙ finds.between.first.begins 0 in
+      let anew : IsNew (middle.begins 0) = subst IsNew (sym begins) stands.new in
       let long : length middle.own ≡ length own + 1 = ap (λ (l : List Entry). length l) grew ∙ length-append own (looked ∷ []) in
       let top : last_from 0 (stamps middle.own) ≡ looked.stamp =
       ap (λ (l : List Entry). last_from 0 (stamps l)) grew ∙ ap (last_from 0) (map-append (λ (e : Entry). e.stamp) own (looked ∷ []))
       ∙ last_pushed 0 (stamps own) looked.stamp in
-      let bytes : sum_by (λ (file : List ℕ × List ℕ). length file.1) (middle.openings 0) ≡ opening_bytes =
-      ap (λ (l : List (List ℕ × List ℕ)). sum_by (λ (file : List ℕ × List ℕ). length file.1) l) opening in
+      let bytes : sum_by (λ (file : List ℕ × List ℕ). length file.1) (opening_in (middle.begins 0)) ≡ opening_bytes =
+      ap (λ (b : Begin). sum_by (λ (file : List ℕ × List ℕ). length file.1) (opening_in b)) begins in
       let sum : sum_by kept_by middle.own ≡ sum_by kept_by own + kept_by looked = ap (λ (l : List Entry). sum_by kept_by l) grew ∙ sum_by_push kept_by own looked in
       let least : kept_by looked ≤ new_bytes looked.call.act = kept_most looked in
       let all = small (new_bytes call.act) short in
-      let room : length middle.own < middle.capacity = let known = few in let whole = set.capacity in omega (arith, known, whole, long, capacity) in
+      let room : length middle.own < 32768 = let known = few in omega (arith, known, long) in
       let low : last_from 0 (stamps middle.own) < 2 ^ 64 - 1 = omega (arith, top, stamped) in
-      no_block middle (sight_of book') before after call moment (later_met SeesItsOwn (sight_of book) (sight_of book') looked (Blocked call moment before after ∷ []) found).0.between is_full room low (omega (arith, bytes, sum, least, none, all))
+      let blocked = (later_met SeesItsOwn (sight_of book) (sight_of book') looked (Blocked call moment before after ∷ []) found).0 in
+      no_block middle (sight_of book') before after call moment 32768 blocked.between is_full blocked.legal limits anew room low (omega (arith, bytes, sum, least, none, all))
 
   module _ (a : Answer) (fault : a.status ≡ 500) where
     not_tried : (copying : Copying) (looked : Entry) (deeds others : List Deed) → AreMet SeesItsOwn (sight_of book) (sight_of book') deeds → deeds ≡ DeedMade looked ∷ others

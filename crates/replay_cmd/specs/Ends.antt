@@ -17,7 +17,7 @@ ends_in book names = flat_map (λ name. line_text (file_shown name (file_in book
 -- the text grew by the files that were met, by their bytes
 abbrev pub TellsEnds : {F : Type 0} → Book F → List ℕ → List ℕ → Type 0
 TellsEnds book old new =
-    (names : List (List ℕ)) × AreNames (state_of book.opening book.opened book.first book.made book.time) names × (new ≡ old ++ ends_in book names)
+    (names : List (List ℕ)) × AreNames (state_of book.begin book.made book.time) names × (new ≡ old ++ ends_in book names)
 
 abbrev pub count_text : List ℕ → ℕ → List ℕ
 count_text word count = line_text (word ∷ decimal count ∷ [])

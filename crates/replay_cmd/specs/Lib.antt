@@ -13,6 +13,7 @@ pub mod Worlds
 pub mod Ends
 pub mod Generator
 pub mod Answers
+pub mod Begun
 pub mod Histories
 pub mod Members
 pub mod Exchanges

@@ -6,6 +6,7 @@ use Rattle.host_core.specs.Entries.{items_of}
 use Rattle.host_core.specs.Opening.{opened_contents}
 use Rattle.host_core.specs.Value.{Book, InMemory, Left}
 use Rattle.wopi_world.specs.History.{Item, Ran, Restarted, restarted}
+use Rattle.replay_cmd.specs.Begun.{opening_in}
 
 -- a host that ended: the shard as it was when the host opened, and what ran in it
 pub record Ended : Type 0 where
@@ -48,4 +49,4 @@ pub record ShowsHosts {F : Type 0} (start : Shard) (pasts : List (Left F)) (open
 
 -- what a shard leaves
 abbrev pub past_left_by : {F : Type 0} → Book (InMemory F) → Left F
-past_left_by book = record { opening = book.opening; made = book.made; start = book.start.folder }
+past_left_by book = record { opening = opening_in book.begin; made = book.made; start = book.start.folder }

@@ -10,7 +10,7 @@ use Rattle.replay_cmd.specs.Words.{version_shown}
 
 -- the file of that name as it stands at the shard's time
 abbrev pub file_in : {F : Type 0} → Book F → List ℕ → File
-file_in book name = (state_of book.opening book.opened book.first book.made book.time).files name
+file_in book name = (state_of book.begin book.made book.time).files name
 
 -- the version of a file and how many bytes it has
 abbrev pub size_shown : File → List (List ℕ)

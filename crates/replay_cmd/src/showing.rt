@@ -221,7 +221,7 @@ fn state_words(alloc: Global, view: &FileView<'_>) -> Result<Vec<Bytes>, Memory>
 
 /// How a file is left.
 pub fn file_words(alloc: Global, host: &Watched, name: &FileName) -> Result<Vec<Bytes>, Memory>
-    requires { host.now.shard.first ≤ (file_in host.now.shard name.now).version }
+    requires { host.now.shard.begin.first ≤ (file_in host.now.shard name.now).version }
     ensures { IfOk result (λ words. words.items ≡ file_shown name.now (file_in host.now.shard name.now)) }
 {
     let Some(view) = host.file(name) else {

@@ -25,7 +25,7 @@ fn push_files(
     names: &NameList,
     text: &mut Vec<u8>,
 ) -> Result<(), Memory>
-    requires { (name : List ℕ) → Contains names.now name → host.now.shard.first ≤ (file_in host.now.shard name).version }
+    requires { (name : List ℕ) → Contains names.now name → host.now.shard.begin.first ≤ (file_in host.now.shard name).version }
     ensures { OnOk result (text.new.items ≡ text.old.items ++ ends_in host.now.shard names.now) }
 {
     for place in 0..names.len() {

@@ -2,11 +2,13 @@ pub mod Moment
 pub mod Token
 pub mod User
 pub mod File
+pub mod Begin
 pub mod Settle
 pub mod LockTable
 pub mod Act
 pub mod Step
 pub mod Shard
+pub mod Lives
 pub mod Sound
 pub mod Safety
 pub mod Host

@@ -5,7 +5,8 @@ use Rattle.std.specs.List.{Contains}
 use Rattle.std.specs.List.Sorted.{IsStrictlySortedBy}
 use Rattle.std.specs.Ordering.{nat_cmp}
 use Rattle.std.specs.Cmp.Lexicographic.{slice_cmp}
-use Rattle.wopi_model.specs.File.{File, never_met, opened_with}
+use Rattle.wopi_model.specs.File.{File, never_met}
+use Rattle.wopi_model.specs.Begin.{Begin, at_name, new_life}
 use Rattle.wopi_model.specs.Settle.{settled}
 use Rattle.wopi_model.specs.declared.calls.Call.{Call}
 use Rattle.wopi_model.specs.declared.calls.Ruling.{Ruling}
@@ -22,13 +23,16 @@ pub record Shard : Type 0 where
 abbrev pub Opening : Type 0
 Opening = List (List ℕ × List ℕ)
 
+-- the files that a shard begins with
+abbrev pub begun : Begin → Shard
+begun begin =
+    record { opened = begin.opened; first = begin.first; now = begin.now; files = λ name. at_name (never_met begin.first) begin.files name }
+
 abbrev pub opening_file : ℕ → Opening → List ℕ → File
-opening_file first [] name = never_met first
-opening_file first ((one, contents) ∷ rest) name =
-    if bytes_eq one name then opened_with first contents else opening_file first rest name
+opening_file first opening name = at_name (never_met first) (new_life opening 0 first).files name
 
 abbrev pub opened_shard : Opening → ℕ → ℕ → Shard
-opened_shard opening opened first = record { opened = opened; first = first; now = opened; files = opening_file first opening }
+opened_shard opening opened first = begun (new_life opening opened first)
 
 -- the names that were met, in the order of their bytes
 pub record AreNames (shard : Shard) (names : List (List ℕ)) : Type 0 where
@@ -100,7 +104,11 @@ abbrev pub last_from : ℕ → List ℕ → ℕ
 last_from low [] = low
 last_from low (stamp ∷ rest) = last_from stamp rest
 
--- a history that one shard may have
-pub record Legal (opening : Opening) (opened first : ℕ) (history : List Item) : Type 0 where
-  pub allowed : Along IsAllowed (opened_shard opening opened first) history
-  pub stamps : RisesFrom 0 (stamps (entries history))
+-- a history that one shard may have from there: the stamps rise from the last one before
+pub record LegalFrom (begin : Begin) (history : List Item) : Type 0 where
+  pub allowed : Along IsAllowed (begun begin) history
+  pub stamps : RisesFrom begin.last (stamps (entries history))
+
+-- and one that a shard may have that is opened anew
+abbrev pub Legal : Opening → ℕ → ℕ → List Item → Type 0
+Legal opening opened first history = LegalFrom (new_life opening opened first) history

@@ -1,11 +1,11 @@
 -- Words whose keys, or whose token, are out of form.
-use Rattle.std.proofs.Common.{◌≡◌, ◌≢◌, false, List, [], ◌∷◌, ℕ, drop, codes, sym, ap, ◌∙◌, subst}
+use Rattle.std.proofs.Common.{◌≡◌, ◌≢◌, List, ◌∷◌, ℕ, drop, codes, sym, ap, ◌∙◌, subst}
 use Rattle.wopi_model.specs.declared.token.Token as model
 use Rattle.access_tokens.specs.Keys.{IsWordOf}
 use Rattle.access_tokens.specs.TokenText.{IsWritable}
 use Rattle.access_tokens.specs.declared.keys.Keys.{Keys}
 use Rattle.wopi_program.specs.declared.command.Command.TheVariants.{Token}
-use Rattle.wopi_program.specs.Words.{IsOnceRow, IsRow, words_of}
+use Rattle.wopi_program.specs.Words.{IsRow, words_of}
 
 -- words are no row of `token` where its second word and those behind it don't write keys and a token
 token_refused : (words rest : List (List ℕ)) (word key_word user name : List ℕ) → words ≡ word ∷ key_word ∷ user ∷ name ∷ rest

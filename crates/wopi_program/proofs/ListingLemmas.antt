@@ -1,6 +1,7 @@
 -- What listings show, in the terms of a history.
-use Rattle.std.proofs.Common.{◌≡◌, ◌<◌, ◌≤◌, ℕ, zero, suc, Bool, false, List, [], ◌∷◌, ◌++◌, length, map, refl, sym, ap, ◌∙◌, subst, append-nil, arith}
+use Rattle.std.proofs.Common.{◌≡◌, ◌<◌, ℕ, false, List, [], ◌∷◌, ◌++◌, length, map, refl, sym, ap, ◌∙◌, subst, append-nil, arith}
 use Rattle.wopi_text.specs.FileName.{shard_of}
+use Rattle.wopi_model.specs.Begin.{Begin, new_life}
 use Rattle.wopi_model.specs.Shard.{Opening, Item, Step, Entry}
 use Rattle.host_core.specs.Caller.{Sight}
 use Rattle.host_core.specs.Listing.{AreListed, IsListing}
@@ -11,13 +12,9 @@ use Rattle.host_server.specs.Deeds.{Deed, Made, Blocked, Listed, AreOfAll, IsBet
 use Rattle.wopi_program.specs.Files.{AreShownIn}
 
 -- the same listing of the same history
-pub listing_of : (shard : ℕ) (opening opening' : Opening) (opened opened' first first' : ℕ) (history history' : List Item) (listing : Listing)
-    → opening ≡ opening' → opened ≡ opened' → first ≡ first' → history ≡ history'
-    → IsListing shard opening opened first history listing → IsListing shard opening' opened' first' history' listing
-listing_of shard opening opening' opened opened' first first' history history' listing a b c d h =
-    subst (λ l. IsListing shard opening' opened' first' l listing) d
-    (subst (λ f. IsListing shard opening' opened' f history listing) c
-    (subst (λ o. IsListing shard opening' o first history listing) b (subst (λ o. IsListing shard o opened first history listing) a h)))
+pub listing_of : (shard : ℕ) (begin begin' : Begin) (history history' : List Item) (listing : Listing) → begin ≡ begin' → history ≡ history' → IsListing shard begin history listing → IsListing shard begin' history' listing
+listing_of shard begin begin' history history' listing a b h =
+    subst (λ l. IsListing shard begin' l listing) b (subst (λ z. IsListing shard z history listing) a h)
 
 last_name : shard_of (15 ∷ []) ≡ 15
 last_name = refl
@@ -50,17 +47,13 @@ one_alone sight (listing ∷ (second ∷ listings)) sees all =
 module _ (opening : Opening) (opened first : ℕ) (new : Sight) where
   -- a sight of the shard, with time set nowhere apart from an entry
   pub record IsAfter (at : Sight) (so_far : List Entry) : Type 0 where
-    pub opening_is : at.openings 0 ≡ opening
-    pub opened_is : at.opened ≡ opened
-    pub first_is : at.first ≡ first
+    pub begin_is : at.begins 0 ≡ new_life opening opened first
     pub calm : at.ticked ≡ false
     pub own_is : at.own ≡ so_far
 
   stays_after : (at before after : Sight) (so_far by_deed : List Entry) → IsAfter at so_far → IsBetween SeesItsOwn at new by_deed before after → IsAfter after (so_far ++ by_deed)
   stays_after at before after so_far by_deed is way = record {
-    opening_is = way.second.openings 0 ∙ way.first.openings 0 ∙ is.opening_is;
-    opened_is = way.second.opened ∙ way.first.opened ∙ is.opened_is;
-    first_is = way.second.first ∙ way.first.first ∙ is.first_is;
+    begin_is = way.second.begins 0 ∙ way.first.begins 0 ∙ is.begin_is;
     calm = way.second.ticked ∙ way.first.ticked ∙ is.calm;
     own_is = way.own_after ∙ ap (λ l. l ++ by_deed) is.own_is;
   }
@@ -70,9 +63,9 @@ module _ (opening : Opening) (opened first : ℕ) (new : Sight) where
 
   -- the listing of the one shard shows it after just the entries so far
   shown_one : (at : Sight) (so_far : List Entry) (listing : Listing) → IsAfter at so_far → SeesItsOwn at → AreListed at 0 (listing ∷ [])
-      → IsListing 0 opening opened first (map Step so_far) listing
+      → IsListing 0 (new_life opening opened first) (map Step so_far) listing
   shown_one at so_far listing is sees listed =
-      listing_of 0 (at.openings 0) opening at.opened opened at.first first (at.seen 0) (map Step so_far) listing is.opening_is is.opened_is is.first_is
+      listing_of 0 (at.begins 0) (new_life opening opened first) (at.seen 0) (map Step so_far) listing is.begin_is
       (sees.alone is.calm ∙ ap (λ (l : List Entry). map Step l) is.own_is) listed.0.shows
 
   pub all_shown : (at : Sight) (so_far : List Entry) (deeds : List Deed) → IsAfter at so_far → AreMet SeesItsOwn at new deeds → AreShownIn opening opened first so_far deeds

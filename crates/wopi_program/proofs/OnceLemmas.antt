@@ -2,7 +2,9 @@
 use Rattle.std.proofs.Common.{◌≡◌, ◌≢◌, ℕ, Bool, false, List, [], ◌++◌, map, Option, None, refl, sym, ap, ◌∙◌, subst, inl, inr, arith}
 use Rattle.outside.specs.Clock.{Gives}
 use Rattle.outside.specs.Folder.{Files}
-use Rattle.wopi_model.specs.Shard.{Opening, Item, Step, Entry, Legal, entries}
+use Rattle.wopi_model.specs.Begin.{Begin, new_life}
+use Rattle.wopi_model.specs.Host.{kept_limits}
+use Rattle.wopi_model.specs.Shard.{Opening, Item, Step, Entry, Legal, LegalFrom, entries}
 use Rattle.host_core.specs.Entries.{Made, items_of}
 use Rattle.host_core.specs.Times.{untimed, happened_of}
 use Rattle.host_core.specs.Value.{Book, InMemory, IsLawful}
@@ -48,7 +50,7 @@ module _ {S K F N D C L : Type 0} (m : Meanings S K F N D C L) where
 
   -- the entries of a connection over a fresh shard are legal by themselves
   legal_alone : (desk : Desk) (end : ConnEnd) (first : Book F) (folder : F) (clock clock' : C) (old new : Outside S K F N D C) → first.made ≡ [] → first.ticked ≡ false
-      → (s : ServesShard m desk end first folder clock clock' old new) → Legal first.opening first.opened first.first (map Step (made s.serves.deeds))
+      → (s : ServesShard m desk end first folder clock clock' old new) → LegalFrom first.begin (map Step (made s.serves.deeds))
   legal_alone desk end first folder clock clock' old new none unticked s =
       let last = s.last in
       let does = s.serves.makes in
@@ -57,39 +59,33 @@ module _ {S K F N D C L : Type 0} (m : Meanings S K F N D C L) where
       let items : untimed last.made ≡ map Step (made s.serves.deeds) =
       sym (ap (λ (b : Bool). happened_of b last.made last.time) calm) ∙ (sees_its_own last).alone calm ∙ ap (λ (es : List Entry). map Step es) own
       in
-      let opening : last.opening ≡ first.opening = does.follows.openings 0 in
-      let opened : last.opened ≡ first.opened = does.follows.opened in
-      let begins : last.first ≡ first.first = does.follows.first in
-      subst (λ (o : Opening). Legal o first.opened first.first (map Step (made s.serves.deeds))) opening
-      (subst (λ (n : ℕ). Legal last.opening n first.first (map Step (made s.serves.deeds))) opened
-      (subst (λ (n : ℕ). Legal last.opening last.opened n (map Step (made s.serves.deeds))) begins
-      (subst (λ (l : List Item). Legal last.opening last.opened last.first l) items (s.lawful.alone calm))))
+      let begin : last.begin ≡ first.begin = does.follows.begins 0 in
+      subst (λ (b : Begin). LegalFrom b (map Step (made s.serves.deeds))) begin
+      (subst (λ (l : List Item). LegalFrom last.begin l) items (s.lawful.alone calm))
 
   -- each listing of a connection over a fresh shard shows it after the entries that were made before
-  shown_alone : (desk : Desk) (end : ConnEnd) (first : Book F) (folder : F) (clock clock' : C) (old new : Outside S K F N D C) → first.made ≡ [] → first.ticked ≡ false
-      → (s : ServesShard m desk end first folder clock clock' old new) → AreShownIn first.opening first.opened first.first [] s.serves.deeds
-  shown_alone desk end first folder clock clock' old new none unticked s =
-      all_shown first.opening first.opened first.first (sight_of s.last) (sight_of first) [] s.serves.deeds
-      (record { opening_is = refl; opened_is = refl; first_is = refl; calm = unticked; own_is = ap (λ (l : List Made). entries (items_of l)) none }) s.serves.makes.met
+  shown_alone : (desk : Desk) (end : ConnEnd) (stood : Opening) (opened : ℕ) (first : Book F) (folder : F) (clock clock' : C) (old new : Outside S K F N D C) → first.begin ≡ new_life stood opened 1 → first.made ≡ [] → first.ticked ≡ false
+      → (s : ServesShard m desk end first folder clock clock' old new) → AreShownIn stood opened 1 [] s.serves.deeds
+  shown_alone desk end stood opened first folder clock clock' old new life none unticked s =
+      all_shown stood opened 1 (sight_of s.last) (sight_of first) [] s.serves.deeds
+      (record { begin_is = life; calm = unticked; own_is = ap (λ (l : List Made). entries (items_of l)) none }) s.serves.makes.met
 
   pub opens_and_serves : (desk : Desk) (keys : Keys) (base : List ℕ) (editor : Bool) (origin : Option (List ℕ)) (opened : ℕ) (end : ConnEnd) (folder folder' : F) (clock mid clock' : C) (old new : Outside S K F N D C)
-      (first : Book F) → desk.keys ≡ keys → desk.base ≡ base → desk.editor ≡ editor → desk.origin ≡ origin → desk.opened ≡ opened → Gives (m.work.moments clock) (m.work.moments mid) opened
+      (stood : Opening) (first : Book F) → desk.keys ≡ keys → desk.base ≡ base → desk.editor ≡ editor → desk.origin ≡ origin → desk.opened ≡ opened → Gives (m.work.moments clock) (m.work.moments mid) opened
       → first ≡ record {
         only = None;
-        opening = first.opening;
-        opened = opened;
-        first = 1;
-        capacity = 4096;
+        begin = new_life stood opened 1;
+        limits = kept_limits 4096;
         made = [];
         time = opened;
         ticked = false;
         start = folder;
         folder = first.folder;
       }
-      → IsOpening None (m.files folder) first.opening → Fits first.opening
+      → IsOpening None (m.files folder) stood → Fits stood
       → ServesShard m desk end first folder' mid clock' old new
       → OpensAndServes m keys base editor origin end folder folder' clock clock' old new
-  opens_and_serves desk keys base editor origin opened end folder folder' clock mid clock' old new first keys_are base_is editor_is origin_is opened_is times book opening fits serves = record {
+  opens_and_serves desk keys base editor origin opened end folder folder' clock mid clock' old new stood first keys_are base_is editor_is origin_is opened_is times book opening fits serves = record {
     desk = desk;
     mid = mid;
     first = first;
@@ -98,37 +94,35 @@ module _ {S K F N D C L : Type 0} (m : Meanings S K F N D C L) where
     editor_is = editor_is;
     origin_is = origin_is;
     times = subst (Gives (m.work.moments clock) (m.work.moments mid)) (sym opened_is) times;
-    opens = subst (λ n. IsFresh m folder n first) (sym opened_is) (record { book = book; opening = opening; fits = fits });
+    stood = stood;
+    opens = subst (λ n. IsFresh m folder stood n first) (sym opened_is) (record { book = book; opening = opening; fits = fits });
     serves = serves;
-    legal = subst (λ (n : ℕ). Legal first.opening n 1 (map Step (made serves.serves.deeds))) (ap (λ (b : Book F). b.opened) book ∙ sym opened_is)
-        (subst (λ (n : ℕ). Legal first.opening first.opened n (map Step (made serves.serves.deeds))) (ap (λ (b : Book F). b.first) book)
+    legal = subst (λ (n : ℕ). Legal stood n 1 (map Step (made serves.serves.deeds))) (sym opened_is)
+        (subst (λ (b : Begin). LegalFrom b (map Step (made serves.serves.deeds))) (ap (λ (b : Book F). b.begin) book)
         (legal_alone desk end first folder' mid clock' old new (ap (λ (b : Book F). b.made) book) (ap (λ (b : Book F). b.ticked) book) serves));
-    shown = subst (λ (n : ℕ). AreShownIn first.opening n 1 [] serves.serves.deeds) (ap (λ (b : Book F). b.opened) book ∙ sym opened_is)
-        (subst (λ (n : ℕ). AreShownIn first.opening first.opened n [] serves.serves.deeds) (ap (λ (b : Book F). b.first) book)
-        (shown_alone desk end first folder' mid clock' old new (ap (λ (b : Book F). b.made) book) (ap (λ (b : Book F). b.ticked) book) serves));
+    shown = subst (λ (n : ℕ). AreShownIn stood n 1 [] serves.serves.deeds) (sym opened_is)
+        (shown_alone desk end stood opened first folder' mid clock' old new (ap (λ (b : Book F). b.begin) book) (ap (λ (b : Book F). b.made) book) (ap (λ (b : Book F). b.ticked) book) serves);
   }
 
   -- the same where the shard was opened over a store round the folder
   pub kept_and_served : (desk : Desk) (keys : Keys) (base : List ℕ) (editor : Bool) (origin : Option (List ℕ)) (opened : ℕ) (end : ConnEnd) (folder kept folder' : F) (clock mid clock' : C) (old new : Outside S K F N D C)
-      (first : Book F) → kept ≡ folder → desk.keys ≡ keys → desk.base ≡ base → desk.editor ≡ editor → desk.origin ≡ origin → desk.opened ≡ opened → Gives (m.work.moments clock) (m.work.moments mid) opened
+      (stood : Opening) (first : Book F) → kept ≡ folder → desk.keys ≡ keys → desk.base ≡ base → desk.editor ≡ editor → desk.origin ≡ origin → desk.opened ≡ opened → Gives (m.work.moments clock) (m.work.moments mid) opened
       → first ≡ record {
         only = None;
-        opening = first.opening;
-        opened = opened;
-        first = 1;
-        capacity = 4096;
+        begin = new_life stood opened 1;
+        limits = kept_limits 4096;
         made = [];
         time = opened;
         ticked = false;
         start = kept;
         folder = first.folder;
       }
-      → IsOpening None (m.files kept) first.opening → Fits first.opening
+      → IsOpening None (m.files kept) stood → Fits stood
       → ServesShard m desk end first folder' mid clock' old new
       → OpensAndServes m keys base editor origin end folder folder' clock clock' old new
-  kept_and_served desk keys base editor origin opened end folder kept folder' clock mid clock' old new first same keys_are base_is editor_is origin_is opened_is times book opening fits serves =
+  kept_and_served desk keys base editor origin opened end folder kept folder' clock mid clock' old new stood first same keys_are base_is editor_is origin_is opened_is times book opening fits serves =
       subst (λ (f : F). OpensAndServes m keys base editor origin end f folder' clock clock' old new) same
-      (opens_and_serves desk keys base editor origin opened end kept folder' clock mid clock' old new first keys_are base_is editor_is origin_is opened_is times book opening fits serves)
+      (opens_and_serves desk keys base editor origin opened end kept folder' clock mid clock' old new stood first keys_are base_is editor_is origin_is opened_is times book opening fits serves)
 
   -- a run speaks of the streams alone, and of the folder and the clock that it was given
   module _ (keys : Keys) (base : List ℕ) (editor : Bool) (origin : Option (List ℕ)) (folder folder' : F) (clock clock' : C) (old new old' new' : Outside S K F N D C)
@@ -144,6 +138,7 @@ module _ {S K F N D C L : Type 0} (m : Meanings S K F N D C L) where
           desk = served.desk;
           mid = served.mid;
           first = served.first;
+          stood = served.stood;
           keys_are = served.keys_are;
           base_is = served.base_is;
           editor_is = served.editor_is;

@@ -1,5 +1,5 @@
 -- The row of `serve` in the table of words.
-use Rattle.std.proofs.Common.{◌≡◌, ◌↔◌, ℕ, suc, ◌<◌, ◌≤◌, ◌+◌, ◌^◌, Bool, true, false, if◌then◌else◌, List, [], ◌∷◌, None, Some, Option, IfSome, length, map, get_or, drop, codes, refl, sym, ap, ◌∙◌, subst, arith}
+use Rattle.std.proofs.Common.{◌≡◌, ◌↔◌, ℕ, suc, ◌<◌, ◌≤◌, ◌+◌, Bool, true, false, if◌then◌else◌, List, [], ◌∷◌, None, Some, Option, IfSome, length, map, get_or, drop, codes, refl, sym, ap, ◌∙◌, subst, arith}
 use Rattle.std.specs.Option.{option_len}
 use Rattle.std.specs.Str.{bytes_eq}
 use Rattle.access_tokens.specs.Keys.{IsWordOf}

@@ -1,29 +1,30 @@
 -- What a watch told, one look after another.
-use Rattle.std.proofs.Common.{◌≡◌, ◌≢◌, ◌⊎◌, ℕ, zero, suc, ◌+◌, ◌*◌, ◌-◌, ◌^◌, ◌<◌, ◌≤◌, ◌==◌, min, Bool, true, false, if◌then◌else◌, List, [], ◌∷◌, ◌++◌, map, length, set, replicate, Option, None, Some, slice_get, get_or, sum_by, inl, inr, refl, sym, ap, ◌∙◌, subst, append_assoc, append-nil, arith}
+use Rattle.std.proofs.Common.{◌≡◌, ◌≢◌, ◌⊎◌, ℕ, zero, suc, ◌+◌, ◌*◌, ◌-◌, ◌<◌, ◌≤◌, ◌==◌, Bool, true, false, if◌then◌else◌, List, [], ◌∷◌, ◌++◌, map, length, set, replicate, Option, None, Some, slice_get, get_or, sum_by, inl, inr, refl, sym, ap, ◌∙◌, subst, append_assoc, append-nil, arith}
 use Rattle.std.proofs.lemmas.List.{map-append, length-set}
 use Rattle.std.proofs.lemmas.List.Sums.{sum_by-append}
 use Rattle.std.proofs.lemmas.Option.{slice_get_within}
 use Rattle.std.proofs.lemmas.Bool.Decides.{nat_tests}
 use Rattle.std.specs.Io.KnownBytes.{Appends}
-use mathlib.Core.List.{IsPrefix}
 use Rattle.outside.specs.Faults.{Rose}
 use Rattle.outside.specs.Folder.{Files}
 use Rattle.turn_lock.specs.Places.{times}
 use Rattle.turn_lock.proofs.Sums.{times-append}
+use Rattle.wopi_model.specs.Begin.{Begin, new_life}
 use Rattle.wopi_model.specs.Shard.{Opening, Item, Entry, entries}
-use Rattle.wopi_model.specs.Host.{most_kept, new_bytes, kept}
+use Rattle.wopi_model.specs.Host.{Limits, kept_limits, most_kept, new_bytes}
+use Rattle.wopi_model.proofs.Fullness.{opening-bytes}
 use Rattle.host_core.specs.Caller.{Sight, Extends}
-use Rattle.host_core.specs.Fullness.{IsNearlyFull, IsNearlyFullAt}
+use Rattle.host_core.specs.Fullness.{IsNearlyFull, IsNearlyFullAt, WasNearlyFull}
 use Rattle.host_core.specs.Listing.{LooksAt}
 use Rattle.host_core.specs.Value.{Book, InMemory, Left}
-use Rattle.host_core.specs.Times.{steps_of, untimed}
+use Rattle.host_core.specs.Times.{untimed}
 use Rattle.host_table.specs.Journal.{JournalView, IsNearlyFullIn}
 use Rattle.host_table.specs.Passes.{HostView, PassView, IsPassOf, IsSamePass, sight_of}
 use Rattle.host_table.specs.Close.{AreSeen, AreEnded}
 use Rattle.wopi_program.specs.Journal.{entries_in}
 use Rattle.wopi_program.specs.Notes.{AreFronts, Notes, NotesAll, text_of}
-use Rattle.wopi_program.specs.Watched.{AreRaised, AreRight, AreRightIn, AreTold, HasTold, TellsOf, nearly_full_line, none_raised, raised}
-use Rattle.wopi_program.proofs.JournalLemmas.{entries-alone, front_at, opening_part, part_there}
+use Rattle.wopi_program.specs.Watched.{AreRight, AreRightIn, HasTold, TellsOf, WasNearlyFullAt, nearly_full_line, none_raised, raised}
+use Rattle.wopi_program.proofs.JournalLemmas.{begin_part, entries-alone, extends_on, front_at, part_there}
 
 -- ---- lines one after another
 
@@ -162,7 +163,7 @@ stays_raised held count old new marks marks' shard tells is =
 
 module _ {F : Type 0} where
   pub same_still : (pass : PassView F) → IsSamePass pass pass
-  same_still pass = record { number = refl; weight = refl; opened_is = refl; first_is = refl; capacity_is = refl; locks = refl; bases = refl }
+  same_still pass = record { number = refl; weight = refl; opened_is = refl; first_is = refl; limits_is = refl; locks = refl; bases = refl }
 
   pub same_both : (old mid new : PassView F) → IsSamePass old mid → IsSamePass mid new → IsSamePass old new
   same_both old mid new one other = record {
@@ -170,7 +171,7 @@ module _ {F : Type 0} where
     weight = other.weight ∙ one.weight;
     opened_is = other.opened_is ∙ one.opened_is;
     first_is = other.first_is ∙ one.first_is;
-    capacity_is = other.capacity_is ∙ one.capacity_is;
+    limits_is = other.limits_is ∙ one.limits_is;
     locks = other.locks ∙ one.locks;
     bases = other.bases ∙ one.bases;
   }
@@ -192,27 +193,31 @@ full_later capacity opening es more (inl many) = inl (let sums = length_more es 
 full_later capacity opening es more (inr heavy) =
     let sums = sum_by-append (λ (entry : Entry). if entry.ruling.status == 200 then new_bytes entry.call.act else 0) es more in inr (omega (arith, heavy, sums))
 
-near_later : (capacity : ℕ) (opening : Opening) (h k : List Item) → Extends (entries h) (entries k) → IsNearlyFull capacity opening h → IsNearlyFull capacity opening k
-near_later capacity opening h k (more, is) near =
-    subst (λ (es : List Entry). IsFullBy capacity opening es) (sym is) (full_later capacity opening (entries h) more near)
+-- what is nearly full ends so, where all calls and contents are kept
+near_later : (capacity : ℕ) (opening : Opening) (opened first : ℕ) (h k : List Item) → Extends (entries h) (entries k) → IsNearlyFull (Some capacity) (new_life opening opened first) h
+    → WasNearlyFull capacity opening k
+near_later capacity opening opened first h k (more, is) near =
+    let By : ℕ → Type 0 = λ n. (9 * capacity ≤ 10 * length (entries h))
+    ⊎ (9 * most_kept ≤ 10 * (n + sum_by (λ (entry : Entry). if entry.ruling.status == 200 then new_bytes entry.call.act else 0) (entries h))) in
+    let kept : IsFullBy capacity opening (entries h) = subst By (opening-bytes opening first) near in
+    subst (λ (es : List Entry). IsFullBy capacity opening es) (sym is) (full_later capacity opening (entries h) more kept)
 
 -- a look at one shard leaves what was right
 pub right_later : (marks : List Bool) (old new : Sight) (shard : ℕ) → LooksAt old new shard → AreRight marks old → AreRight marks new
 right_later marks old new shard looks right = record { each = λ other is. go other (right.each other is) (other == shard) refl }
   where
-    here : IsNearlyFullAt old shard → IsNearlyFullAt new shard
-    here near =
-        let later = near_later old.capacity (old.openings shard) (old.seen shard) (new.seen shard) looks.begins near in
-        let same : (old.capacity, old.openings shard) ≡ (new.capacity, new.openings shard) = λ i. (sym looks.rest.capacity i, sym (looks.rest.openings shard) i) in
-        subst (λ (z : ℕ × Opening). IsNearlyFull z.0 z.1 (new.seen shard)) same later
+    moved : (other : ℕ) → Extends (entries (old.seen other)) (entries (new.seen other)) → WasNearlyFullAt old other → WasNearlyFullAt new other
+    moved other grows (front, begins, near) =
+        let same : (old.limits, old.begins other) ≡ (new.limits, new.begins other) = λ i. (sym looks.rest.limits i, sym (looks.rest.begins other) i) in
+        (front, extends_on (entries front) (entries (old.seen other)) (entries (new.seen other)) begins grows, subst (λ (z : Limits × Begin). IsNearlyFull z.0.calls z.1 front) same near)
 
-    go : (other : ℕ) → IsNearlyFullAt old other → (b : Bool) → (other == shard) ≡ b → IsNearlyFullAt new other
-    go other near true is = let same : other ≡ shard = grind (arith, nat_tests) in subst (λ n. IsNearlyFullAt new n) (sym same) (here (subst (λ n. IsNearlyFullAt old n) same near))
-    go other near false is =
+    go : (other : ℕ) → WasNearlyFullAt old other → (b : Bool) → (other == shard) ≡ b → WasNearlyFullAt new other
+    go other was true is =
+        let same : other ≡ shard = grind (arith, nat_tests) in
+        moved other (subst (λ n. Extends (entries (old.seen n)) (entries (new.seen n))) (sym same) looks.begins) was
+    go other was false is =
         let apart : other ≢ shard = grind (arith, nat_tests) in
-        let same : (old.capacity, (old.openings other, old.seen other)) ≡ (new.capacity, (new.openings other, new.seen other)) =
-        λ i. (sym looks.rest.capacity i, (sym (looks.rest.openings other) i, sym (looks.rest.others other apart) i)) in
-        subst (λ (z : ℕ × (Opening × List Item)). IsNearlyFull z.0 z.1.0 z.1.1) same near
+        moved other ([], ap (λ (l : List Item). entries l) (looks.rest.others other apart) ∙ sym (append-nil (entries (old.seen other)))) was
 
 pub none_right : (marks : List Bool) → marks ≡ none_raised → (sight : Sight) → AreRight marks sight
 none_right marks is sight = record { each = λ shard up. absurd (low shard (subst (λ (l : List Bool). slice_get l shard ≡ Some true) is up)) }
@@ -223,12 +228,14 @@ none_right marks is sight = record { each = λ shard up. absurd (low shard (subs
 -- a shard more was marked, which is nearly full
 pub right_more : (marks marks' : List Bool) (sight : Sight) (shard : ℕ) → AreRight marks sight → IsNearlyFullAt sight shard
     → ((other : ℕ) → slice_get marks' other ≡ Some true → (other ≡ shard) ⊎ (slice_get marks other ≡ Some true)) → AreRight marks' sight
-right_more marks marks' sight shard right near which = record {
-  each = λ other is. elim (which other is) as (λ _. IsNearlyFullAt sight other) [
-    | inl e ↦ subst (λ n. IsNearlyFullAt sight n) (sym e) near
-    | inr was ↦ right.each other was
-  ];
-}
+right_more marks marks' sight shard right near which =
+    let now : WasNearlyFullAt sight shard = (sight.seen shard, ([], sym (append-nil (entries (sight.seen shard)))), near) in
+    record {
+      each = λ other is. elim (which other is) as (λ _. WasNearlyFullAt sight other) [
+        | inl e ↦ subst (λ n. WasNearlyFullAt sight n) (sym e) now
+        | inr was ↦ right.each other was
+      ];
+    }
 
 pub right_more_in : {F : Type 0} (capacity : ℕ) (parts : List (Left F)) (marks marks' : List Bool) (shard : ℕ) → AreRightIn capacity parts marks → IsNearlyFullIn capacity (slice_get parts shard)
     → ((other : ℕ) → slice_get marks' other ≡ Some true → (other ≡ shard) ⊎ (slice_get marks other ≡ Some true)) → AreRightIn capacity parts marks'
@@ -253,29 +260,34 @@ all_before held count old new marks marks' capacity parts at before tells here s
         stays_raised held count old new marks marks' shard tells (before shard below near)
 
 module _ {F : Type 0} (files : F → Option Files) (faults : F → ℕ) (host : HostView (InMemory F)) (pass : PassView (InMemory F)) (parts : List (Left F)) (folders : List F)
-    (of : IsPassOf host pass) (seen : AreSeen pass.seats parts) (ended : AreEnded files faults host.bases parts folders) where
-  near_in : (shard : ℕ) (part : Left F) → slice_get parts shard ≡ Some part → IsNearlyFullAt (sight_of pass) shard → IsNearlyFullIn pass.capacity (slice_get parts shard)
-  near_in shard part is near =
+    (of : IsPassOf host pass) (seen : AreSeen pass.seats parts) (ended : AreEnded files faults host.opened host.first host.bases parts folders)
+    (capacity : ℕ) (limits : pass.limits ≡ kept_limits capacity) where
+  near_in : (shard : ℕ) (part : Left F) → slice_get parts shard ≡ Some part → WasNearlyFullAt (sight_of pass) shard → IsNearlyFullIn capacity (slice_get parts shard)
+  near_in shard part is (before, begins, near) =
       let sight = sight_of pass in
-      let opening : sight.openings shard ≡ part.opening = opening_part files faults pass.seats host.bases parts folders shard part of.bases ended is in
+      let life : Begin = new_life part.opening host.opened host.first in
+      let begin : sight.begins shard ≡ life = begin_part files faults host.opened host.first pass.seats host.bases parts folders shard part of.bases ended is in
       let front = front_at pass.seats parts shard seen in
-      let begins : Extends (entries (sight.seen shard)) (entries (untimed part.made)) =
+      let rest : Extends (entries (sight.seen shard)) (entries (untimed part.made)) =
       (front.0, entries-alone part.made ∙ (ap (λ (o : Option (Left F)). entries_in o) (sym is) ∙ front.1)) in
-      let later = near_later pass.capacity (sight.openings shard) (sight.seen shard) (untimed part.made) begins near in
-      subst (λ (o : Option (Left F)). IsNearlyFullIn pass.capacity o) (sym is) (subst (λ (l : Opening). IsNearlyFull pass.capacity l (untimed part.made)) opening later)
+      let same : (pass.limits, sight.begins shard) ≡ (kept_limits capacity, life) = λ i. (limits i, begin i) in
+      let by_life : IsNearlyFull (Some capacity) life before = subst (λ (z : Limits × Begin). IsNearlyFull z.0.calls z.1 before) same near in
+      let later = near_later capacity part.opening host.opened host.first before (untimed part.made)
+      (extends_on (entries before) (entries (sight.seen shard)) (entries (untimed part.made)) begins rest) by_life in
+      subst (λ (o : Option (Left F)). IsNearlyFullIn capacity o) (sym is) later
 
-  pub right_in : (marks : List Bool) → length marks ≡ 16 → length pass.seats ≡ 16 → AreRight marks (sight_of pass) → AreRightIn pass.capacity parts marks
+  pub right_in : (marks : List Bool) → length marks ≡ 16 → length pass.seats ≡ 16 → AreRight marks (sight_of pass) → AreRightIn capacity parts marks
   right_in marks many wide right = λ shard is.
       let below : shard < length marks = slice_get_within marks shard true is in
       let there = part_there pass.seats parts shard seen (omega (arith, below, many, wide)) in
       near_in shard there.0 there.1 (right.each shard is)
 
 -- a host leaves a part of each of its shards
-pub parts_many : {F : Type 0} (files : F → Option Files) (faults : F → ℕ) (bases : List (Book (InMemory F))) (parts : List (Left F)) (folders : List F)
-    → AreEnded files faults bases parts folders → length bases ≡ 16 → length parts ≤ 16
-parts_many {F = F} files faults bases parts folders ended many = let same = as_many bases parts folders ended in omega (arith, same, many)
+pub parts_many : {F : Type 0} (files : F → Option Files) (faults : F → ℕ) (opened first : ℕ) (bases : List (Book (InMemory F))) (parts : List (Left F)) (folders : List F)
+    → AreEnded files faults opened first bases parts folders → length bases ≡ 16 → length parts ≤ 16
+parts_many {F = F} files faults opened first bases parts folders ended many = let same = as_many bases parts folders ended in omega (arith, same, many)
   where
-    as_many : (bs : List (Book (InMemory F))) (ps : List (Left F)) (fs : List F) → AreEnded files faults bs ps fs → length ps ≡ length bs
+    as_many : (bs : List (Book (InMemory F))) (ps : List (Left F)) (fs : List F) → AreEnded files faults opened first bs ps fs → length ps ≡ length bs
     as_many [] [] [] e = refl
     as_many [] [] (f ∷ fs) e = absurd e
     as_many [] (p ∷ ps) [] e = absurd e

@@ -1,5 +1,5 @@
 -- The words for editors, behind those that stand in every row of `serve` and `once`: `--editor`, and behind it `--origin` and the origin of the page that they stand in. (Own.)
-use Rattle.std.specs.Prelude.{◌≡◌, ℕ, Bool, false, if◌then◌else◌, List, [], ◌∷◌, codes, Option, None, Some, IfSome}
+use Rattle.std.specs.Prelude.{ℕ, Bool, false, if◌then◌else◌, List, [], ◌∷◌, codes, Option, None, Some, IfSome}
 use Rattle.std.specs.Str.{bytes_eq}
 use Rattle.access_tokens.specs.Origins.{IsOrigin}
 

@@ -1,6 +1,7 @@
 -- What listings over one shard show. (Own.)
 use Rattle.std.specs.Prelude.{◌≡◌, ⊤, ℕ, List, [], ◌∷◌, ◌++◌, map}
 use Rattle.wopi_model.specs.Shard.{Opening, Step, Entry}
+use Rattle.wopi_model.specs.Begin.{new_life}
 use Rattle.host_core.specs.Listing.{IsListing}
 use Rattle.host_core.specs.declared.listing.Listing.{Listing}
 use Rattle.host_server.specs.Deeds.{Deed, Made, Blocked, Listed}
@@ -11,5 +12,5 @@ AreShownIn opening opened first so_far [] = ⊤
 AreShownIn opening opened first so_far (Made entry ∷ deeds) = AreShownIn opening opened first (so_far ++ entry ∷ []) deeds
 AreShownIn opening opened first so_far (Blocked call moment before after ∷ deeds) = AreShownIn opening opened first so_far deeds
 AreShownIn opening opened first so_far (Listed listings ∷ deeds) =
-    (listing : Listing) × (listings ≡ listing ∷ []) × IsListing 0 opening opened first (map Step so_far) listing
+    (listing : Listing) × (listings ≡ listing ∷ []) × IsListing 0 (new_life opening opened first) (map Step so_far) listing
     × AreShownIn opening opened first so_far deeds

@@ -4,7 +4,9 @@ use Rattle.outside.specs.Faults.{Rose}
 use Rattle.outside.specs.Clock.{Gives}
 use Rattle.outside.specs.Folder.{Keeps}
 use Rattle.wopi_text.specs.Ids.{id_of}
-use Rattle.wopi_model.specs.Shard.{Step, Legal}
+use Rattle.wopi_model.specs.Begin.{new_life}
+use Rattle.wopi_model.specs.Host.{kept_limits}
+use Rattle.wopi_model.specs.Shard.{Opening, Step, Legal}
 use Rattle.host_core.specs.declared.opening.StartFault.{StartFault}
 use Rattle.host_core.specs.declared.opening.StartFault.TheVariants as start
 use Rattle.host_core.specs.Value.{Book, InMemory, IsLawful}
@@ -63,10 +65,8 @@ Untouched end old new = (new.input ≡ old.input) × (new.output ≡ old.output)
 abbrev pub over_folder : {F : Type 0} → Book (InMemory F) → Book F
 over_folder book = record {
   only = book.only;
-  opening = book.opening;
-  opened = book.opened;
-  first = book.first;
-  capacity = book.capacity;
+  begin = book.begin;
+  limits = book.limits;
   made = book.made;
   time = book.time;
   ticked = book.ticked;
@@ -75,22 +75,20 @@ over_folder book = record {
 }
 
 module _ {S K F N D C L : Type 0} (m : Meanings S K F N D C L) where
-  -- A shard that was opened over a folder at a moment: its files, at version 1, and no entry yet.
-  pub record IsFresh (folder : F) (opened : ℕ) (first : Book F) : Type 0 where
+  -- A shard that was opened over a folder at a moment: these files, at version 1, and no entry yet.
+  pub record IsFresh (folder : F) (stood : Opening) (opened : ℕ) (first : Book F) : Type 0 where
     pub book : first ≡ record {
       only = None;
-      opening = first.opening;
-      opened = opened;
-      first = 1;
-      capacity = 4096;
+      begin = new_life stood opened 1;
+      limits = kept_limits 4096;
       made = [];
       time = opened;
       ticked = false;
       start = folder;
       folder = first.folder;
     }
-    pub opening : IsOpening None (m.files folder) first.opening
-    pub fits : Fits first.opening
+    pub opening : IsOpening None (m.files folder) stood
+    pub fits : Fits stood
 
   -- A connection was served over a shard that began as `first`. What was done is what the shard has come to; its history is legal, its folder
   -- agrees with it, and each answer of a store fault has raised the folder's count.
@@ -113,10 +111,11 @@ module _ {S K F N D C L : Type 0} (m : Meanings S K F N D C L) where
     pub editor_is : desk.editor ≡ editor
     pub origin_is : desk.origin ≡ origin
     pub times : Gives (m.work.moments clock) (m.work.moments mid) desk.opened
-    pub opens : IsFresh folder desk.opened first
+    pub stood : Opening
+    pub opens : IsFresh folder stood desk.opened first
     pub serves : ServesShard desk end first folder' mid clock' old new
-    pub legal : Legal first.opening desk.opened 1 (map Step (made serves.serves.deeds))
-    pub shown : AreShownIn first.opening desk.opened 1 [] serves.serves.deeds
+    pub legal : Legal stood desk.opened 1 (map Step (made serves.serves.deeds))
+    pub shown : AreShownIn stood desk.opened 1 [] serves.serves.deeds
 
   -- No shard was opened at the moment that the clock gave: the folder holds what it held, and its count hasn't fallen.
   pub record OpensNone (folder folder' : F) (clock clock' : C) : Type 0 where

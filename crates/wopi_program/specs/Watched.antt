@@ -1,8 +1,9 @@
 -- What the notes tell of shards that are nearly full. (Own.)
 use Rattle.std.specs.Prelude.{◌≡◌, ℕ, ◌+◌, nat_lt, if◌then◌else◌, Bool, true, false, List, [], ◌∷◌, ◌++◌, map, length, Option, None, Some, slice_get, replicate, codes}
 use Rattle.turn_lock.specs.Places.{times}
-use Rattle.host_core.specs.Caller.{Sight}
-use Rattle.host_core.specs.Fullness.{IsNearlyFullAt}
+use Rattle.wopi_model.specs.Shard.{Item, entries}
+use Rattle.host_core.specs.Caller.{Sight, Extends}
+use Rattle.host_core.specs.Fullness.{IsNearlyFull}
 use Rattle.host_core.specs.Value.{Left}
 use Rattle.host_table.specs.Journal.{JournalView, IsNearlyFullIn}
 use Rattle.wopi_program.specs.Notes.{NotesAll}
@@ -36,9 +37,14 @@ pub record TellsOf {K : Type 0} (held : K → Option (List ℕ)) (count : K → 
   pub are_raised : AreRaised marks told marks'
   pub many : length marks' ≡ length marks
 
+-- after a front of what is seen of the shard it was nearly full
+abbrev pub WasNearlyFullAt : Sight → ℕ → Type 0
+WasNearlyFullAt sight shard =
+    (front : List Item) × Extends (entries front) (entries (sight.seen shard)) × IsNearlyFull sight.limits.calls (sight.begins shard) front
+
 -- each marked shard was nearly full when it was seen
 pub record AreRight (marks : List Bool) (sight : Sight) : Type 0 where
-  pub each : (shard : ℕ) → slice_get marks shard ≡ Some true → IsNearlyFullAt sight shard
+  pub each : (shard : ℕ) → slice_get marks shard ≡ Some true → WasNearlyFullAt sight shard
 
 module _ {F : Type 0} (capacity : ℕ) (parts : List (Left F)) where
   -- each marked shard is nearly full at the end

@@ -1,5 +1,5 @@
 //! The words of the command `edit`.
-ghost use Rattle.std.specs.Prelude.{◌≡◌, ◌↔◌, ◌<◌, map, string_bytes, IfSome, IfNone, IsTrue, length};
+ghost use Rattle.std.specs.Prelude.{◌↔◌, ◌<◌, map, string_bytes, IfSome, IfNone, IsTrue, length};
 ghost use Rattle.wopi_program.specs.EditWords.{HasPort, IsAuthority, IsEditRow, IsPort, IsTokenWord, SplitsAt};
 ghost use Rattle.wopi_program.specs.Words.{IsRow};
 

@@ -87,7 +87,7 @@ pub fn exchanges_with_a_once_are_safe<S, K, F, N, D, C, L>()
         (desktop : Desktop) (client : Client) (ending : Ending) (spoken : List Spoken) (heard : List Input) (served : OpensAndServes m keys base editor origin end folder folder' clock clock' old new) →
         Hears desktop client ending first_speaker spoken heard →
         AreExchangedOver desktop client spoken (history_by served.serves.serves.deeds) →
-        IsSafeFor client (told_by client heard) (opened_shard served.first.opening served.desk.opened 1) (history_by served.serves.serves.deeds) }
+        IsSafeFor client (told_by client heard) (opened_shard served.stood served.desk.opened 1) (history_by served.serves.serves.deeds) }
 {
     both_ends_are_safe();
 }

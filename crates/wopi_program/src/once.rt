@@ -1,5 +1,5 @@
 //! The command `once`: one connection over the input and the output, and one shard over the folder.
-ghost use Rattle.std.specs.Prelude.{◌≡◌, ◌≢◌, ◌≤◌, length, map, string_bytes, true, IfOk, IfSome, None};
+ghost use Rattle.std.specs.Prelude.{◌≡◌, ◌≢◌, length, map, string_bytes, true, IfOk, IfSome, None};
 ghost use Rattle.outside.specs.Faults.{Rose};
 ghost use Rattle.host_core.specs.Single.{sight_of, SeesItsOwn};
 ghost use Rattle.access_tokens.specs.Addresses.{is_base};

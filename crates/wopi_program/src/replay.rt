@@ -1,5 +1,5 @@
 //! The command `replay`: a schedule of sessions over a host, run in memory, and what it shows.
-ghost use Rattle.std.specs.Prelude.{◌≡◌, ◌≢◌, ◌≤◌, ℕ, List, map, string_bytes};
+ghost use Rattle.std.specs.Prelude.{◌≡◌, ◌≢◌, ◌≤◌, ℕ, map, string_bytes};
 ghost use Rattle.outside.specs.Faults.{Rose};
 ghost use Rattle.line_text.specs.Inputs.{HasRead};
 ghost use Rattle.replay_cmd.specs.Generator.{generated};

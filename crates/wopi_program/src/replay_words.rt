@@ -1,5 +1,5 @@
 //! The words of the command `replay`.
-ghost use Rattle.std.specs.Prelude.{◌≡◌, ◌≤◌, ℕ, List, map, string_bytes, decimal, IfSome, IfNone};
+ghost use Rattle.std.specs.Prelude.{◌≡◌, ◌≤◌, ℕ, map, string_bytes, decimal, IfSome, IfNone};
 ghost use Rattle.wopi_program.specs.ReplayWords.{IsGeneratedRow, IsReplayRow};
 ghost use Rattle.wopi_program.specs.Words.{IsRow};
 

@@ -1,6 +1,5 @@
 //! A watch over a host while its workers work, which tells of shards that are nearly full.
 ghost use Rattle.std.specs.Prelude.{◌≡◌, ◌⊎◌, ◌<◌, ℕ, Some, true, false, slice_get};
-ghost use Rattle.host_core.specs.Fullness.{IsNearlyFullAt};
 ghost use Rattle.host_table.specs.Journal.{IsNearlyFullIn};
 ghost use Rattle.host_table.specs.Passes.{IsSamePass, locks_of, own_of, sight_of};
 ghost use Rattle.wopi_program.specs.Watched.{AreRight, AreRightIn, TellsOf, nearly_full_line, none_raised};

@@ -1,5 +1,6 @@
 use Rattle.std.proofs.Common.{inl, inr, ◌≡◌, ◌+◌, ◌<◌, ◌^◌, ◌==◌, ℕ, List, length, max, ◌∷◌, ◌++◌, [], if◌then◌else◌, refl, sym, ap, subst, ◌∙◌, arith}
 use Rattle.std.proofs.lemmas.List.{length-append}
+use Rattle.wopi_model.specs.Begin.{Begin}
 use Rattle.host_core.specs.Names.{AreWithin}
 use Rattle.wopi_model.specs.Settle.{settled}
 use Rattle.host_core.specs.Entries.{Made, asked_as, ruled}
@@ -20,6 +21,7 @@ returns-in-Err-clause-tied g c =
     let old = g.F.Store.notes c.args.folder.now in
     let same : (g.F.Store.notes c.give_up.new.self).made ≡ old.made = c.give_up.ensures.made ∙ c.step_files.ensures.noted.made ∙ c.begin.ensures.made in
     let long : length (g.F.Store.notes c.give_up.new.self).made ≡ length old.made = ap (λ (l : List Made). length l) same in
+    let begin : (g.F.Store.notes c.give_up.new.self).begin ≡ old.begin = c.give_up.ensures.rest.begin ∙ c.step_files.ensures.noted.begin ∙ c.begin.ensures.rest.begin in
     let most : (g.F.Store.notes c.give_up.new.self).most ≡ old.most = c.give_up.ensures.rest.most ∙ c.step_files.ensures.noted.most ∙ c.begin.ensures.rest.most in
     let slots = c.requires.tied.slots in
     record {
@@ -28,6 +30,8 @@ returns-in-Err-clause-tied g c =
       stand = stand_same c.args.ledger.now.rack.locks.files c.step_files.new.self.locks.files c.args.ledger.now.time c.in-Err.ensures.err.stand c.requires.tied.stand;
       spare = omega (arith, spare, more, long);
       slots = omega (arith, slots, most);
+      opened = c.requires.tied.opened ∙ sym (ap (λ (b : Begin). b.opened) begin);
+      first = c.requires.tied.first ∙ sym (ap (λ (b : Begin). b.first) begin);
       ended = c.give_up.ensures.ended;
     }
 
@@ -66,7 +70,7 @@ returns-in-Ok-clause-takes g c =
           ∙ ap (λ (l : List Made). l ++ ruled ruling asked ∷ []) (c.step_files.ensures.noted.made ∙ c.begin.ensures.made)
           ∙ ap (λ (m : Made). old.made ++ m ∷ []) entry;
       keeps = record {
-        opening = c.end.ensures.rest.opening ∙ c.step_files.ensures.noted.opening ∙ c.begin.ensures.rest.opening;
+        begin = c.end.ensures.rest.begin ∙ c.step_files.ensures.noted.begin ∙ c.begin.ensures.rest.begin;
         most = c.end.ensures.rest.most ∙ c.step_files.ensures.noted.most ∙ c.begin.ensures.rest.most;
       };
       last = stamp;
@@ -88,6 +92,7 @@ returns-in-Ok-clause-tied g c =
     let entries : new.made ≡ old.made ++ one ∷ [] =
     c.end.ensures.made _ (c.step_files.ensures.noted.begun ∙ c.begin.ensures.begun) ∙ ap (λ (l : List Made). l ++ one ∷ []) (c.step_files.ensures.noted.made ∙ c.begin.ensures.made) in
     let long : length new.made ≡ length old.made + 1 = ap (λ (l : List Made). length l) entries ∙ length-append old.made (one ∷ []) in
+    let begin : new.begin ≡ old.begin = c.end.ensures.rest.begin ∙ c.step_files.ensures.noted.begin ∙ c.begin.ensures.rest.begin in
     let most : new.most ≡ old.most = c.end.ensures.rest.most ∙ c.step_files.ensures.noted.most ∙ c.begin.ensures.rest.most in
     let spare = c.requires.tied.spare in
     let more = ok.spare in
@@ -98,6 +103,8 @@ returns-in-Ok-clause-tied g c =
       stand = ok.stand;
       spare = omega (arith, spare, more, long);
       slots = omega (arith, slots, most);
+      opened = c.requires.tied.opened ∙ sym (ap (λ (b : Begin). b.opened) begin);
+      first = c.requires.tied.first ∙ sym (ap (λ (b : Begin). b.first) begin);
       ended = c.end.ensures.ended;
     }
 

@@ -1,4 +1,5 @@
-use Rattle.std.proofs.Common.{rules, IsPermutation, ap, sym, subst, ◌≡◌, ◌*◌, ◌≤◌, List, vec_capacity}
+use Rattle.std.specs.Prelude.{IsSomeAnd}
+use Rattle.std.proofs.Common.{rules, IsPermutation, refl, sym, subst, ◌*◌, ◌≤◌, List, vec_capacity}
 use Rattle.std.proofs.lemmas.List.Sorted.{IsNonDecreasingBy-from_sort_by_key}
 use Rattle.std.specs.List.{AllByRecursion}
 use Rattle.std.specs.List.Sorted.{IsNonDecreasingBy}
@@ -19,16 +20,15 @@ pub take_apart-requires-clause-spots : goal.take_apart-requires-clause-spots
 take_apart-requires-clause-spots g c =
     let F = g.row.F.Denot in let host = host_of c.host.inside in let e = c.close_all.ensures.ended in
     let of = subst (λ (h : HostView (InMemory F)). AllByRecursion (IsPassOf h) c.args.passes.items) (sym c.host.view_is) c.requires.of_host in
-    let sums = shards_sum host c.args.passes.items c.join_all-seats.result.items c.close_all.new.shards.items c.args.room.shards.items e.0 c.host.invariant of c.join_all-seats.ensures.joined c.join_all-seats.ensures.locks e.2 c.requires.shards.0 e.1 in
-    let capacity : host.capacity ≡ c.args.host.capacity = ap (λ (h : HostView (InMemory F)). h.capacity) c.host.view_is in
-    let room : 16 * host.capacity ≤ vec_capacity c.args.room.spots = subst (λ n. 16 * n ≤ vec_capacity c.args.room.spots) (sym capacity) c.requires.spots.1 in
+    let sums = shards_sum host c.args.passes.items c.join_all-seats.result.items c.close_all.new.shards.items c.args.room.shards.items e.0 c.host.invariant of c.join_all-seats.ensures.joined c.join_all-seats.ensures.locks e.2 c.requires.shards.0 e.1 c.host.inside.capacity refl in
+    let room : 16 * c.host.inside.capacity ≤ vec_capacity c.args.room.spots = subst (λ (h : HostView (InMemory F)). IsSomeAnd h.limits.calls (λ n. 16 * n ≤ vec_capacity c.args.room.spots)) (sym c.host.view_is) c.requires.spots.1 in
     (c.requires.spots.0, subst (λ n. n ≤ vec_capacity c.args.room.spots) (sym sums) room)
 
 pub take_apart-requires-clause-few : goal.take_apart-requires-clause-few
 take_apart-requires-clause-few g c =
     let F = g.row.F.Denot in let host = host_of c.host.inside in let e = c.close_all.ensures.ended in
     let of = subst (λ (h : HostView (InMemory F)). AllByRecursion (IsPassOf h) c.args.passes.items) (sym c.host.view_is) c.requires.of_host in
-    shards_fit host c.args.passes.items c.join_all-seats.result.items c.close_all.new.shards.items c.args.room.shards.items e.0 c.host.invariant of c.join_all-seats.ensures.joined c.join_all-seats.ensures.locks e.2 c.requires.shards.0 e.1
+    shards_fit host c.args.passes.items c.join_all-seats.result.items c.close_all.new.shards.items c.args.room.shards.items e.0 c.host.invariant of c.join_all-seats.ensures.joined c.join_all-seats.ensures.locks e.2 c.requires.shards.0 e.1 c.host.inside.capacity refl
 
 pub invariant_of-journal : goal.invariant_of-journal
 invariant_of-journal g c =
@@ -38,9 +38,9 @@ invariant_of-journal g c =
     let sorted = c.sort_unstable_by_key.new.self.items in
     let up : IsNonDecreasingBy order_of sorted = IsNonDecreasingBy-from_sort_by_key order_of sorted c.sort_unstable_by_key.ensures.sorted (λ a r q k. search rules) in
     let moved = subst (λ (spots : List Spot). IsPermutation spots sorted) c.take_apart.ensures.spots c.sort_unstable_by_key.ensures.permutation in
-    journal_kept f.files f.faults host c.close_all.new.shards.items c.take_apart.new.pasts.items c.take_apart.new.folders.items sorted c.host.invariant
+    journal_kept f.files f.faults host c.host.inside.capacity c.close_all.new.shards.items c.take_apart.new.pasts.items c.take_apart.new.folders.items sorted c.host.invariant refl
     (shards_bases host c.args.passes.items c.join_all-seats.result.items c.close_all.new.shards.items c.args.room.shards.items e.0 c.host.invariant of joined.joined joined.locks e.2 c.requires.shards.0 e.1)
-    (shards_sum host c.args.passes.items c.join_all-seats.result.items c.close_all.new.shards.items c.args.room.shards.items e.0 c.host.invariant of joined.joined joined.locks e.2 c.requires.shards.0 e.1)
+    (shards_sum host c.args.passes.items c.join_all-seats.result.items c.close_all.new.shards.items c.args.room.shards.items e.0 c.host.invariant of joined.joined joined.locks e.2 c.requires.shards.0 e.1 c.host.inside.capacity refl)
     c.take_apart.ensures.taken moved
     (ends_all f.files f.faults host c.args.passes.items c.join_all-seats.result.items c.close_all.new.shards.items c.take_apart.new.pasts.items c.take_apart.new.folders.items sorted c.host.invariant.bases
     (shards_long host c.args.passes.items c.join_all-seats.result.items c.close_all.new.shards.items c.args.room.shards.items e.0 c.host.invariant of joined.joined joined.locks e.2 c.requires.shards.0 e.1)

@@ -1,9 +1,9 @@
-use Rattle.std.proofs.Common.{◌≡◌, ◌+◌, ℕ, None, Option, Some, refl, ap, subst, sym, ◌∙◌, List, length}
+use Rattle.std.proofs.Common.{◌≡◌, ◌+◌, ℕ, Option, refl, ap, subst, sym, ◌∙◌, List, length}
 use Rattle.wopi_model.specs.Shard.{Opening}
 use Rattle.journal_text.specs.declared.text.Line.{Line}
 use Rattle.journal_audit.specs.declared.verdict.AuditFault.{AuditFault}
 use Rattle.journal_audit.specs.Audits.{IsFound}
-use Rattle.journal_audit.specs.Lines.{Begun, IsBadAt, opened_host}
+use Rattle.journal_audit.specs.Lines.{IsBadAt, opened_host}
 use Rattle.journal_audit.proofs.Hosts.{bad_at}
 use Rattle.journal_audit.proofs.auditor.audit.Goals as goal
 

@@ -1,4 +1,4 @@
-use Rattle.std.proofs.Common.{◌≡◌, ◌+◌, ℕ, None, Option, Some, ap, subst, sym, ◌∙◌}
+use Rattle.std.proofs.Common.{◌+◌, Option, Some, ap, subst, sym, ◌∙◌}
 use Rattle.std.specs.Prelude.{take}
 use Rattle.journal_audit.specs.declared.verdict.AuditFault.{AuditFault}
 use Rattle.journal_audit.specs.Audits.{Judges, Keeps}

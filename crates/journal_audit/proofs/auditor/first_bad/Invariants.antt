@@ -1,5 +1,5 @@
 use Rattle.std.proofs.Common.{◌≡◌}
-use Rattle.std.specs.Prelude.{drop, take}
+use Rattle.std.specs.Prelude.{take}
 use Rattle.journal_audit.specs.Audits.{Keeps}
 use Rattle.journal_audit.specs.Lines.{Begun, LegalLines, behind_lines}
 use Rattle.journal_audit.proofs.auditor.first_bad.Given as goal

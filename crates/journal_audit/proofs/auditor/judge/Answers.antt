@@ -1,4 +1,4 @@
-use Rattle.std.proofs.Common.{◌≡◌, Option, None, Some, subst}
+use Rattle.std.proofs.Common.{Option, subst}
 use Rattle.journal_audit.specs.declared.verdict.AuditFault.{AuditFault}
 use Rattle.journal_audit.specs.Audits.{Audited, Turns}
 use Rattle.journal_audit.proofs.Auditing.{judged_turn, judged_well}

@@ -1,4 +1,4 @@
-use Rattle.std.proofs.Common.{◌≡◌, ◌≤◌, IsSomeAnd, length}
+use Rattle.std.proofs.Common.{◌≡◌, IsSomeAnd}
 use Rattle.std.specs.Prelude.{slice_get, take}
 use Rattle.wopi_program.proofs.PassLemmas.{AreUnder}
 use Rattle.wopi_program.proofs.serving.heaviest.Given as goal

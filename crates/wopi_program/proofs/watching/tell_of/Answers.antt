@@ -1,4 +1,4 @@
-use Rattle.std.proofs.Common.{◌≡◌, ◌⊎◌, ◌<◌, ◌≤◌, ℕ, Some, true, List, length, slice_get, slice_set, sym, subst}
+use Rattle.std.proofs.Common.{◌≡◌, ◌⊎◌, ℕ, Some, true, List, slice_get, slice_set, sym, subst}
 use Rattle.wopi_program.specs.Notes.{Notes}
 use Rattle.wopi_program.specs.Watched.{TellsOf}
 use Rattle.wopi_program.proofs.WatchLemmas.{set_apart, set_there, tells_one, there_low}

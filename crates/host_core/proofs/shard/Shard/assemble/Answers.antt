@@ -1,6 +1,10 @@
 use Rattle.std.proofs.Common.{◌≡◌, ◌+◌, ℕ, List, [], Option, length, refl, sym, ap, subst, ◌∙◌, arith}
 use Rattle.outside.specs.Faults.{RoseBy}
-use Rattle.wopi_model.specs.Shard.{Opening}
+use Rattle.wopi_model.specs.Begin.{Begin, new_life}
+use Rattle.wopi_model.specs.Host.{kept_limits}
+use Rattle.wopi_model.specs.Lives.{live_ids}
+use Rattle.wopi_model.proofs.Fullness.{opening-ids}
+use Rattle.host_core.specs.Opening.{IsFirstVersion}
 use Rattle.host_core.specs.Names.{AreWithin}
 use Rattle.host_core.specs.Entries.{Made}
 use Rattle.host_core.specs.Files.{files_of, torn_in}
@@ -43,10 +47,8 @@ invariant_of-result g c =
     } in
     let book : Book _ = record {
       only = c.of.result.value;
-      opening = notes.opening;
-      opened = c.args.opened;
-      first = c.args.first;
-      capacity = c.args.capacity;
+      begin = notes.begin;
+      limits = kept_limits c.args.capacity;
       made = notes.made;
       time = c.args.opened;
       ticked = c.of-ticked.result.value;
@@ -54,21 +56,31 @@ invariant_of-result g c =
       folder = c.args.folder;
     } in
     let same : c.args.first ≡ c.args.first + length notes.made = omega (arith, none) in
+    let begin = new_life opening c.args.opened c.args.first in
+    let started : Reflects notes.begin notes.made c.args.opened 0 stock.bytes kept =
+    subst (λ (b : Begin). Reflects b notes.made c.args.opened 0 stock.bytes kept) (sym c.requires.listed)
+    (subst (λ (m : List Made). Reflects begin m c.args.opened 0 stock.bytes kept) (sym c.requires.made)
+    (keeps-start opening c.args.opened c.args.first stock.bytes kept c.requires.moment c.requires.stock.files c.requires.stock.torn c.requires.stock.kept)) in
+    let agrees : Agrees c.of.result.value (files start) (files c.args.folder) (files_of c.args.first kept) (torn_in kept) =
+    subst (λ (only : Option ℕ). Agrees only (files start) (files c.args.folder) (files_of c.args.first kept) (torn_in kept)) (sym c.of.ensures)
+    (agrees_start c.args.first c.args.only (files start) (files c.args.folder) opening kept c.requires.opening c.requires.same c.requires.stock.files) in
+    let first_is : c.args.first ≡ notes.begin.first = sym (ap (λ (b : Begin). b.first) c.requires.listed) in
+    let goes : GoesByEntries c.args.opened notes.made c.args.opened =
+    subst (λ (m : List Made). GoesByEntries c.args.opened m c.args.opened) (sym c.requires.made) (record { timely = tt; time_is = refl }) in
+    let within : AreWithin (c.args.first + length notes.made) kept = subst (λ (n : ℕ). AreWithin n kept) same c.requires.stock.within in
     with_chains after notes book (files start) (files c.args.folder) (faults start) (faults c.args.folder) refl (
     subst (λ (l : List Whole). Stands book 0 l stock.bytes (files start) (files c.args.folder) (faults start) (faults c.args.folder))
     (sym (free_joined stock.files.items c.args.locks.files c.requires.none))
     (record {
-      keeps = subst (λ (o : Opening). Reflects o c.args.opened c.args.first c.args.capacity notes.made c.args.opened 0 stock.bytes kept) (sym c.requires.listed)
-          (subst (λ (m : List Made). Reflects opening c.args.opened c.args.first c.args.capacity m c.args.opened 0 stock.bytes kept) (sym c.requires.made)
-          (keeps-start opening c.args.opened c.args.first c.args.capacity stock.bytes kept c.requires.moment c.requires.stock.files c.requires.stock.torn c.requires.stock.kept));
-      folder = subst (λ (only : Option ℕ). Agrees only (files start) (files c.args.folder) (files_of c.args.first kept) (torn_in kept)) (sym c.of.ensures)
-          (agrees_start c.args.first c.args.only (files start) (files c.args.folder) opening kept c.requires.opening c.requires.same c.requires.stock.files);
+      keeps = started;
+      folder = subst (λ (n : ℕ). Agrees c.of.result.value (files start) (files c.args.folder) (files_of n kept) (torn_in kept)) first_is agrees;
       faults = subst (λ (m : List Made). RoseBy (faults start) (faults_in m) (faults c.args.folder)) (sym c.requires.made) (rose-begin (faults start) (faults c.args.folder) c.requires.faults);
-      timely = λ _. subst (λ (m : List Made). GoesByEntries c.args.opened m c.args.opened) (sym c.requires.made) (record { timely = tt; time_is = refl });
-      within = subst (λ (n : ℕ). AreWithin n kept) same c.requires.stock.within;
-      number = c.requires.first;
+      timely = λ _. subst (λ (b : Begin). GoesByEntries b.now notes.made c.args.opened) (sym c.requires.listed) goes;
+      within = subst (λ (n : ℕ). AreWithin (n + length notes.made) kept) first_is within;
+      number = subst IsFirstVersion first_is c.requires.first;
       few = omega (arith, none, few, most, size);
       places = omega (arith, none);
+      free = ap (λ (b : Begin). live_ids b.files) c.requires.listed ∙ opening-ids opening c.args.first;
     })
     ) (record {
       numbered = c.requires.stock.numbered;
@@ -76,6 +88,8 @@ invariant_of-result g c =
       stand = λ number. ap (λ (s : Standing). standing s.lock c.args.opened) (c.requires.none number) ∙ sym (ap (λ (s : Standing). s.lock) (c.requires.none number));
       spare = let spare = c.requires.spare in omega (arith, spare);
       slots = c.requires.slots;
+      opened = sym (ap (λ (b : Begin). b.opened) c.requires.listed);
+      first = first_is;
       ended = c.requires.ended;
     })
 

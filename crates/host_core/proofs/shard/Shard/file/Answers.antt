@@ -42,13 +42,14 @@ pub view_of-requires-clause-moment : goal.view_of-requires-clause-moment
 view_of-requires-clause-moment g c =
     let inside = c.self.inside in
     let ledger = inside.ledger in
+    let book = book_of (g.F.Store.notes inside.folder) inside in
     let name = c.args.name.now in
     let number = c.in-Some.number in
     let kept = files_in ledger in
     let first : IsFirst (is_named name) kept number = found_first ledger.rack.files.items ledger.rack.locks.files ledger.rack.index name number c.self.invariant.1.numbered c.in-Some.ensures in
     let k = seen c.index-file.result.now ledger.rack.locks number in
     let at : k ≡ get_or kept number k = get_joined ledger.rack.files.items number c.index-file.result.now ledger.rack.locks.files c.index-file.ensures in
-    subst (λ (f : File). BeganAtMoment f.lock) (file_at file_of (never_met ledger.first) kept name number k first at) (c.self.invariant.0.keeps.moments name)
+    subst (λ (f : File). BeganAtMoment f.lock) (file_at file_of (never_met book.begin.first) kept name number k first at) (c.self.invariant.0.keeps.moments name)
 
 pub returns-in-None-clause-met : goal.returns-in-None-clause-met
 returns-in-None-clause-met g c =
@@ -58,12 +59,12 @@ returns-in-None-clause-met g c =
     let kept = files_in ledger in
     let book = book_of (g.F.Store.notes inside.folder) inside in
     let none = found_none ledger.rack.files.items ledger.rack.locks.files ledger.rack.index name c.self.invariant.1.numbered c.in-None.ensures in
-    let here : files_of book.first kept name ≡ never_met ledger.first = ap (λ (o : Option Whole). unwrap_or (option_map file_of o) (never_met ledger.first)) none in
-    let shown = shown-file book.opening book.opened book.first book.capacity book.made book.time ledger.last ledger.bytes kept c.self.invariant.0.keeps name in
-    let unmet : ((state_of c.args.self.now.opening c.args.self.now.opened c.args.self.now.first c.args.self.now.made c.args.self.now.time).files name).version ≡ c.args.self.now.first - 1 =
-    subst (λ (b : Book _). ((state_of b.opening b.opened b.first b.made b.time).files name).version ≡ b.first - 1) c.self.view_is
+    let here : files_of book.begin.first kept name ≡ never_met book.begin.first = ap (λ (o : Option Whole). unwrap_or (option_map file_of o) (never_met book.begin.first)) none in
+    let shown = shown-file book.begin book.made book.time ledger.last ledger.bytes kept c.self.invariant.0.keeps name in
+    let unmet : ((state_of c.args.self.now.begin c.args.self.now.made c.args.self.now.time).files name).version ≡ c.args.self.now.begin.first - 1 =
+    subst (λ (b : Book _). ((state_of b.begin b.made b.time).files name).version ≡ b.begin.first - 1) c.self.view_is
     (sym (ap (λ (f : File). f.version) shown) ∙ ap (λ (f : File). f.version) here) in
-    let number : 1 ≤ c.args.self.now.first = subst (λ (b : Book _). 1 ≤ b.first) c.self.view_is c.self.invariant.0.number.0 in
+    let number : 1 ≤ c.args.self.now.begin.first = subst (λ (b : Book _). 1 ≤ b.begin.first) c.self.view_is c.self.invariant.0.number.0 in
     (λ some. absurd (cc some), λ met. absurd (omega (arith, met, unmet, number)))
 
 pub returns-else-is_met-clause-met : goal.returns-else-is_met-clause-met
@@ -77,12 +78,12 @@ returns-else-is_met-clause-met g c =
     let k = seen c.index-file.result.now ledger.rack.locks number in
     let at : k ≡ get_or kept number k = get_joined ledger.rack.files.items number c.index-file.result.now ledger.rack.locks.files c.index-file.ensures in
     let book = book_of (g.F.Store.notes inside.folder) inside in
-    let here : files_of book.first kept name ≡ file_of k = file_at file_of (never_met ledger.first) kept name number k first at in
-    let shown = shown-file book.opening book.opened book.first book.capacity book.made book.time ledger.last ledger.bytes kept c.self.invariant.0.keeps name in
-    let below : c.index-file.result.now.version < book.first = let is_met = c.if-is_met.false in omega (arith, is_met) in
-    let unmet : ((state_of c.args.self.now.opening c.args.self.now.opened c.args.self.now.first c.args.self.now.made c.args.self.now.time).files name).version < c.args.self.now.first =
-    subst (λ (b : Book _). ((state_of b.opening b.opened b.first b.made b.time).files name).version < b.first) c.self.view_is
-    (subst (λ (n : ℕ). n < book.first) (sym (ap (λ (f : File). f.version) here) ∙ ap (λ (f : File). f.version) shown) below) in
+    let here : files_of book.begin.first kept name ≡ file_of k = file_at file_of (never_met book.begin.first) kept name number k first at in
+    let shown = shown-file book.begin book.made book.time ledger.last ledger.bytes kept c.self.invariant.0.keeps name in
+    let below : c.index-file.result.now.version < book.begin.first = let is_met = c.if-is_met.false in let same = c.self.invariant.1.first in omega (arith, is_met, same) in
+    let unmet : ((state_of c.args.self.now.begin c.args.self.now.made c.args.self.now.time).files name).version < c.args.self.now.begin.first =
+    subst (λ (b : Book _). ((state_of b.begin b.made b.time).files name).version < b.begin.first) c.self.view_is
+    (subst (λ (n : ℕ). n < book.begin.first) (sym (ap (λ (f : File). f.version) here) ∙ ap (λ (f : File). f.version) shown) below) in
     (λ some. absurd (cc some), λ met. absurd (omega (arith, met, unmet)))
 
 pub returns-then-is_met-clause-met : goal.returns-then-is_met-clause-met
@@ -96,14 +97,15 @@ returns-then-is_met-clause-met g c =
     let k = seen c.index-file.result.now ledger.rack.locks number in
     let at : k ≡ get_or kept number k = get_joined ledger.rack.files.items number c.index-file.result.now ledger.rack.locks.files c.index-file.ensures in
     let book = book_of (g.F.Store.notes inside.folder) inside in
-    let here : files_of book.first kept name ≡ file_of k = file_at file_of (never_met ledger.first) kept name number k first at in
-    let shown = shown-file book.opening book.opened book.first book.capacity book.made book.time ledger.last ledger.bytes kept c.self.invariant.0.keeps name in
-    let same : ((state_of c.args.self.now.opening c.args.self.now.opened c.args.self.now.first c.args.self.now.made c.args.self.now.time).files name).version ≡ c.index-file.result.now.version =
-    subst (λ (b : Book _). ((state_of b.opening b.opened b.first b.made b.time).files name).version ≡ c.index-file.result.now.version) c.self.view_is
+    let here : files_of book.begin.first kept name ≡ file_of k = file_at file_of (never_met book.begin.first) kept name number k first at in
+    let shown = shown-file book.begin book.made book.time ledger.last ledger.bytes kept c.self.invariant.0.keeps name in
+    let same : ((state_of c.args.self.now.begin c.args.self.now.made c.args.self.now.time).files name).version ≡ c.index-file.result.now.version =
+    subst (λ (b : Book _). ((state_of b.begin b.made b.time).files name).version ≡ c.index-file.result.now.version) c.self.view_is
     (sym (ap (λ (f : File). f.version) shown) ∙ ap (λ (f : File). f.version) here) in
     let met = c.if-is_met.true in
-    let number : book.first ≡ c.args.self.now.first = ap (λ (b : Book _). b.first) c.self.view_is in
-    (λ some. omega (arith, met, same, number), λ _. refl)
+    let number : book.begin.first ≡ c.args.self.now.begin.first = ap (λ (b : Book _). b.begin.first) c.self.view_is in
+    let own = c.self.invariant.1.first in
+    (λ some. omega (arith, met, same, number, own), λ _. refl)
 
 pub returns-then-is_met-clause-view : goal.returns-then-is_met-clause-view
 returns-then-is_met-clause-view g c =
@@ -116,9 +118,9 @@ returns-then-is_met-clause-view g c =
     let k = seen c.index-file.result.now ledger.rack.locks number in
     let at : k ≡ get_or kept number k = get_joined ledger.rack.files.items number c.index-file.result.now ledger.rack.locks.files c.index-file.ensures in
     let book = book_of (g.F.Store.notes inside.folder) inside in
-    let here : files_of book.first kept name ≡ file_of k = file_at file_of (never_met ledger.first) kept name number k first at in
-    let shown = shown-file book.opening book.opened book.first book.capacity book.made book.time ledger.last ledger.bytes kept c.self.invariant.0.keeps name in
+    let here : files_of book.begin.first kept name ≡ file_of k = file_at file_of (never_met book.begin.first) kept name number k first at in
+    let shown = shown-file book.begin book.made book.time ledger.last ledger.bytes kept c.self.invariant.0.keeps name in
     let torn : torn_in kept name ≡ c.index-file.result.now.torn = file_at (λ (f : Whole). f.torn) false kept name number k first at in
-    subst (λ (b : Book _). IsViewOf c.view_of.result ((state_of b.opening b.opened b.first b.made b.time).files name) (is_torn b.made name)) c.self.view_is
-    (subst (λ (t : Bool). IsViewOf c.view_of.result ((state_of book.opening book.opened book.first book.made book.time).files name) t) (sym torn ∙ c.self.invariant.0.keeps.torn name)
+    subst (λ (b : Book _). IsViewOf c.view_of.result ((state_of b.begin b.made b.time).files name) (is_torn b.made name)) c.self.view_is
+    (subst (λ (t : Bool). IsViewOf c.view_of.result ((state_of book.begin book.made book.time).files name) t) (sym torn ∙ c.self.invariant.0.keeps.torn name)
     (subst (λ (f : File). IsViewOf c.view_of.result f c.index-file.result.now.torn) (ap (λ (f : File). settled f book.time) (sym here) ∙ shown) c.view_of.ensures))

@@ -9,5 +9,5 @@ use Rattle.host_core.proofs.shard.Shard.last.Goals as goal
 pub returns : goal.returns
 returns g c =
     let book = book_of (g.F.Store.notes c.self.inside.folder) c.self.inside in
-    c.self.invariant.0.keeps.last_is ∙ sym (ap (λ (es : List Entry). last_from 0 (stamps es)) (entries_of-tick (items_of book.made) book.time))
-    ∙ ap (λ (b : Book _). last_from 0 (stamps (entries (history_of b.made b.time)))) c.self.view_is
+    c.self.invariant.0.keeps.last_is ∙ sym (ap (λ (es : List Entry). last_from book.begin.last (stamps es)) (entries_of-tick (items_of book.made) book.time))
+    ∙ ap (λ (b : Book _). last_from b.begin.last (stamps (entries (history_of b.made b.time)))) c.self.view_is

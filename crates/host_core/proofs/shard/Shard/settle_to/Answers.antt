@@ -27,6 +27,8 @@ invariant_of-self g c =
       stand = subst (AllStand c.max-self-inside.result) (sym c.settle.ensures.files) (stand_ended ledger.rack.locks.files c.max-self-inside.result);
       spare = omega (arith, more, spare);
       slots = tied.slots;
+      opened = tied.opened;
+      first = tied.first;
       ended = tied.ended;
     })
 

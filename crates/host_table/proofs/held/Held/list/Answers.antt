@@ -20,5 +20,5 @@ returns-in-Ok-clause-shows g c =
     rw (← c.self.view_is) (record {
       shard_is = refl;
       place_is = c.len-place.ensures.count ∙ sym (ap (λ (es : List Entry). length es) (entries-untimed book.made) ∙ steps-long book.made);
-      children_are = children_untimed book.opening book.opened book.first book.made book.time c.in-Ok.children goes.timely c.in-Ok.ensures;
+      children_are = children_untimed book.begin book.made book.time c.in-Ok.children goes.timely c.in-Ok.ensures;
     })

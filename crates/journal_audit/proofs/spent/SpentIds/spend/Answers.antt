@@ -1,4 +1,4 @@
-use Rattle.std.proofs.Common.{◌≡◌, ◌&&◌, ◌||◌, ◌∙◌, ap, sym, Bool, Option, Some}
+use Rattle.std.proofs.Common.{◌&&◌, ◌||◌, ◌∙◌, ap, sym, Bool, Option}
 use Rattle.std.specs.Prelude.{nat_eq}
 use Rattle.wopi_model.specs.declared.locks.Spent.{Spent}
 use Rattle.journal_audit.specs.Spent.{Ends, ends, refused_in, refuses}

@@ -1,6 +1,7 @@
 use Rattle.std.proofs.Common.{◌≡◌, ◌∷◌, ◌++◌, [], codes, decimal, ℕ, refl, sym, ap, ◌∙◌, subst}
 use Rattle.wopi_world.specs.History.{IsNextFirst, after}
 use Rattle.wopi_world.specs.World.{Restarts, comes, first_shard, next_first}
+use Rattle.replay_cmd.specs.Begun.{opening_in}
 use Rattle.replay_cmd.specs.Pasts.{ShowsHosts}
 use Rattle.replay_cmd.specs.Stages.{Shows}
 use Rattle.replay_cmd.proofs.EndedHosts.{hosts_more}
@@ -37,7 +38,7 @@ returns-clause-follows c =
     let pasts = hosts_more (first_shard setting) stage.pasts.items stage.host.shard host.shard world moment first (next_first setting world) leaves shows.host reopens was.pasts in (
       record {
         shows = subst (λ l. Shows setting c.open_at.new.desk host.shard l stage.requests.items stage.replies.items stage.members.items anew) (sym c.in_ok-push-2.ensures.items) shown;
-        pasts = subst (λ l. ShowsHosts (first_shard setting) l host.shard.opening anew.history)
+        pasts = subst (λ l. ShowsHosts (first_shard setting) l (opening_in host.shard.begin) anew.history)
             (ap (λ p. stage.pasts.items ++ p ∷ []) (sym past) ∙ sym c.in_ok-push.ensures.items) pasts;
       },
       c.in_ok-words.ensures ∙ ap (λ (n : ℕ). codes "restarted" ∷ decimal n ∷ [])

@@ -8,7 +8,7 @@ use Rattle.replay_cmd.proofs.watched.Watched.file.Goals as goal
 
 pub returns-clause-met : goal.returns-clause-met
 returns-clause-met c =
-    subst (λ (b : Book (InMemory FaultlessFolder)). IsSome c.file.result ↔ (b.first ≤ (file_in b c.args.name.now).version))
+    subst (λ (b : Book (InMemory FaultlessFolder)). IsSome c.file.result ↔ (b.begin.first ≤ (file_in b c.args.name.now).version))
     (c.shard.ensures ∙ ap (λ (w : Watch (InMemory FaultlessFolder)). w.shard) c.self.view_is) c.file.ensures.met
 
 pub returns-clause-view : goal.returns-clause-view

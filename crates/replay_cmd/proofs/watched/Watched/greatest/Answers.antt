@@ -8,7 +8,7 @@ use Rattle.replay_cmd.proofs.watched.Watched.greatest.Goals as goal
 pub loop-place-init : goal.loop-place-init
 loop-place-init c =
     let book = c.args.self.now.shard in
-    let first : c.self.inside.first ≡ c.args.self.now.shard.first = c.self.invariant.2 ∙ ap (λ (w : Watch (InMemory FaultlessFolder)). w.shard.first) c.self.view_is in
+    let first : c.self.inside.first ≡ c.args.self.now.shard.begin.first = c.self.invariant.2 ∙ ap (λ (w : Watch (InMemory FaultlessFolder)). w.shard.begin.first) c.self.view_is in
     c.saturating_sub-greatest.ensures ∙ ap (λ (n : ℕ). n - 1) (first ∙ sym (state_first book))
 
 pub unreachable-requires : goal.unreachable-requires
@@ -19,5 +19,5 @@ pub loop-place-preserved : goal.loop-place-preserved
 loop-place-preserved c =
     let book = c.args.self.now.shard in
     c.max-greatest.ensures
-    ∙ greatest_next (state_of book.opening book.opened book.first book.made book.time) c.args.names.now c.loop-place.place c.in-Some.name.now c.loop-place.greatest c.size_of-version.result.0
+    ∙ greatest_next (state_of book.begin book.made book.time) c.args.names.now c.loop-place.place c.in-Some.name.now c.loop-place.greatest c.size_of-version.result.0
     c.in-Some.ensures c.size_of-version.ensures.version c.loop-place.invariant

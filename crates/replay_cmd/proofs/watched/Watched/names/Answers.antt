@@ -7,5 +7,5 @@ use Rattle.replay_cmd.proofs.watched.Watched.names.Goals as goal
 
 pub returns : goal.returns
 returns c =
-    subst (λ (b : Book (InMemory FaultlessFolder)). AreNames (state_of b.opening b.opened b.first b.made b.time) c.in_ok-names.names)
+    subst (λ (b : Book (InMemory FaultlessFolder)). AreNames (state_of b.begin b.made b.time) c.in_ok-names.names)
     (c.shard.ensures ∙ ap (λ (w : Watch (InMemory FaultlessFolder)). w.shard) c.self.view_is) c.in_ok-names.ensures

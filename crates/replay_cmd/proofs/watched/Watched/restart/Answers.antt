@@ -2,13 +2,16 @@ use Rattle.std.proofs.Common.{◌≡◌, ◌≤◌, ◌+◌, ◌-◌, ◌^◌, �
 use Rattle.outside.specs.Folder.{Files}
 use Rattle.outside.specs.MemFolder.{contents_of}
 use Rattle.outside.specs.MemFolderParts.{files_in}
+use Rattle.wopi_model.specs.Shard.{Opening}
 use Rattle.host_core.specs.Opening.{IsOpening, IsTooLarge}
 use Rattle.host_core.specs.Value.{Book, InMemory, Agrees, state_of, is_torn, faults_in}
 use Rattle.replay_cmd.specs.declared.faultless.FaultlessFolder.{FaultlessFolder}
+use Rattle.replay_cmd.specs.Begun.{opening_in}
 use Rattle.replay_cmd.specs.Hosts.{Watch, HasFileNames}
 use Rattle.replay_cmd.specs.Pasts.{past_left_by}
 use Rattle.replay_cmd.specs.Starts.{LeavesTooMuch, Reopens}
 use Rattle.replay_cmd.proofs.Anew.{left_over, left_too_much}
+use Rattle.replay_cmd.proofs.NewLives.{opening_is}
 use Rattle.replay_cmd.proofs.Chosen.{of_some, of_none}
 use Rattle.replay_cmd.proofs.watched.Watched.restart.Goals as goal
 
@@ -18,7 +21,7 @@ files f = contents_of (files_in f.folder)
 -- of all names of a folder that tells
 abbrev IsWhole : Book (InMemory FaultlessFolder) → Option ℕ → Type 0
 IsWhole book only =
-    Agrees only (Some (files book.start.folder)) (Some (files book.folder.folder)) (state_of book.opening book.opened book.first book.made book.time).files (is_torn book.made)
+    Agrees only (Some (files book.start.folder)) (Some (files book.folder.folder)) (state_of book.begin book.made book.time).files (is_torn book.made)
 
 whole_folder : (book : Book (InMemory FaultlessFolder)) → book.only ≡ None → IsWhole book book.only → IsWhole book None
 whole_folder book none h = subst (IsWhole book) none h
@@ -36,10 +39,10 @@ returns-clause-reopens c =
     let same = c.end.ensures.same ∙ ap (λ (w : Watch (InMemory FaultlessFolder)). w.shard) c.self.view_is in
     let opens = of_some c.in_ok-opened.opened _ c.in_ok-opened.ensures.opens c.in-Some.host c.in-Some.is in
     let host = c.in-Some.host in
-    let opening : IsOpening None (Some (files book.folder.folder)) host.shard.opening =
-    subst (λ (f : FaultlessFolder). IsOpening None (Some (files f)) host.shard.opening) c.leave-folder.ensures.folder opens.opening in
+    let opening : IsOpening None (Some (files book.folder.folder)) (opening_in host.shard.begin) =
+    subst (λ (f : FaultlessFolder). IsOpening None (Some (files f)) (opening_in host.shard.begin)) c.leave-folder.ensures.folder opens.opening in
     subst (λ (b : Book (InMemory FaultlessFolder)). Reopens b c.args.moment c.args.first host.shard) same
-    (left_over book names (files book.start.folder) (files book.folder.folder) agrees stored host.shard.opening opening c.args.moment c.args.first host.shard refl opens.has lawful.legal)
+    (left_over book names (files book.start.folder) (files book.folder.folder) agrees stored (opening_in host.shard.begin) opening c.args.moment c.args.first host.shard refl opens.has lawful.legal)
 
 pub returns-in_default-clause-none : goal.returns-in_default-clause-none
 returns-in_default-clause-none c =
@@ -55,4 +58,7 @@ returns-in_default-clause-none c =
 
 pub returns-clause-past : goal.returns-clause-past
 returns-clause-past c =
-    c.leave-folder.ensures.past ∙ ap past_left_by (c.end.ensures.same ∙ ap (λ (w : Watch (InMemory FaultlessFolder)). w.shard) c.self.view_is)
+    let book = c.end.result in
+    let listed = opening_is book.begin book.folder.opening book.begin.opened book.begin.first c.leave-folder.ensures.begin in
+    c.leave-folder.ensures.past ∙ ap (λ (o : Opening). record { opening = o; made = book.made; start = book.start.folder }) (sym listed)
+    ∙ ap past_left_by (c.end.ensures.same ∙ ap (λ (w : Watch (InMemory FaultlessFolder)). w.shard) c.self.view_is)

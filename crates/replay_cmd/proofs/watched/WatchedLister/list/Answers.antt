@@ -6,5 +6,5 @@ use Rattle.replay_cmd.proofs.watched.WatchedLister.list.Goals as goal
 
 pub invariant_of-self : goal.invariant_of-self
 invariant_of-self c =
-    subst (λ (b : Book (InMemory FaultlessFolder)). HasGrown c.self.inside.start.value b × IsStamped b × (c.self.inside.first ≡ b.first) × HasFileNames b)
+    subst (λ (b : Book (InMemory FaultlessFolder)). HasGrown c.self.inside.start.value b × IsStamped b × (c.self.inside.first ≡ b.begin.first) × HasFileNames b)
     (sym c.list.ensures.same) c.self.invariant
