@@ -2,6 +2,7 @@
 mod answers;
 mod audits;
 mod chunks;
+mod crowds;
 mod demos;
 mod edit_faults;
 mod edits;
@@ -20,6 +21,7 @@ mod smuggling;
 mod spoiling;
 mod tokens;
 mod upgrades;
+mod watches;
 mod words;
 
 ghost use Rattle.std.specs.Prelude.{◌≡◌, ◌∷◌, IfOk, IsTrue, length};

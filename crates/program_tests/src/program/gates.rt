@@ -30,6 +30,17 @@ fn comes_up(flag: &Flag) -> bool {
     false
 }
 
+/// Waits until a count that threads share is so high, without a limit of its own: on a loaded machine it takes longer. A
+/// test whose count never is so high runs into the limit that each test of the gate has.
+pub fn wait_for(count: &Arc<AtomicU64, Global>, least: u64) {
+    for _ in 0..u64::MAX {
+        if count.load(Ordering::SeqCst) >= least {
+            return;
+        }
+        thread::yield_now();
+    }
+}
+
 /// A folder over another. With flags, a call of `replace` raises the first and waits for the second.
 #[derive(Drop)]
 pub struct GateFolder<F> {

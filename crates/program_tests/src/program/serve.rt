@@ -48,7 +48,10 @@ const TWO_WORKERS: [&str; 6] = [
 pub type MemLink = Pair<MemSource, MemSink>;
 
 /// What `serve` meets in these tests.
-pub type Served<F, L> = Outside<MemSource, MemSink, F, MemListener<L>, ScriptDialer, ScriptClock>;
+pub type Served<F, L> = ServedTo<MemSink, F, L>;
+
+/// The same with an output and notes of this type.
+pub type ServedTo<K, F, L> = Outside<MemSource, K, F, MemListener<L>, ScriptDialer, ScriptClock>;
 
 /// Whether each listener has every link back that it gave.
 fn have_all_back<L: Drop>(listeners: &[MemListener<L>]) -> bool
@@ -58,7 +61,7 @@ fn have_all_back<L: Drop>(listeners: &[MemListener<L>]) -> bool
 }
 
 /// Whether there are 16 folders, and a listener and a clock for each worker.
-fn fits<F, L>(outside: &Served<F, L>, workers: u32) -> bool
+fn fits<K, F, L>(outside: &ServedTo<K, F, L>, workers: u32) -> bool
     ensures { IsTrue result → (length outside.now.folders.items ≡ 16) × (length outside.now.listeners.items ≡ workers) × (length outside.now.clocks.items ≡ workers) }
 {
     if outside.folders.len() != 16 {
@@ -71,12 +74,12 @@ fn fits<F, L>(outside: &Served<F, L>, workers: u32) -> bool
 }
 
 /// Runs `serve` with these words, where it meets what they ask for.
-fn serve_over<R: Threads + Wait + Sync, F: Folder + Send, L: Link + Send + Drop>(
-    rt: &R,
-    alloc: Global,
-    words: &[String],
-    outside: &mut Served<F, L>,
-) -> Result<u8, Fail> {
+fn serve_over<
+    R: Threads + Wait + Sync,
+    K: Sink + Send + Drop,
+    F: Folder + Send,
+    L: Link + Send + Drop,
+>(rt: &R, alloc: Global, words: &[String], outside: &mut ServedTo<K, F, L>) -> Result<u8, Fail> {
     let Some(Command::Serve) = read_words(words) else {
         return Err("words of serve".into());
     };
@@ -93,12 +96,12 @@ fn serve_over<R: Threads + Wait + Sync, F: Folder + Send, L: Link + Send + Drop>
 }
 
 /// The same of words that are given as texts.
-pub fn serve<R: Threads + Wait + Sync, F: Folder + Send, L: Link + Send + Drop>(
-    rt: &R,
-    alloc: Global,
-    list: &[&str],
-    outside: &mut Served<F, L>,
-) -> Result<u8, Fail> {
+pub fn serve<
+    R: Threads + Wait + Sync,
+    K: Sink + Send + Drop,
+    F: Folder + Send,
+    L: Link + Send + Drop,
+>(rt: &R, alloc: Global, list: &[&str], outside: &mut ServedTo<K, F, L>) -> Result<u8, Fail> {
     let words = words_of(alloc, list)?;
     serve_over(rt, alloc, &words, outside)
 }
@@ -394,7 +397,7 @@ fn versions_begin_at_the_number_of_the_words(rt: HostRuntime) -> Result<(), Fail
     Ok(())
 }
 
-const TEN_CALLS: [&str; 8] = [
+pub const TEN_CALLS: [&str; 8] = [
     "serve",
     ".",
     "8880",
@@ -409,7 +412,7 @@ const LOOK: [&str; 4] = ["GET", "", "", ""];
 
 const EIGHT_LOOKS: [[&str; 4]; 8] = [LOOK; 8];
 
-const NINE_LOOKS: [[&str; 4]; 9] = [LOOK; 9];
+pub const NINE_LOOKS: [[&str; 4]; 9] = [LOOK; 9];
 
 const ELEVEN_LOOKS: [[&str; 4]; 11] = [LOOK; 11];
 
