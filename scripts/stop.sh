@@ -141,10 +141,19 @@ run() {
   check 'the notes' '' "$(cat "$room/notes")"
 }
 
+# Until the child runs the host's script and no longer this one, in which bash would hear no SIGQUIT, and would take the
+# room away at another signal.
+wait_for_script() {
+  local own word
+  IFS= read -rd '' own <"/proc/$$/cmdline"
+  while IFS= read -rd '' word <"/proc/$host/cmdline" && [ "$word" = "$own" ]; do :; done
+}
+
 # A signal so many seconds after the start. It ends the host in order, or the script before it has begun one.
 run_early() {
   local signal=$1 ended
   begin_host early
+  wait_for_script
   sleep "$2"
   kill -s "$signal" "$host"
   wait "$host" 2>/dev/null
