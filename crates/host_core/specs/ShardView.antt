@@ -8,6 +8,7 @@ use Rattle.host_core.specs.declared.past.Past.TheInside as past
 use Rattle.host_core.specs.declared.kept.Kept.TheInside as store
 use Rattle.host_core.specs.declared.kept.OpeningFile.{OpeningFile}
 use Rattle.host_core.specs.Notes.{Notes}
+use Rattle.host_core.specs.Facts.{dates_of}
 use Rattle.host_core.specs.Value.{Book, Left, InMemory}
 
 -- the history is what the store noted
@@ -16,6 +17,7 @@ book_of notes s = record {
   only = s.only.value;
   begin = notes.begin;
   limits = kept_limits s.ledger.capacity;
+  dates = dates_of s.ledger.opening.value.items;
   made = notes.made;
   time = s.ledger.time;
   ticked = s.ticked.value;

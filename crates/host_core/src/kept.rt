@@ -183,6 +183,8 @@ fn copy_files(alloc: Global, files: &[KeptFile]) -> Result<Vec<OpeningFile>, Mem
 impl<F: Folder> Folder for Kept<F> {
     ghost files = { λ kept. F.files kept.folder };
 
+    ghost times = { λ kept. F.times kept.folder };
+
     ghost faults = { λ kept. F.faults kept.folder };
 
     fn list(&mut self) -> Result<Names, OutFault> {
@@ -191,6 +193,10 @@ impl<F: Folder> Folder for Kept<F> {
 
     fn read(&mut self, name: &str, most: usize) -> Result<FolderRead, OutFault> {
         self.folder.read(name, most)
+    }
+
+    fn time(&mut self, name: &str) -> Result<Option<u64>, OutFault> {
+        self.folder.time(name)
     }
 
     fn replace(&mut self, name: &str, contents: &[u8]) -> Result<(), OutFault> {

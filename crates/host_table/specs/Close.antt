@@ -82,6 +82,7 @@ module _ {F : Type 0} where
     only = base.only;
     begin = base.begin;
     limits = base.limits;
+    dates = base.dates;
     made = part.made;
     time = last_time base.begin.now part.made;
     ticked = base.ticked;

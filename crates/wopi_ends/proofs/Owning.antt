@@ -1,5 +1,5 @@
 -- What a host makes of a session's request.
-use Rattle.std.proofs.Common.{◌≡◌, ◌≢◌, ◌⊎◌, ◌==◌, ◌&&◌, ℕ, Bool, true, false, if◌then◌else◌, length, List, [], ◌∷◌, ◌++◌, Option, Some, None, unwrap_or, refl, sym, ap, subst, ◌∙◌, inl, inr, arith}
+use Rattle.std.proofs.Common.{◌≡◌, ◌≢◌, ◌⊎◌, ◌==◌, ◌&&◌, ℕ, Bool, true, false, if◌then◌else◌, length, List, [], ◌∷◌, ◌++◌, Option, Some, None, IsSome, unwrap_or, refl, sym, ap, subst, ◌∙◌, inl, inr, arith}
 use Rattle.std.proofs.lemmas.Bool.{cond_both, eqb-true}
 use Rattle.std.specs.Str.{bytes_eq}
 use Rattle.wopi_model.specs.declared.token.Token.{Token}
@@ -27,11 +27,17 @@ use Rattle.wopi_acts.specs.Answers.{ruling_told}
 use Rattle.save_session.specs.Session.{op_of}
 use Rattle.wopi_client.specs.declared.desktop.Desktop.{Desktop}
 use Rattle.host_server.specs.declared.desk.Desk.{Desk}
-use Rattle.host_server.specs.Deeds.{Deed, Made, Blocked, made}
-use Rattle.host_server.specs.Answering.{RuledTo, AnsweredTo, asked_with, unauthorized, ruled, full, copied, refused, asked, contained}
-use Rattle.host_server.specs.Editing.{as_get, asks_head, asks_options, bearer_in, is_head, is_options, joined, judged_as, token_taken}
+use Rattle.host_server.specs.Deeds.{Deed, EditorCall, Made, MadeFor, Blocked, made}
+use Rattle.host_server.specs.declared.knowing.LastSave.{LastSave}
+use Rattle.host_server.specs.Known.{last_known, moment_known, suite_of}
+use Rattle.host_core.specs.declared.facts.Facts.{Facts}
+use Rattle.host_core.specs.Facts.{is_put, made_for}
+use Rattle.wopi_headers.specs.declared.answer.BodyKind.{BodyKind}
+use Rattle.wopi_headers.specs.declared.known.Suite.{Suite}
+use Rattle.host_server.specs.Answering.{RuledTo, AnsweredTo, asked_with, unauthorized, ruled, ruled_for, full, copied, refused, asked, contained}
+use Rattle.host_server.specs.Editing.{Last, last_of, as_get, asks_head, asks_options, bearer_in, is_head, is_options, joined, judged_as, token_taken}
 use Rattle.host_server.specs.Answering as host
-use Rattle.host_server.specs.Telling.{is_info, told_of_to, info_told_to, told_to}
+use Rattle.host_server.specs.Telling.{is_info, info_told_to, told, told_by, told_of, save_told}
 use Rattle.host_server.specs.Turns.{Turn, Said, answer, head, options, no_memory, IsSaid}
 use Rattle.wopi_world.specs.Requests.{Client, Sent, Info, TakeLock, Get, Put, Relock, RefreshLock, Unlock, operation, body, act_sent, call_of}
 use Rattle.wopi_world.specs.Talks.{LooksSame, id_in}
@@ -102,55 +108,57 @@ judged_itself editor q a asks = ap (λ left_out. if left_out then as_get q else 
 never_both : (b : Bool) → b ≡ true → b ≡ false → ⊥
 never_both b holds lacks = let e : true ≡ false = sym holds ∙ lacks in absurd (cc e)
 
--- what is told of a call
+-- what is told of CheckFileInfo's ruling, and of a save's
 
-module _ (editor : Bool) (origin : Option (List ℕ)) (call : Call) (ruling : Ruling) where
-  told_status : (told_of_to editor origin call ruling).status ≡ ruling.status
-  told_status =
-      let P = λ (a : Answer). a.status ≡ ruling.status in
-      let info = info_told_to editor origin call.name call.token ruling in
-      cond_both (is_info call.act) info (ruling_told ruling) P (λ e. info_keeps P (λ k b. refl) refl) (λ e. refl)
-    where
-      info_keeps : (P : Answer → Type 0) → ((k : Rattle.wopi_headers.specs.declared.answer.BodyKind.BodyKind) (b : List ℕ) → P (record (ruling_told ruling) { version = None; kind = k; body = b })) → P (ruling_told ruling) →
-          P (info_told_to editor origin call.name call.token ruling)
-      info_keeps P f g = cond_both (ruling.status == 200) _ (ruling_told ruling) P (λ e. f _ _) (λ e. g)
+module _ (P : Answer → Type 0) (ruling : Ruling) (itself : P (ruling_told ruling)) where
+  info_keeps : ((k : BodyKind) (b : List ℕ) → P (record (ruling_told ruling) { version = None; kind = k; body = b }))
+      → (editor : Bool) (origin : Option (List ℕ)) (last : Option Last) (name : List ℕ) (token : Token) → P (info_told_to editor origin last name token ruling)
+  info_keeps f editor origin last name token = cond_both (ruling.status == 200) _ (ruling_told ruling) P (λ e. f _ _) (λ e. itself)
 
-  told_lock : (told_of_to editor origin call ruling).lock ≡ ruling.lock
-  told_lock =
-      let P = λ (a : Answer). a.lock ≡ ruling.lock in
-      let info = info_told_to editor origin call.name call.token ruling in
-      cond_both (is_info call.act) info (ruling_told ruling) P (λ e. info_keeps P (λ k b. refl) refl) (λ e. refl)
-    where
-      info_keeps : (P : Answer → Type 0) → ((k : Rattle.wopi_headers.specs.declared.answer.BodyKind.BodyKind) (b : List ℕ) → P (record (ruling_told ruling) { version = None; kind = k; body = b })) → P (ruling_told ruling) →
-          P (info_told_to editor origin call.name call.token ruling)
-      info_keeps P f g = cond_both (ruling.status == 200) _ (ruling_told ruling) P (λ e. f _ _) (λ e. g)
-
-  told_reason : (told_of_to editor origin call ruling).reason ≡ ruling.reason
-  told_reason =
-      let P = λ (a : Answer). a.reason ≡ ruling.reason in
-      let info = info_told_to editor origin call.name call.token ruling in
-      cond_both (is_info call.act) info (ruling_told ruling) P (λ e. info_keeps P (λ k b. refl) refl) (λ e. refl)
-    where
-      info_keeps : (P : Answer → Type 0) → ((k : Rattle.wopi_headers.specs.declared.answer.BodyKind.BodyKind) (b : List ℕ) → P (record (ruling_told ruling) { version = None; kind = k; body = b })) → P (ruling_told ruling) →
-          P (info_told_to editor origin call.name call.token ruling)
-      info_keeps P f g = cond_both (ruling.status == 200) _ (ruling_told ruling) P (λ e. f _ _) (λ e. g)
+  save_keeps : ((k : BodyKind) (b : List ℕ) → P (record (ruling_told ruling) { kind = k; body = b })) → (facts : Option Facts) → P (save_told facts ruling)
+  save_keeps f None = itself
+  save_keeps f (Some facts) = cond_both (ruling.status == 200) _ (ruling_told ruling) P (λ e. f _ _) (λ e. itself)
 
 -- a session sees in the answer what the ruling tells
-sees : (editor : Bool) (origin : Option (List ℕ)) (client : Client) (sent : Sent) (ruling : Ruling) → LooksSame (operation sent) (told_of_to editor origin (call_of client sent) ruling) (ruling_told ruling)
-sees editor origin client Info ruling =
-    let call = call_of client Info in
-    record {
-      status = told_status editor origin call ruling;
-      lock = λ conflict. ap id_in (told_lock editor origin call ruling);
-      reason = λ conflict. told_reason editor origin call ruling;
-      text = λ ok. tt;
-    }
-sees editor origin client TakeLock ruling = looks_itself (operation TakeLock) (ruling_told ruling)
-sees editor origin client Get ruling = looks_itself (operation Get) (ruling_told ruling)
-sees editor origin client (Put number contents) ruling = looks_itself (operation (Put number contents)) (ruling_told ruling)
-sees editor origin client (Relock number) ruling = looks_itself (operation (Relock number)) (ruling_told ruling)
-sees editor origin client (RefreshLock number) ruling = looks_itself (operation (RefreshLock number)) (ruling_told ruling)
-sees editor origin client (Unlock number) ruling = looks_itself (operation (Unlock number)) (ruling_told ruling)
+sees_info : (client : Client) (ruling : Ruling) (editor : Bool) (origin : Option (List ℕ)) (last : Option Last) (name : List ℕ) (token : Token)
+    → LooksSame (operation Info) (info_told_to editor origin last name token ruling) (ruling_told ruling)
+sees_info client ruling =
+    info_keeps (λ a. LooksSame (operation Info) a (ruling_told ruling)) ruling (looks_itself (operation Info) (ruling_told ruling))
+    (λ k b. record { status = refl; lock = λ conflict. refl; reason = λ conflict. refl; text = λ ok. tt })
+
+sees_save : (number : ℕ) (contents : List ℕ) (ruling : Ruling) (facts : Option Facts)
+    → LooksSame (operation (Put number contents)) (save_told facts ruling) (ruling_told ruling)
+sees_save number contents ruling =
+    save_keeps (λ a. LooksSame (operation (Put number contents)) a (ruling_told ruling)) ruling (looks_itself (operation (Put number contents)) (ruling_told ruling))
+    (λ k b. record { status = refl; lock = λ conflict. refl; reason = λ conflict. refl; text = λ ok. refl })
+
+sees : (client : Client) (sent : Sent) (ruling : Ruling) → LooksSame (operation sent) (told_of (call_of client sent) ruling) (ruling_told ruling)
+sees client Info ruling = sees_info client ruling false None None client.token.file client.token
+sees client TakeLock ruling = looks_itself (operation TakeLock) (ruling_told ruling)
+sees client Get ruling = looks_itself (operation Get) (ruling_told ruling)
+sees client (Put number contents) ruling = looks_itself (operation (Put number contents)) (ruling_told ruling)
+sees client (Relock number) ruling = looks_itself (operation (Relock number)) (ruling_told ruling)
+sees client (RefreshLock number) ruling = looks_itself (operation (RefreshLock number)) (ruling_told ruling)
+sees client (Unlock number) ruling = looks_itself (operation (Unlock number)) (ruling_told ruling)
+
+-- so it does on a host that serves editors, where its call came in time
+abbrev told_in_time : Option (List ℕ) → Suite → Call → Option Facts → Ruling → Answer
+told_in_time origin suite call facts ruling = told_by origin suite false (is_info call.act) (is_put call.act) call.name call.token facts ruling
+
+sees_in_time : (origin : Option (List ℕ)) (suite : Suite) (client : Client) (sent : Sent) (facts : Option Facts) (ruling : Ruling)
+    → LooksSame (operation sent) (told_in_time origin suite (call_of client sent) facts ruling) (ruling_told ruling)
+sees_in_time origin suite client Info facts ruling = sees_info client ruling true origin (last_of facts) client.token.file client.token
+sees_in_time origin suite client TakeLock facts ruling = looks_itself (operation TakeLock) (ruling_told ruling)
+sees_in_time origin suite client Get facts ruling = looks_itself (operation Get) (ruling_told ruling)
+sees_in_time origin suite client (Put number contents) facts ruling = sees_save number contents ruling facts
+sees_in_time origin suite client (Relock number) facts ruling = looks_itself (operation (Relock number)) (ruling_told ruling)
+sees_in_time origin suite client (RefreshLock number) facts ruling = looks_itself (operation (RefreshLock number)) (ruling_told ruling)
+sees_in_time origin suite client (Unlock number) facts ruling = looks_itself (operation (Unlock number)) (ruling_told ruling)
+
+-- a call that knows of no save comes in time
+in_time : (late : Bool) (knows : Type 0) (P : Type 0) → (late ≡ true → P × knows) → (knows → ⊥) → late ≡ false
+in_time true knows P of_saves none = absurd (none (of_saves refl).1)
+in_time false knows P of_saves none = refl
 
 no_copy : (nonce : List ℕ) (sent : Sent) (target : Target) → op_of nonce (operation sent) ≡ op.PutRelative target → ⊥
 no_copy nonce Info target e = cc
@@ -167,6 +175,8 @@ data Did (client : Client) (sent : Sent) (moment : ℕ) : List Deed → Answer �
   blocked : (call : Call) (m : ℕ) (before later : Rattle.host_core.specs.Caller.Sight) (a : Answer) → a.status ≢ 200 → a.status ≢ 409 → Did client sent moment (Blocked call m before later ∷ []) a
   entered : (entry : Entry) (a : Answer) → entry.call ≡ call_of client sent → entry.moment ≡ moment → LooksSame (operation sent) a (ruling_told entry.ruling) →
       Did client sent moment (Made entry ∷ []) a
+  entered_for : (one : EditorCall) (a : Answer) → one.entry.call ≡ call_of client sent → one.entry.moment ≡ moment → LooksSame (operation sent) a (ruling_told one.entry.ruling) →
+      Did client sent moment (MadeFor one ∷ []) a
 
 fault_ok : (status : ℕ) → status ≡ 500 → status ≢ 200
 fault_ok status is e = omega (arith, is, e)
@@ -203,16 +213,27 @@ module _ (desk : Desk) (desktop : Desktop) (client : Client) (sent : Sent) (at :
   ]
 
   by_ruled : (text contents : List ℕ) (moment : ℕ) (deeds : List Deed) (a : Answer) → IsJudgedBy text → contents ≡ body sent →
-      RuledTo desk.editor desk (record own_ask { token = text }) contents moment deeds a → Did client sent moment deeds a
+      RuledTo desk.editor None desk (record own_ask { token = text }) contents moment deeds a → Did client sent moment deeds a
   by_ruled text contents moment deeds a right is (unauthorized unsigned none told_is) =
       let status : a.status ≡ 401 = ap (λ (x : Answer). x.status) told_is in
       subst (λ (d : List Deed). Did client sent moment d a) (sym none) (nothing a (λ e. omega (arith, status, e)) (λ e. omega (arith, status, e)))
-  by_ruled text contents moment deeds a right is (ruled token wanted entry signed e of one told_is) =
+  by_ruled text contents moment deeds a right is (ruled token wanted entry plain signed e of one told_is) =
       let call : entry.call ≡ call_of client sent = of.0 ∙ own_call contents token wanted is (own_signed text right token signed) e in
-      let looks : LooksSame (operation sent) (told_to desk.editor desk.origin entry) (ruling_told entry.ruling) =
-      subst (λ (c : Call). LooksSame (operation sent) (told_of_to desk.editor desk.origin c entry.ruling) (ruling_told entry.ruling)) (sym call) (sees desk.editor desk.origin client sent entry.ruling) in
+      let looks : LooksSame (operation sent) (told entry) (ruling_told entry.ruling) =
+      subst (λ (c : Call). LooksSame (operation sent) (told_of c entry.ruling) (ruling_told entry.ruling)) (sym call) (sees client sent entry.ruling) in
       subst (λ (d : List Deed). Did client sent moment d a) (sym one)
       (entered entry a call of.1 (subst (λ (x : Answer). LooksSame (operation sent) x (ruling_told entry.ruling)) (sym told_is) looks))
+  by_ruled text contents moment deeds a right is (ruled_for token wanted made_one editors signed e of one told_is) =
+      let ruling = made_one.entry.ruling in
+      let late : made_one.late ≡ false = in_time made_one.late (IsSome (moment_known None)) _ of.of_saves (λ none. absurd none) in
+      let own : host.call_of own_ask token wanted ≡ call_of client sent = own_call contents token wanted is (own_signed text right token signed) e in
+      let call : made_one.entry.call ≡ call_of client sent = of.made ∙ ap (λ (b : Bool). made_for b (host.call_of own_ask token wanted)) late ∙ own in
+      let looks = subst (λ (c : Call). LooksSame (operation sent) (told_in_time desk.origin (suite_of None) c made_one.facts ruling) (ruling_told ruling)) (sym (of.call_is ∙ own))
+      (sees_in_time desk.origin (suite_of None) client sent made_one.facts ruling) in
+      let in_all = subst (λ (b : Bool). LooksSame (operation sent)
+      (told_by desk.origin (suite_of None) b (is_info made_one.call.act) (is_put made_one.call.act) made_one.call.name made_one.call.token made_one.facts ruling) (ruling_told ruling)) (sym late) looks in
+      subst (λ (d : List Deed). Did client sent moment d a) (sym one)
+      (entered_for made_one a call of.moment_is (subst (λ (x : Answer). LooksSame (operation sent) x (ruling_told ruling)) (sym told_is) in_all))
   by_ruled text contents moment deeds a right is (full token wanted before later signed e is_full one told_is) =
       let status : a.status ≡ 500 = ap (λ (x : Answer). x.status) told_is in
       subst (λ (d : List Deed). Did client sent moment d a) (sym one)
@@ -224,19 +245,21 @@ module _ (desk : Desk) (desktop : Desktop) (client : Client) (sent : Sent) (at :
       taken_right desk.editor fields desktop.token
       (λ none. nothing_signed desk.keys client.token (subst (λ (t : List ℕ). IsSigned desk.keys t client.token) none at.token))
 
-  by_answered : (q : Request) (moment : ℕ) (deeds : List Deed) (a : Answer) → AsksFor q own_ask → q.body ≡ body sent →
+  by_answered : (q : Request) (moment : ℕ) (deeds : List Deed) (a : Answer) → last_known desk.editor q.fields ≡ None → AsksFor q own_ask → q.body ≡ body sent →
       ((other : Ask) → AsksFor q other → other ≡ own_ask) → ((s : ℕ) → IsRefusal q s → ⊥) → (IsAtContainers q → ⊥) →
       AnsweredTo desk.editor desk q moment deeds a → Did client sent moment deeds a
-  by_answered q moment deeds a asks is one never away (refused s (inl at) none told_is) = absurd (away at.0)
-  by_answered q moment deeds a asks is one never away (refused s (inr refusal) none told_is) = absurd (never s refusal.1)
-  by_answered q moment deeds a asks is one never away (contained other at asks_other rules) = absurd (away at)
-  by_answered q moment deeds a asks is one never away (asked other asks_other rules) =
+  by_answered q moment deeds a unknown asks is one never away (refused s (inl at) none told_is) = absurd (away at.0)
+  by_answered q moment deeds a unknown asks is one never away (refused s (inr refusal) none told_is) = absurd (never s refusal.1)
+  by_answered q moment deeds a unknown asks is one never away (contained other at asks_other rules) = absurd (away at)
+  by_answered q moment deeds a unknown asks is one never away (asked other asks_other rules) =
       by_ruled (token_taken desk.editor q.fields desktop.token) q.body moment deeds a (own_judged q.fields) is
-      (subst (λ (x : Ask). RuledTo desk.editor desk (asked_with desk.editor q.fields x) q.body moment deeds a) (one other asks_other) rules)
+      (subst (λ (last : Option LastSave). RuledTo desk.editor last desk (asked_with desk.editor q.fields own_ask) q.body moment deeds a) unknown
+      (subst (λ (x : Ask). RuledTo desk.editor (last_known desk.editor q.fields) desk (asked_with desk.editor q.fields x) q.body moment deeds a) (one other asks_other) rules))
 
   by_did : (t : Turn) (deeds : List Deed) (a : Answer) → Did client sent t.moment deeds a → t.part ≡ deeds → t.said ≡ answer a → IsOwnTurn client sent t
   by_did t deeds a (nothing _ ok conflict) part said = unmade (ap made part) (subst TellsNone (sym said) (ok, conflict))
   by_did t deeds a (blocked call m before later _ ok conflict) part said = unmade (ap made part) (subst TellsNone (sym said) (ok, conflict))
+  by_did t deeds a (entered_for one _ call moment looks) part said = makes one.entry (ap made part) call moment (subst (TellsEntry sent one.entry) (sym said) looks)
   by_did t deeds a (entered entry _ call moment looks) part said = makes entry (ap made part) call moment (subst (TellsEntry sent entry) (sym said) looks)
 
   one_of : (part others : List Deed) (deed : Deed) → part ++ others ≡ deed ∷ [] → (part ≡ []) ⊎ (part ≡ deed ∷ [])
@@ -254,21 +277,25 @@ module _ (desk : Desk) (desktop : Desktop) (client : Client) (sent : Sent) (at :
     | inl none ↦ unmade (ap made none) (subst TellsNone (sym said) tt)
     | inr one ↦ unmade (ap made one) (subst TellsNone (sym said) tt)
   ]
+  by_begun t others deeds a (entered_for one _ call moment looks) part said = elim (one_of t.part others (MadeFor one) part) [
+    | inl none ↦ unmade (ap made none) (subst TellsNone (sym said) tt)
+    | inr this ↦ makes one.entry (ap made this) call moment (subst (TellsEntry sent one.entry) (sym said) tt)
+  ]
   by_begun t others deeds a (entered entry _ call moment looks) part said = elim (one_of t.part others (Made entry) part) [
     | inl none ↦ unmade (ap made none) (subst TellsNone (sym said) tt)
     | inr one ↦ makes entry (ap made one) call moment (subst (TellsEntry sent entry) (sym said) tt)
   ]
 
-  pub own_turn : (t : Turn) → AsksFor t.request own_ask → t.request.body ≡ body sent →
+  pub own_turn : (t : Turn) → last_known desk.editor t.request.fields ≡ None → AsksFor t.request own_ask → t.request.body ≡ body sent →
       ((other : Ask) → AsksFor t.request other → other ≡ own_ask) → ((s : ℕ) → IsRefusal t.request s → ⊥) → (IsAtContainers t.request → ⊥) →
       IsSaid desk t.request t.moment t.part t.said → IsOwnTurn client sent t
-  own_turn t asks is one never away said = go t.said refl said
+  own_turn t unknown asks is one never away said = go t.said refl said
     where
       go : (s : Said) → t.said ≡ s → IsSaid desk t.request t.moment t.part s → IsOwnTurn client sent t
-      go (answer a) e h = by_did t t.part a (by_answered t.request t.moment t.part a asks is one never away h.2) refl e
+      go (answer a) e h = by_did t t.part a (by_answered t.request t.moment t.part a unknown asks is one never away h.2) refl e
       go (head a) e h = absurd (never_both (asks_head desk.editor t.request) h.0 (no_head desk.editor t.request own_ask asks))
       go options e h = absurd (never_both (asks_options desk.editor t.request) h.0 (no_options desk.editor t.request own_ask asks))
       go no_memory e (plain, inl none) = unmade (ap made none) (subst TellsNone (sym e) tt)
       go no_memory e (plain, inr more) =
           let told = subst (λ (q : Request). AnsweredTo desk.editor desk q t.moment (t.part ++ more.0) more.1) (judged_itself desk.editor t.request own_ask asks) more.2 in
-          by_begun t more.0 (t.part ++ more.0) more.1 (by_answered t.request t.moment (t.part ++ more.0) more.1 asks is one never away told) refl e
+          by_begun t more.0 (t.part ++ more.0) more.1 (by_answered t.request t.moment (t.part ++ more.0) more.1 unknown asks is one never away told) refl e

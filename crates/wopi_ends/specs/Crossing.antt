@@ -10,6 +10,7 @@ use Rattle.wopi_client.specs.declared.desktop.Desktop.{Desktop}
 use Rattle.wopi_client.specs.Asking.{TellsAnswer}
 use Rattle.host_server.specs.declared.desk.Desk.{Desk}
 use Rattle.host_server.specs.Deeds.{made}
+use Rattle.host_server.specs.Known.{last_known}
 use Rattle.host_server.specs.Turns.{Turn, IsTurn, Said, answer, head, options, no_memory}
 use Rattle.wopi_world.specs.History.{Item, Ran}
 use Rattle.wopi_world.specs.Requests.{Client, Sent, operation, body}
@@ -18,13 +19,14 @@ use Rattle.wopi_ends.specs.Messages.{IsAt, ask_of}
 use Rattle.wopi_ends.specs.Hearing.{Spoken, own, aside}
 
 -- A host answered a message that asks for just what the session's request asks for, with its body, whatever heads lie between; and under
--- its keys the client's token is one.
+-- its keys the client's token is one. To a host that serves editors it says nothing of when the file was last saved, as the client never does.
 pub record IsOwn (desktop : Desktop) (client : Client) (sent : Sent) (t : Turn) : Type 0 where
   pub desk : Desk
   pub turn : IsTurn desk t
   pub at : IsAt desk.keys desktop client
   pub asks : AsksFor t.request (ask_of desktop client sent)
   pub body_is : t.request.body ≡ body sent
+  pub unknown : last_known desk.editor t.request.fields ≡ None
 
 -- What is read is what was said, in all that the session sees of it: the status, of a 409 the lock id and the reason, of a 200 to Get the
 -- version and the body, and of one to Put the version. What else a reply says doesn't count.

@@ -1,6 +1,6 @@
 //! What holds of both ends, as contracts of functions that do nothing.
 ghost use Rattle.std.specs.List.{AllByRecursion};
-ghost use Rattle.std.specs.Prelude.{◌≡◌, ◌++◌, ◌∷◌, ◌<◌, ◌≤◌, ℕ, Bool, List, length, map, Option, Result};
+ghost use Rattle.std.specs.Prelude.{◌≡◌, ◌++◌, ◌∷◌, ◌<◌, ◌≤◌, ℕ, Bool, List, length, map, None, Option, Result};
 ghost use Rattle.outside.specs.declared.dialer.Exchange.{Exchange};
 ghost use Rattle.wopi_http.specs.Limits.{body_limit};
 ghost use Rattle.wopi_http.specs.Replies.{phrase_of};
@@ -26,6 +26,7 @@ ghost use Rattle.host_server.specs.declared.connection.ConnEnd.{ConnEnd};
 ghost use Rattle.host_server.specs.declared.desk.Desk.{Desk};
 ghost use Rattle.host_server.specs.Connection.{IsConnEnd};
 ghost use Rattle.host_server.specs.Deeds.{Deed, made};
+ghost use Rattle.host_server.specs.Known.{last_known};
 ghost use Rattle.host_server.specs.Texts.{answer_text};
 ghost use Rattle.host_server.specs.Turns.{Turn, IsTurn};
 ghost use Rattle.wopi_model.specs.Host.{LegalHost, part_of, opening_of};
@@ -85,12 +86,12 @@ pub fn own_bytes_ask_the_same()
     no_message_begins_another();
 }
 
-/// A message that a host answers, and that asks for what a session's request asks for, with its body,
-/// makes no entry, or the one of the session's call; and the answer looks to the session like what
+/// A message that a host answers, and that asks for what a session's request asks for, with its body, and says nothing to a host that
+/// serves editors of when the file was last saved, makes no entry, or the one of the session's call; and the answer looks to the session like what
 /// tells that entry, or is neither 200 nor 409 where there is none.
 pub fn own_messages_make_own_entries()
     ensures { (desk : Desk) (desktop : Desktop) (client : Client) (sent : Sent) (t : Turn) → IsAt desk.keys desktop client →
-        AsksFor t.request (ask_of desktop client sent) → t.request.body ≡ body sent → IsTurn desk t → IsOwnTurn client sent t }
+        AsksFor t.request (ask_of desktop client sent) → t.request.body ≡ body sent → last_known desk.editor t.request.fields ≡ None → IsTurn desk t → IsOwnTurn client sent t }
 {
     a_request_asks_for_one_thing();
     a_refused_request_asks_for_nothing();
