@@ -92,6 +92,7 @@ fn make_and_tell<C: Caller>(
         Ok(receipt) => ruling_told(alloc, receipt.ruling),
         Err(CallFault::Full(_)) => journal_full(alloc),
         Err(CallFault::Memory(_)) => Err(Memory),
+        Err(CallFault::Lost(_)) => Err(Memory),
     }
 }
 

@@ -1,5 +1,5 @@
 -- What a shard keeps under its lock, as a step is appended to it.
-use Rattle.std.proofs.Common.{◌≡◌, ◌≢◌, ℕ, ◌+◌, ◌≤◌, max, true, false, Option, None, Some, List, [], ◌∷◌, ◌++◌, length, inl, inr, refl, sym, ap, subst, ◌∙◌, arith, length-append}
+use Rattle.std.proofs.Common.{◌≡◌, ◌≢◌, ℕ, ◌+◌, ◌≤◌, max, Bool, true, false, Option, None, Some, List, [], ◌∷◌, ◌++◌, length, inl, inr, refl, sym, ap, subst, ◌∙◌, arith, length-append}
 use Rattle.std.proofs.Math.Nat.{max_comm}
 use Rattle.std.proofs.lemmas.Bool.Decides.{nat_tests}
 use Rattle.outside.specs.Folder.{Files}
@@ -11,7 +11,7 @@ use Rattle.wopi_model.specs.Host.{FullFrom, HasNoCall}
 use Rattle.host_core.specs.declared.caller.Receipt.{Receipt}
 use Rattle.host_core.specs.declared.caller.CallFault.{CallFault}
 use Rattle.host_core.specs.Opening.{IsOfShard}
-use Rattle.host_core.specs.Caller.{entry_of, called_back, IsFullCall}
+use Rattle.host_core.specs.Caller.{entry_of, called_back, IsFullCall, IsLostCall}
 use Rattle.host_core.specs.Entries.{Made, back_of, history_of}
 use Rattle.host_core.specs.LockActs.{is_lock_act}
 use Rattle.host_core.specs.Value.{Book}
@@ -79,7 +79,7 @@ held_adds old new call pass floor moment receipt goes is shard place stamp room 
 pub held_declines : {F : Type 0} (old new : Book F) (call : Call) (floor moment : ℕ) (refusal : CallFault) → GoesByEntries old.begin.now old.made old.time
     → new ≡ record old { folder = new.folder }
     → (IsFullCall refusal → FullFrom old.limits old.begin (history_of old.made old.time) floor call moment) → called_back refusal ≡ call
-    → (is_lock_act call.act ≡ true → IsFullCall refusal) → Declines old new call floor moment refusal
+    → (is_lock_act call.act ≡ true → (IsLostCall refusal → ⊥) → IsFullCall refusal) → Declines old new call floor moment refusal
 held_declines old new call floor moment refusal goes is full handed light = record {
   made = ap (λ (b : Book _). b.made) is;
   full = λ f. full-untimed old.limits old.begin old.made old.time floor call moment goes.timely goes.time_is (full f);
@@ -93,3 +93,8 @@ seen_stays old new start now began count h is alone = record {
   legal = alone (ap (λ (b : Book _). b.ticked) is ∙ h.unticked);
   named = subst (λ (b : Book _). AreNamed b.only b.made) (sym is) h.named;
 }
+
+-- a Bool that is neither
+pub neither : (b : Bool) → (b ≡ true → ⊥) → (b ≡ false → ⊥) → ⊥
+neither true h k = h refl
+neither false h k = k refl

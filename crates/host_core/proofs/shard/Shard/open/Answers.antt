@@ -3,7 +3,7 @@ use Rattle.outside.specs.Folder.{Keeps}
 use Rattle.host_core.specs.Notes.{opening_listed}
 use Rattle.host_core.specs.Value.{Book}
 use Rattle.host_core.proofs.Gathering.{keeps_both}
-use Rattle.host_core.proofs.shard.Shard.start.Goals as goal
+use Rattle.host_core.proofs.shard.Shard.open.Goals as goal
 
 pub returns-in-Ok-take_room-clause-same : goal.returns-in-Ok-take_room-clause-same
 returns-in-Ok-take_room-clause-same g c =
