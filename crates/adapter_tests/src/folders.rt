@@ -3,8 +3,10 @@ use super::failing_files::Stopping;
 use adapters::{Cause, DirFolder, folder_line, too_large_line};
 use outside::{Folder, FolderRead, Names, OutFault};
 use std::cell::Cell;
+use std::fs::File;
 use std::os::unix::fs::{PermissionsExt, symlink};
 use std::test::Fail;
+use std::time::{Duration, UNIX_EPOCH};
 use std::{fs, io};
 
 // Makes an empty folder.
@@ -53,6 +55,26 @@ fn a_real_folder_lists_reads_replaces_and_removes(rt: HostRuntime) -> Result<(),
     assert!(rt; is_lost(folder.cause(), FOLDER));
     assert!(rt; folder.replace("a.txt", b"") == Err(OutFault::Failed));
     assert!(rt; is_lost(folder.cause(), "outside_test_calls/a.txt"));
+    Ok(())
+}
+
+#[test]
+fn a_real_folder_tells_when_a_file_was_changed(rt: HostRuntime) -> Result<(), Fail> {
+    const FOLDER: &str = "outside_test_times";
+    const FILE: &str = "outside_test_times/a.txt";
+    empty_folder(&rt, FOLDER)?;
+    let mut folder = DirFolder::new(rt.alloc(), &rt, FOLDER)?;
+    assert!(rt; folder.time("a.txt")?.is_none());
+    folder.replace("a.txt", b"first")?;
+    let since = Duration::from_millis(1_796_061_909_123);
+    let changed = UNIX_EPOCH.checked_add(since).ok_or("a time")?;
+    let file = File::options().write(true).open(&rt, FILE)?;
+    file.set_modified(changed)?;
+    assert!(rt; folder.time("a.txt")? == Some(1_796_061_909_123));
+    folder.replace("a.txt", b"second")?;
+    assert!(rt; folder.time("a.txt")? != Some(1_796_061_909_123));
+    assert!(rt; folder.time("../outside_test_times/a.txt")?.is_none());
+    fs::remove_dir_all(&rt, FOLDER)?;
     Ok(())
 }
 

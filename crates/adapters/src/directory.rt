@@ -1,9 +1,11 @@
 //! A folder of the file system.
-ghost use Rattle.std.specs.Prelude.{◌≡◌, ◌≤◌, ◌+◌, IsTrue, IfOk, IfSome, None, length, option_map, string_bytes, string_len, string_capacity};
+ghost use Rattle.std.specs.Prelude.{◌≡◌, ◌≤◌, ◌<◌, ◌+◌, IsTrue, IfOk, IfSome, None, length, option_map, string_bytes, string_len, string_capacity};
+ghost use Rattle.wopi_text.specs.Moments.{moments_end};
 ghost use Rattle.outside.specs.Faults.{Rose};
 ghost use Rattle.outside.specs.Folder.{all_differ};
 
 use crate::reading::read_up_to;
+use crate::standard::nearest_moment;
 use outside::{Failed, Folder, FolderRead, Names, OutFault};
 use std::alloc::Global;
 use std::collections::BTreeSet;
@@ -12,6 +14,7 @@ use std::io::{self, ErrorKind, Write};
 use std::mem;
 use std::os::unix::fs::{OpenOptionsExt, PermissionsExt};
 use std::rt::Files;
+use std::time::UNIX_EPOCH;
 use wopi_text::{Bytes, Memory};
 
 // The most bytes of a file's name: beside it `.{name}.tmp` has to be a name too, and the systems'
@@ -145,6 +148,21 @@ impl<'a, R: Files> DirFolder<'a, R> {
         contents_of(self.rt, self.alloc, &self.path, found.len(), most)
     }
 
+    fn time_of(&mut self, name: &str) -> io::Result<Option<u64>>
+        ensures faults { self.new.faults ≡ self.old.faults }
+        ensures moment { IfOk result (λ found. IfSome found (λ moment. moment < moments_end)) }
+    {
+        self.seen = None;
+        if !is_name(name) {
+            return Ok(None);
+        }
+        join(&mut self.path, &self.folder, "", name, "");
+        match plain_file(self.rt, &self.path)? {
+            Some(found) => Ok(Some(last_change(&found))),
+            None => Ok(None),
+        }
+    }
+
     // Up to the rename, which is yet to be made last.
     fn replace_file(&mut self, name: &str, contents: &[u8]) -> io::Result<()>
         ensures { self.new.faults ≡ self.old.faults }
@@ -178,6 +196,8 @@ impl<'a, R: Files> DirFolder<'a, R> {
 impl<'a, R: Files> Folder for DirFolder<'a, R> {
     ghost files = { λ _. None };
 
+    ghost times = { λ _. None };
+
     ghost faults = { λ f. f.faults };
 
     fn list(&mut self) -> Result<Names, OutFault> {
@@ -193,6 +213,13 @@ impl<'a, R: Files> Folder for DirFolder<'a, R> {
     fn read(&mut self, name: &str, most: usize) -> Result<FolderRead, OutFault> {
         match self.read_file(name, most) {
             Ok(read) => Ok(read),
+            Err(error) => Err(self.fault(error)),
+        }
+    }
+
+    fn time(&mut self, name: &str) -> Result<Option<u64>, OutFault> {
+        match self.time_of(name) {
+            Ok(found) => Ok(found),
             Err(error) => Err(self.fault(error)),
         }
     }
@@ -268,6 +295,19 @@ fn plain_file<R: Files>(rt: &R, path: &str) -> io::Result<Option<Metadata>> {
         Ok(_) => Ok(None),
         Err(error) if error.kind() == ErrorKind::NotFound => Ok(None),
         Err(error) => Err(error),
+    }
+}
+
+// When a file was last changed: the nearest moment, and 0 where the system tells no time since 1970.
+fn last_change(found: &Metadata) -> u64
+    ensures { result < moments_end }
+{
+    let Ok(time) = found.modified() else {
+        return 0;
+    };
+    match time.duration_since(UNIX_EPOCH) {
+        Ok(since) => nearest_moment(since.as_millis()),
+        Err(_) => 0,
     }
 }
 
