@@ -88,6 +88,7 @@ Lacks-reason mark (Some reason.Locked) m = letters mark (codes "locked") m refl
 Lacks-reason mark (Some reason.NotLocked) m = letters mark (codes "not-locked") m refl
 Lacks-reason mark (Some reason.Spent) m = letters mark (codes "spent") m refl
 Lacks-reason mark (Some reason.Taken) m = letters mark (codes "taken") m refl
+Lacks-reason mark (Some reason.Changed) m = letters mark (codes "changed") m refl
 
 Lacks-version : (mark : ℕ) (version : Option ℕ) → IsMark mark → MayFit version → Lacks mark (version_text version)
 unfolding version_text

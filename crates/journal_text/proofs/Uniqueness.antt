@@ -68,10 +68,12 @@ same_reason None (Some reason.Locked) e = absurd (omega (arith, ap (λ l. get_or
 same_reason None (Some reason.NotLocked) e = absurd (omega (arith, ap (λ l. get_or l 0 0) e))
 same_reason None (Some reason.Spent) e = absurd (omega (arith, ap (λ l. get_or l 0 0) e))
 same_reason None (Some reason.Taken) e = absurd (omega (arith, ap (λ l. get_or l 0 0) e))
+same_reason None (Some reason.Changed) e = absurd (omega (arith, ap (λ l. get_or l 0 0) e))
 same_reason (Some reason.Locked) (Some reason.Locked) e = refl
 same_reason (Some reason.NotLocked) (Some reason.NotLocked) e = refl
 same_reason (Some reason.Spent) (Some reason.Spent) e = refl
 same_reason (Some reason.Taken) (Some reason.Taken) e = refl
+same_reason (Some reason.Changed) (Some reason.Changed) e = refl
 same_reason _ _ e = absurd (omega (arith, ap (λ l. get_or l 0 0) e))
 
 pub same_overwrite : (may other : Bool) → overwrite_text may ≡ overwrite_text other → may ≡ other

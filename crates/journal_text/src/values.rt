@@ -126,6 +126,9 @@ pub(crate) fn reason_read(word: &[u8]) -> Option<Option<Reason>>
     if is_word(word, b"taken".as_slice()) {
         return Some(Some(Reason::Taken));
     }
+    if is_word(word, b"changed".as_slice()) {
+        return Some(Some(Reason::Changed));
+    }
     None
 }
 

@@ -174,9 +174,11 @@ fn reply_to_unlock(nonce: &Nonce, session: State, goal: Goal, number: u64, reply
     } else if reply.status == 409 {
         match reply.reason {
             Some(Reason::Spent) => ended(session, Outcome::Closed),
-            Some(Reason::Locked) | Some(Reason::NotLocked) | Some(Reason::Taken) | None => {
-                lost(session, reply)
-            }
+            Some(Reason::Locked)
+            | Some(Reason::NotLocked)
+            | Some(Reason::Taken)
+            | Some(Reason::Changed)
+            | None => lost(session, reply),
         }
     } else {
         refused(session, reply)

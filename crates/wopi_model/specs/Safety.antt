@@ -47,6 +47,7 @@ ReasonHolds file asked reason.Spent = presents_spent file.spent asked ≡ true
 ReasonHolds file asked reason.NotLocked = file.lock ≡ None
 ReasonHolds file asked reason.Locked = (held : Lock) × (file.lock ≡ Some held) × (used_lock asked ≢ Some held.id)
 ReasonHolds file asked reason.Taken = (exists file ≡ true) × (contents : List ℕ) × (asked ≡ act.Create false contents)
+ReasonHolds file asked reason.Changed = ⊥
 
 -- a conflict tells the lock that stands, and a reason that holds
 abbrev pub TellsWhy : Shard → Item → Type 0

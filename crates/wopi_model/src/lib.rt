@@ -10,7 +10,7 @@
 //! A shard's life begins over an opening, or goes on from what a part of it left (`Begin`, `Lives`): the laws say that
 //! a history goes on from there as if it had never been cut. A shard over a store that keeps all its calls is full by
 //! what was kept (`FullAt`), and any shard by what is live (`FullFrom`): the bytes of its files, its locks and the ids
-//! that are refused. One law says that the second never comes before the first.
+//! that are refused. One law says of a shard that was opened anew that the second never comes before the first.
 //!
 //! The files of an opening have one version, the shard's `first`, and a name that was never met has
 //! the version below it. So a host that opens again with a number above all its versions goes on with

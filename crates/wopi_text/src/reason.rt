@@ -13,6 +13,8 @@ pub enum Reason {
     Spent,
     /// The name is in use, and the request doesn't ask to overwrite it.
     Taken,
+    /// The file was saved since the moment that the request knows of.
+    Changed,
 }
 
 impl Reason {
@@ -25,6 +27,7 @@ impl Reason {
             Reason::NotLocked => "not locked",
             Reason::Spent => "lock id spent",
             Reason::Taken => "name taken",
+            Reason::Changed => "file changed since",
         }
     }
 
@@ -40,6 +43,8 @@ impl Reason {
             Some(Reason::Spent)
         } else if bytes == b"name taken".as_slice() {
             Some(Reason::Taken)
+        } else if bytes == b"file changed since".as_slice() {
+            Some(Reason::Changed)
         } else {
             None
         }
