@@ -1,3 +1,4 @@
 pub mod Info
 pub mod Json
 pub mod Relative
+pub mod Saved

@@ -6,6 +6,7 @@ use wopi_text::{Bytes, LockField, LockId, Memory, Reason};
 
 mod client;
 mod containers;
+mod editors;
 
 const FILE: &str = "/wopi/files/612e637376";
 

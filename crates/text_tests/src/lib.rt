@@ -14,6 +14,8 @@ mod lines;
 #[cfg(test)]
 mod messages;
 #[cfg(test)]
+mod moments;
+#[cfg(test)]
 mod names;
 #[cfg(test)]
 mod outsides;
