@@ -31,6 +31,9 @@ refused : (b : Bool) → (if b then Refuse 401 else Refuse 404) ≢ Accept
 refused true e = cc
 refused false e = cc
 
+pub absent_differs : (oldest : ℕ) (call : Call) (opened now : ℕ) → is_create call.act ≡ false → decision (settled (never_met oldest) now) call opened now ≢ Accept
+absent_differs oldest call opened now create = λ e. refused (is_unauthorized call opened now) (sym (absent_decision oldest call opened now create) ∙ e)
+
 refused_at : (oldest : ℕ) (b : Bool) (ruling : Ruling) (call : Call) (now : ℕ) → ruling ≡ ruling_of (if b then Refuse 401 else Refuse 404) (settled (never_met oldest) now) call now → (ruling.status == 200 || ruling.status == 500) ≡ false
 refused_at oldest true ruling call now e = ap (λ (r : Ruling). r.status == 200 || r.status == 500) e
 refused_at oldest false ruling call now e = ap (λ (r : Ruling). r.status == 200 || r.status == 500) e
@@ -45,4 +48,4 @@ absent_steps oldest files bytes saved count before call opened now carried fresh
     let is = absent_decision oldest call opened now create in
     skip_steps oldest files files bytes saved saved count count before (length before) k k call opened now carried fresh refl refl refl
     (refused_at oldest (is_unauthorized call opened now) carried.ruling call now (told ∙ ap (λ (x : Decision). ruling_of x (settled (never_met oldest) now) call now) is))
-    (turned_moves files bytes saved count k k call opened now carried d refl (λ e. refused (is_unauthorized call opened now) (sym is ∙ e)) told refl refl refl back)
+    (turned_moves files bytes saved count k k call opened now carried d refl (absent_differs oldest call opened now create) told refl refl refl back)

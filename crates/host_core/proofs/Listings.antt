@@ -70,5 +70,5 @@ single_looks book shard start now began count low lawful =
     subst (λ (n : ℕ). LooksAt (sight_of book) (sight_of book) n) none (record {
       own = refl;
       begins = ([], sym (append-nil (entries ((sight_of book).seen 0))));
-      rest = single_frames book book [] start now began count refl refl refl lawful;
+      rest = single_frames book book [] start now began count refl refl refl refl lawful;
     })

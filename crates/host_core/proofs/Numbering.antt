@@ -12,10 +12,10 @@ use Rattle.host_core.specs.Files.{is_named}
 use Rattle.host_core.specs.Numbers.{named, IsNumbered}
 use Rattle.host_core.specs.Whole.{Whole}
 
-some_is : (a b : ℕ) → Some a ≡ Some b → a ≡ b
+pub some_is : (a b : ℕ) → Some a ≡ Some b → a ≡ b
 some_is a b e = ap (λ (o : Option ℕ). unwrap_or o a) e
 
-some_place : (b : Bool) (p : Option ℕ) (place : ℕ) → (if b then Some 0 else option_map suc p) ≡ Some place → b ≡ false → (q : ℕ) × (p ≡ Some q) × (suc q ≡ place)
+pub some_place : (b : Bool) (p : Option ℕ) (place : ℕ) → (if b then Some 0 else option_map suc p) ≡ Some place → b ≡ false → (q : ℕ) × (p ≡ Some q) × (suc q ≡ place)
 some_place true p place e h = absurd (cc)
 some_place false None place e h = absurd (cc)
 some_place false (Some q) place e h = (q, refl, cc)

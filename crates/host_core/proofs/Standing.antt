@@ -22,6 +22,7 @@ use Rattle.host_core.specs.Whole.{Whole, joined}
 use Rattle.host_core.specs.Entries.{Made, items_of}
 use Rattle.wopi_model.specs.Host.{kept_limits}
 use Rattle.wopi_model.proofs.Histories.{Legal-tick}
+use Rattle.host_core.specs.Facts.{dates_of}
 use Rattle.host_core.specs.Files.{files_of, torn_in}
 use Rattle.host_core.specs.Store.{StoresAs, is_store_call, torn_after, brought}
 use Rattle.host_core.specs.Steps.{TakesStep, ShowsSame}
@@ -230,29 +231,31 @@ lawful book last files bytes start now began count stands = record {
 
 -- the book with a step is that of the parts after it
 pub book_step : {F : Type 0} (book : Book F) (before after : Ledger) (old new : Notes) (call : Call) (pass floor moment : ℕ) (ruling : Ruling) (folder' : F)
-    → book.begin ≡ old.begin → book.limits ≡ kept_limits before.capacity → book.made ≡ old.made → book.time ≡ before.time
+    → book.begin ≡ old.begin → book.limits ≡ kept_limits before.capacity → book.dates ≡ dates_of before.opening.value.items → book.made ≡ old.made → book.time ≡ before.time
     → Takes before after old new call pass floor moment ruling
     → (record book { made = book.made ++ made_by before call pass floor moment ruling ∷ []; time = max book.time moment; folder = folder' })
-    ≡ record { only = book.only; begin = new.begin; limits = kept_limits after.capacity; made = new.made; time = after.time; ticked = book.ticked; start = book.start; folder = folder' }
-book_step book before after old new call pass floor moment ruling folder' begin limits made time takes =
+    ≡ record { only = book.only; begin = new.begin; limits = kept_limits after.capacity; dates = dates_of after.opening.value.items; made = new.made; time = after.time; ticked = book.ticked; start = book.start; folder = folder' }
+book_step book before after old new call pass floor moment ruling folder' begin limits dates made time takes =
     let begin' = begin ∙ sym takes.keeps.begin in
     let limits' = limits ∙ ap kept_limits (sym takes.capacity) in
+    let dates' = dates ∙ sym takes.dates in
     let made' : book.made ++ made_by before call pass floor moment ruling ∷ [] ≡ new.made =
     ap (λ (m : List Made). m ++ made_by before call pass floor moment ruling ∷ []) made ∙ sym takes.entries in
     let time' : max book.time moment ≡ after.time = ap (λ (t : ℕ). max t moment) time ∙ sym takes.time in
-    λ i. record { only = book.only; begin = begin' i; limits = limits' i; made = made' i; time = time' i; ticked = book.ticked; start = book.start; folder = folder' }
+    λ i. record { only = book.only; begin = begin' i; limits = limits' i; dates = dates' i; made = made' i; time = time' i; ticked = book.ticked; start = book.start; folder = folder' }
 
 pub book_stays : {F : Type 0} (book : Book F) (before after : Ledger) (old new : Notes) (folder' : F)
-    → book.begin ≡ old.begin → book.limits ≡ kept_limits before.capacity → book.made ≡ old.made → book.time ≡ before.time
+    → book.begin ≡ old.begin → book.limits ≡ kept_limits before.capacity → book.dates ≡ dates_of before.opening.value.items → book.made ≡ old.made → book.time ≡ before.time
     → Stays before after old new
     → (record book { folder = folder' })
-    ≡ record { only = book.only; begin = new.begin; limits = kept_limits after.capacity; made = new.made; time = after.time; ticked = book.ticked; start = book.start; folder = folder' }
-book_stays book before after old new folder' begin limits made time stays =
+    ≡ record { only = book.only; begin = new.begin; limits = kept_limits after.capacity; dates = dates_of after.opening.value.items; made = new.made; time = after.time; ticked = book.ticked; start = book.start; folder = folder' }
+book_stays book before after old new folder' begin limits dates made time stays =
     let begin' = begin ∙ sym stays.noted.begin in
     let limits' = limits ∙ ap kept_limits (sym stays.capacity) in
+    let dates' = dates ∙ sym stays.dates in
     let made' = made ∙ sym stays.noted.made in
     let time' = time ∙ sym stays.time in
-    λ i. record { only = book.only; begin = begin' i; limits = limits' i; made = made' i; time = time' i; ticked = book.ticked; start = book.start; folder = folder' }
+    λ i. record { only = book.only; begin = begin' i; limits = limits' i; dates = dates' i; made = made' i; time = time' i; ticked = book.ticked; start = book.start; folder = folder' }
 
 pub rose-begin : (began count : ℕ) → began ≤ count → RoseBy began (faults_in []) count
 rose-begin began count le = omega (arith, le)

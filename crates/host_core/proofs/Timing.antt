@@ -115,6 +115,11 @@ found-later begin made time m =
     let before = left_of begin (items_of made) in
     found_timed begin made (max time m) m ∙ begin_later before (max (max time m) m) (max time m) (omega arith) ∙ sym (found_timed begin made time m)
 
+pub found-happened : (b : Bool) (begin : Begin) (made : List Made) (time m : ℕ) → (b ≡ false → GoesByEntries begin.now made time)
+    → found_at begin (happened_of b made (max time m)) m ≡ found_at begin (history_of made time) m
+found-happened true begin made time m goes = found-later begin made time m
+found-happened false begin made time m goes = sym (found-untimed begin made time m (goes refl).timely (goes refl).time_is)
+
 -- fullness looks at the entries, and at what a call finds
 stamp_both : (calls : Option ℕ) (last floor : ℕ) (h k : List Item) → entries h ≡ entries k → HasNoStampFrom calls last h floor → HasNoStampFrom calls last k floor
 stamp_both None last floor h k es full = subst (λ (l : List Entry). 2 ^ 63 - 1 ≤ max floor (last_from last (stamps l))) es full

@@ -40,6 +40,7 @@ pub record ListsAll (count : ℕ) (sight : Sight) (listings : List Listing) : Ty
 pub record Follows (old new : Sight) : Type 0 where
   pub seen : (shard : ℕ) → Extends (entries (old.seen shard)) (entries (new.seen shard))
   pub begins : (shard : ℕ) → new.begins shard ≡ old.begins shard
+  pub dates : (shard : ℕ) → new.dates shard ≡ old.dates shard
   pub home : (name : List ℕ) → new.home name ≡ old.home name
   pub pass : new.pass ≡ old.pass
   pub limits : new.limits ≡ old.limits

@@ -8,6 +8,7 @@ use Rattle.host_core.specs.declared.past.Past.TheInside as past
 use Rattle.host_core.specs.declared.kept.Kept.TheInside as store
 use Rattle.host_core.specs.declared.kept.OpeningFile.{OpeningFile}
 use Rattle.host_core.specs.Notes.{Notes}
+use Rattle.host_core.specs.Facts.{dates_of}
 use Rattle.host_core.specs.Value.{Book, Left, InMemory}
 
 -- the history is what the store noted
@@ -16,6 +17,7 @@ book_of notes s = record {
   only = s.only.value;
   begin = notes.begin;
   limits = kept_limits s.ledger.capacity;
+  dates = dates_of s.ledger.opening.value.items;
   made = notes.made;
   time = s.ledger.time;
   ticked = s.ticked.value;
@@ -27,7 +29,7 @@ abbrev pub files_listed : List OpeningFile → Opening
 files_listed files = map (λ file. (file.name, file.contents)) files
 
 abbrev pub left_of : {F : Type 0} → past.Inside F → Left F
-left_of p = record { opening = files_listed p.opening.items; made = p.entries.items; start = p.start.value.folder }
+left_of p = record { opening = files_listed p.opening.items; dates = p.shard.value.dates; made = p.entries.items; start = p.shard.value.start.folder }
 
 abbrev pub kept_of : {F : Type 0} → store.Inside F → InMemory F
 kept_of k = record {

@@ -101,14 +101,14 @@ impl<F: Folder> Kept<F> {
         folder
     }
 
-    /// Gives the folder, and what was noted by a shard that began with that store and keeps so many bytes. It needs no
+    /// Gives the folder, and what was noted by that shard, which keeps so many bytes. It needs no
     /// memory. Room that nothing took is given up, and where the allocator refuses a smaller piece it stays with what is
     /// left. The shard began a new life with the files of its opening.
-    pub fn end(self, start: Snapshot<Kept<F>>, bytes: u64) -> (F, Past<F>)
+    pub fn end(self, shard: Snapshot<Shard<Kept<F>>>, bytes: u64) -> (F, Past<F>)
         requires { bytes ≡ kept_from self.notes.begin (untimed self.notes.made) }
         ensures folder { result.0 ≡ self.folder }
         ensures begin { self.notes.begin ≡ new_life self.opening self.notes.begin.opened self.notes.begin.first }
-        ensures past { result.1 ≡ record { opening = self.opening; made = self.notes.made; start = start.value.folder } }
+        ensures past { result.1 ≡ record { opening = self.opening; dates = shard.value.dates; made = self.notes.made; start = shard.value.start.folder } }
     {
         let Kept {
             folder,
@@ -124,7 +124,7 @@ impl<F: Folder> Kept<F> {
             opening,
             entries: entries.into_vec(),
             bytes,
-            start,
+            shard,
         };
         (folder, past)
     }
@@ -134,12 +134,13 @@ impl<F: Folder> Kept<F> {
 pub fn leave<F: Folder>(shard: Shard<Kept<F>>) -> (F, Past<F>)
     ensures folder { result.0 ≡ shard.folder.folder }
     ensures begin { shard.begin ≡ new_life shard.folder.opening shard.begin.opened shard.begin.first }
-    ensures past { result.1 ≡ record { opening = shard.folder.opening; made = shard.made; start = shard.start.folder } }
+    ensures past { result.1 ≡ record { opening = shard.folder.opening; dates = shard.dates; made = shard.made; start = shard.start.folder } }
     ensures lawful { IsLawful shard (F.files shard.start.folder) (F.files shard.folder.folder) (F.faults shard.start.folder) (F.faults shard.folder.folder) }
 {
     let bytes = shard.bytes();
-    let (store, start) = shard.end();
-    store.end(start, bytes)
+    let ended = Snapshot::of(&shard);
+    let (store, _start) = shard.end();
+    store.end(ended, bytes)
 }
 
 /// The contents alone.
@@ -183,6 +184,8 @@ fn copy_files(alloc: Global, files: &[KeptFile]) -> Result<Vec<OpeningFile>, Mem
 impl<F: Folder> Folder for Kept<F> {
     ghost files = { λ kept. F.files kept.folder };
 
+    ghost times = { λ kept. F.times kept.folder };
+
     ghost faults = { λ kept. F.faults kept.folder };
 
     fn list(&mut self) -> Result<Names, OutFault> {
@@ -191,6 +194,10 @@ impl<F: Folder> Folder for Kept<F> {
 
     fn read(&mut self, name: &str, most: usize) -> Result<FolderRead, OutFault> {
         self.folder.read(name, most)
+    }
+
+    fn time(&mut self, name: &str) -> Result<Option<u64>, OutFault> {
+        self.folder.time(name)
     }
 
     fn replace(&mut self, name: &str, contents: &[u8]) -> Result<(), OutFault> {

@@ -1,5 +1,5 @@
 //! A shard of the host over a folder.
-ghost use Rattle.std.specs.Prelude.{◌≡◌, ◌≢◌, ◌≤◌, ◌<◌, ◌+◌, ◌^◌, ◌++◌, ◌∷◌, [], length, vec_capacity, max, IfOk, IfErr, IfSome, IsSome, OnOk, OnErr, IsTrue, true, false, ◌↔◌, option_map, slice_get, sum_by, List, ℕ};
+ghost use Rattle.std.specs.Prelude.{◌≡◌, ◌≢◌, ◌≤◌, ◌<◌, ◌+◌, ◌^◌, ◌++◌, ◌∷◌, [], length, vec_capacity, max, IfOk, IfErr, IfSome, IsSome, OnOk, OnErr, IsTrue, true, false, ◌↔◌, option_map, slice_get, sum_by, List, ℕ, map, None, if◌then◌else◌};
 ghost use Rattle.outside.specs.Folder.{Keeps};
 ghost use Rattle.outside.specs.Faults.{Rose};
 ghost use Rattle.wopi_model.specs.Moment.{IsMoment};
@@ -11,17 +11,21 @@ ghost use Rattle.kept_locks.specs.Locks.{unlocked};
 ghost use Rattle.host_core.specs.Stock.{IsStock};
 ghost use Rattle.host_core.specs.Children.{AreChildren};
 ghost use Rattle.host_core.specs.Effects.{begun};
-ghost use Rattle.host_core.specs.Entries.{history_of, back_of};
+ghost use Rattle.host_core.specs.Entries.{history_of, back_of, brought_by};
+ghost use Rattle.host_core.specs.Facts.{dates_of, facts_of, is_info, is_late, look_for, made_for, saved_at};
 ghost use Rattle.host_core.specs.Files.{files_of, torn_in};
 ghost use Rattle.host_core.specs.Ledger.{IsFullFault, handed_back};
 ghost use Rattle.host_core.specs.Fullness.{IsNearlyFull};
 ghost use Rattle.host_core.specs.LockActs.{is_lock_act};
 ghost use Rattle.host_core.specs.Times.{untimed};
 ghost use Rattle.host_core.specs.Turns.{AreAsOf};
-ghost use Rattle.host_core.specs.Opening.{IsFirstVersion, IsOfShard, IsOpening, Fits, IsTooLarge, IfTooLarge};
+ghost use Rattle.host_core.specs.Opening.{AreDatesOf, IsFirstVersion, IsOfShard, IsOpening, Fits, IsTooLarge, IfTooLarge};
 
 use crate::accept::{Carried, begin};
+use crate::carry::brought;
 use crate::children::{Children, children_of};
+use crate::decide::is_info;
+use crate::facts::{Facts, withhold};
 use crate::files::Rack;
 use crate::fullness::are_nine_tenths;
 use crate::ledger::{Ledger, StepFault, take_step};
@@ -37,6 +41,18 @@ use std::marker::Model;
 use std::snapshot::Snapshot;
 use wopi_model::{Call, Ruling};
 use wopi_text::{Bytes, FileName, Memory};
+
+/// A step that was made for an editor, and what its file is like then, if it exists.
+#[derive(Drop)]
+pub struct EditorStep {
+    pub stamp: u64,
+    pub ruling: Ruling,
+    /// The contents of a Put or Create that wasn't accepted.
+    pub back: Option<Bytes>,
+    /// The contents of a Put that came too late, in whose stead the file's lock was looked at.
+    pub late: Option<Bytes>,
+    pub facts: Option<Facts>,
+}
 
 /// The files of one shard, and the store that keeps their contents and notes their history.
 pub struct Shard<F: Store> {
@@ -98,6 +114,7 @@ impl<F: Store> Shard<F> {
           only = only;
           begin = shard.begin;
           limits = kept_limits capacity;
+          dates = shard.dates;
           made = [];
           time = opened;
           ticked = false;
@@ -105,6 +122,8 @@ impl<F: Store> Shard<F> {
           folder = shard.folder;
         }) }
         ensures opening { IfOk result (λ shard. (opening : Opening) × (shard.begin ≡ new_life opening opened first) × IsOpening only (F.files folder) opening × Fits opening) }
+        ensures dates { IfOk result (λ shard. map (λ one. one.0) shard.dates ≡ map (λ one. one.0) shard.begin.files) }
+        ensures told { IfOk result (λ shard. AreDatesOf (F.times folder) shard.dates) }
         ensures same { IfOk result (λ shard. Keeps (F.files folder) (F.files shard.folder)) }
         ensures never_falls { IfOk result (λ shard. F.faults folder ≤ F.faults shard.folder) }
         ensures lawful { IfOk result (λ shard. IsLawful shard (F.files shard.start) (F.files shard.folder) (F.faults shard.start) (F.faults shard.folder)) }
@@ -232,6 +251,188 @@ impl<F: Store> Shard<F> {
         }
     }
 
+    /// The call is a Put that would be accepted at that moment, and the file was last saved at another one than the one that is
+    /// known. Nothing is settled.
+    pub fn is_late(&self, call: &Call, known: Option<u64>, moment: u64) -> bool
+        requires { IsMoment moment }
+        ensures { result ≡ is_late self.now.begin self.now.dates (history_of self.now.made self.now.time) call.now known moment }
+    {
+        let now = self.ledger.time.max(moment);
+        let opened = self.ledger.opened;
+        self.ledger.rack.is_late(call, known, opened, now)
+    }
+
+    /// What is told of the file of a name, if it exists. A digest that is asked for is computed where these contents
+    /// were not asked for theirs before.
+    pub fn facts(&mut self, name: &FileName, digest: bool) -> Option<Facts>
+        ensures facts { result ≡ facts_of digest (saved_at self.old.begin self.old.dates (history_of self.old.made self.old.time) name.now)
+            ((state_of self.old.begin self.old.made self.old.time).files name.now).contents }
+        ensures moment { IfSome result (λ facts. IsMoment facts.saved) }
+        ensures same { self.new ≡ self.old }
+    {
+        self.ledger.rack.facts(name, digest)
+    }
+
+    /// One step for an editor, which knows of the moment at which the file was last saved. A Put that comes too late isn't made:
+    /// the file's lock is looked at in its stead. It gives the stamp, and the contents of such a Put.
+    pub(crate) fn make_for_editor(
+        &mut self,
+        call: &mut Call,
+        known: Option<u64>,
+        pass: u32,
+        floor: u64,
+        moment: u64,
+        carried: &mut Carried,
+    ) -> Result<(u64, Option<Bytes>), StoreRefusal>
+        requires moment { IsMoment moment }
+        requires only { IsOfShard self.old.only call.old.name }
+        requires begun { carried.old ≡ begun }
+        ensures entry { IfOk result (λ step. self.new ≡ record self.old {
+          made = self.old.made ++ record {
+            time = max self.old.time moment;
+            step = record {
+              stamp = step.0;
+              pass = pass;
+              moment = moment;
+              call = made_for (is_late self.old.begin self.old.dates (history_of self.old.made self.old.time) call.old known moment) call.old;
+              ruling = carried.new.ruling;
+            };
+          } ∷ [];
+          time = max self.old.time moment;
+          folder = self.new.folder;
+        }) }
+        ensures stamp { IfOk result (λ step. step.0 ≡ max (last_from self.old.begin.last (stamps (entries (history_of self.old.made self.old.time)))) floor + 1) }
+        ensures late { IfOk result (λ step. step.1 ≡ (if is_late self.old.begin self.old.dates (history_of self.old.made self.old.time) call.old known moment then brought_by call.old.act else None)) }
+        ensures back { OnOk result (carried.new.back ≡ back_of (made_for (is_late self.old.begin self.old.dates (history_of self.old.made self.old.time) call.old known moment) call.old).act carried.new.ruling) }
+        ensures room { OnOk result (FullFrom self.old.limits self.old.begin (history_of self.old.made self.old.time) floor (made_for (is_late self.old.begin self.old.dates (history_of self.old.made self.old.time) call.old known moment) call.old) moment → ⊥) }
+        ensures full { IfErr result (λ why. why ≡ StoreRefusal.Full
+            → FullFrom self.old.limits self.old.begin (history_of self.old.made self.old.time) floor call.old moment) }
+        ensures err { OnErr result (self.new ≡ record self.old { folder = self.new.folder }) }
+        ensures call { OnErr result (call.new ≡ call.old) }
+        ensures light { IfErr result (λ why. is_lock_act call.old.act ≡ true → why ≡ StoreRefusal.Full) }
+        ensures keeps { OnErr result (Keeps (F.files self.old.folder) (F.files self.new.folder)) }
+        ensures never_falls { F.faults self.old.folder ≤ F.faults self.new.folder }
+        ensures fault { OnOk result (carried.new.ruling.status ≡ 500 → Rose (F.faults self.old.folder) (F.faults self.new.folder)) }
+        ensures lawful { IsLawful self.new (F.files self.new.start) (F.files self.new.folder) (F.faults self.new.start) (F.faults self.new.folder) }
+    {
+        let late = self.is_late(call, known, moment);
+        if late {
+            return self.look_in_stead(call, pass, floor, moment, carried);
+        }
+        match self.make(call, pass, floor, moment, carried) {
+            Ok(stamp) => return Ok((stamp, None)),
+            Err(why) => return Err(why),
+        }
+    }
+
+    /// A look at the file's lock, in the stead of a call. It gives the stamp, and the contents that the call brought.
+    fn look_in_stead(
+        &mut self,
+        call: &mut Call,
+        pass: u32,
+        floor: u64,
+        moment: u64,
+        carried: &mut Carried,
+    ) -> Result<(u64, Option<Bytes>), StoreRefusal>
+        requires moment { IsMoment moment }
+        requires only { IsOfShard self.old.only call.old.name }
+        requires begun { carried.old ≡ begun }
+        ensures entry { IfOk result (λ step. self.new ≡ record self.old {
+          made = self.old.made ++ record {
+            time = max self.old.time moment;
+            step = record { stamp = step.0; pass = pass; moment = moment; call = look_for call.old; ruling = carried.new.ruling };
+          } ∷ [];
+          time = max self.old.time moment;
+          folder = self.new.folder;
+        }) }
+        ensures stamp { IfOk result (λ step. step.0 ≡ max (last_from self.old.begin.last (stamps (entries (history_of self.old.made self.old.time)))) floor + 1) }
+        ensures late { IfOk result (λ step. step.1 ≡ brought_by call.old.act) }
+        ensures back { OnOk result (carried.new.back ≡ back_of (look_for call.old).act carried.new.ruling) }
+        ensures room { OnOk result (FullFrom self.old.limits self.old.begin (history_of self.old.made self.old.time) floor (look_for call.old) moment → ⊥) }
+        ensures full { IfErr result (λ why. why ≡ StoreRefusal.Full
+            → FullFrom self.old.limits self.old.begin (history_of self.old.made self.old.time) floor call.old moment) }
+        ensures err { OnErr result (self.new ≡ record self.old { folder = self.new.folder }) }
+        ensures call { OnErr result (call.new ≡ call.old) }
+        ensures light { IfErr result (λ why. is_lock_act call.old.act ≡ true → why ≡ StoreRefusal.Full) }
+        ensures keeps { OnErr result (Keeps (F.files self.old.folder) (F.files self.new.folder)) }
+        ensures never_falls { F.faults self.old.folder ≤ F.faults self.new.folder }
+        ensures fault { OnOk result (carried.new.ruling.status ≡ 500 → Rose (F.faults self.old.folder) (F.faults self.new.folder)) }
+        ensures lawful { IsLawful self.new (F.files self.new.start) (F.files self.new.folder) (F.faults self.new.start) (F.faults self.new.folder) }
+    {
+        let alloc = self.ledger.alloc;
+        let mut act = withhold(call);
+        match self.make(call, pass, floor, moment, carried) {
+            Ok(stamp) => return Ok((stamp, brought(alloc, &mut act))),
+            Err(why) => {
+                call.act = act;
+                return Err(why);
+            }
+        }
+    }
+
+    /// One act of an editor on one file at a moment, which knows of the moment at which the file was last saved. It is `step`, but
+    /// that a Put that comes too late isn't made: the file's lock is looked at in its stead.
+    pub fn step_for_editor(
+        &mut self,
+        call: Call,
+        known: Option<u64>,
+        pass: u32,
+        floor: u64,
+        moment: u64,
+    ) -> Result<EditorStep, StepFault>
+        requires moment { IsMoment moment }
+        requires only { IsOfShard self.old.only call.name }
+        ensures entry { IfOk result (λ step. self.new ≡ record self.old {
+          made = self.old.made ++ record {
+            time = max self.old.time moment;
+            step = record {
+              stamp = step.stamp;
+              pass = pass;
+              moment = moment;
+              call = made_for (is_late self.old.begin self.old.dates (history_of self.old.made self.old.time) call known moment) call;
+              ruling = step.ruling;
+            };
+          } ∷ [];
+          time = max self.old.time moment;
+          folder = self.new.folder;
+        }) }
+        ensures stamp { IfOk result (λ step. step.stamp ≡ max (last_from self.old.begin.last (stamps (entries (history_of self.old.made self.old.time)))) floor + 1) }
+        ensures late { IfOk result (λ step. step.late ≡ (if is_late self.old.begin self.old.dates (history_of self.old.made self.old.time) call known moment then brought_by call.act else None)) }
+        ensures back { IfOk result (λ step. step.back ≡ back_of (made_for (is_late self.old.begin self.old.dates (history_of self.old.made self.old.time) call known moment) call).act step.ruling) }
+        ensures facts { IfOk result (λ step. step.facts ≡ facts_of (is_info call.act) (saved_at self.new.begin self.new.dates (history_of self.new.made self.new.time) call.name)
+            ((state_of self.new.begin self.new.made self.new.time).files call.name).contents) }
+        ensures moment { IfOk result (λ step. IfSome step.facts (λ facts. IsMoment facts.saved)) }
+        ensures room { OnOk result (FullFrom self.old.limits self.old.begin (history_of self.old.made self.old.time) floor (made_for (is_late self.old.begin self.old.dates (history_of self.old.made self.old.time) call known moment) call) moment → ⊥) }
+        ensures full { IfErr result (λ fault. IsFullFault fault
+            → FullFrom self.old.limits self.old.begin (history_of self.old.made self.old.time) floor call moment) }
+        ensures err { OnErr result (self.new ≡ record self.old { folder = self.new.folder }) }
+        ensures call { IfErr result (λ fault. handed_back fault ≡ call) }
+        ensures light { IfErr result (λ fault. is_lock_act call.act ≡ true → IsFullFault fault) }
+        ensures keeps { OnErr result (Keeps (F.files self.old.folder) (F.files self.new.folder)) }
+        ensures never_falls { F.faults self.old.folder ≤ F.faults self.new.folder }
+        ensures fault { IfOk result (λ step. step.ruling.status ≡ 500 → Rose (F.faults self.old.folder) (F.faults self.new.folder)) }
+        ensures lawful { IsLawful self.new (F.files self.new.start) (F.files self.new.folder) (F.faults self.new.start) (F.faults self.new.folder) }
+    {
+        let name = call.name.copy();
+        let digest = is_info(&call.act);
+        let mut call = call;
+        let mut carried = begin();
+        match self.make_for_editor(&mut call, known, pass, floor, moment, &mut carried) {
+            Ok(step) => {
+                let facts = self.facts(&name, digest);
+                return Ok(EditorStep {
+                    stamp: step.0,
+                    ruling: carried.ruling,
+                    back: carried.back,
+                    late: step.1,
+                    facts,
+                });
+            }
+            Err(StoreRefusal::Full) => return Err(StepFault::Full(call)),
+            Err(StoreRefusal::Memory) => return Err(StepFault::Memory(call)),
+        }
+    }
+
     /// Raises the shard's time to a moment, ends the locks that are over by then, and gives the time. It takes no
     /// memory.
     pub fn settle_to(&mut self, moment: u64) -> u64
@@ -355,6 +556,7 @@ impl<F: Store> Shard<F> {
           only = only;
           begin = new_life (opening_listed stock.files.items) opened first;
           limits = kept_limits capacity;
+          dates = dates_of stock.files.items;
           made = [];
           time = opened;
           ticked = false;
@@ -364,6 +566,7 @@ impl<F: Store> Shard<F> {
         ensures lawful { IsLawful result (F.files result.start) (F.files result.folder) (F.faults result.start) (F.faults result.folder) }
     {
         let ticked = Snapshot::of(&false);
+        let opening = Snapshot::of(&stock.files);
         Shard {
             ledger: Ledger {
                 alloc,
@@ -378,6 +581,7 @@ impl<F: Store> Shard<F> {
                     index: stock.index,
                     locks,
                 },
+                opening,
             },
             folder,
             ticked,

@@ -11,6 +11,7 @@ use std::test::Fail;
 use wopi_model::{Act, Call, Ruling, Token, User};
 use wopi_text::{Bytes, FileName, LockField, LockId, Reason};
 
+mod editing;
 mod listing;
 
 /// What is told of a step: its status, the lock, the reason and the version.
@@ -106,7 +107,7 @@ fn folder(alloc: Global, failing: &[u64]) -> Result<MemFolder, Fail> {
     Ok(folder)
 }
 
-/// A caller over a shard of that folder, whose store calls begin with the sixth call.
+/// A caller over a shard of that folder, whose store calls begin with the eighth call.
 fn open(alloc: Global, capacity: u32, failing: &[u64]) -> Result<Single<Kept<MemFolder>>, Fail>
     requires { (1 ≤ capacity) × (capacity ≤ 32768) }
 {
@@ -166,7 +167,7 @@ fn a_save_that_comes_again_after_its_lock_ended_is_refused(rt: HostRuntime) -> R
 #[test]
 fn a_store_fault_leaves_the_file_until_the_next_save(rt: HostRuntime) -> Result<(), Fail> {
     let alloc = rt.alloc();
-    let mut single = open(alloc, 4096, &[6])?;
+    let mut single = open(alloc, 4096, &[8])?;
     let lock = Act::Lock { id: lock_id(&rt) };
     assert!(rt; step(&rt, &mut single, call(&rt, b"a.csv", lock), 0) == ok(1));
     let save = put(alloc, Some(lock_id(&rt)), b"new")?;
@@ -187,7 +188,7 @@ fn a_store_fault_leaves_the_file_until_the_next_save(rt: HostRuntime) -> Result<
 #[test]
 fn a_name_whose_first_store_call_failed_is_no_file(rt: HostRuntime) -> Result<(), Fail> {
     let alloc = rt.alloc();
-    let mut single = open(alloc, 4096, &[6])?;
+    let mut single = open(alloc, 4096, &[8])?;
     let made = call_for(&rt, b"b.csv", b"e.csv", create(alloc, false, b"x")?);
     assert!(rt; step(&rt, &mut single, made, 0) == bare(500));
     let named = name(&rt, b"b.csv");

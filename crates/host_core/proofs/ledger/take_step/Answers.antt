@@ -2,15 +2,19 @@ use Rattle.std.proofs.Common.{inl, inr, ◌≡◌, ◌+◌, ◌<◌, ◌^◌, �
 use Rattle.std.proofs.lemmas.List.{length-append}
 use Rattle.wopi_model.specs.Begin.{Begin}
 use Rattle.host_core.specs.Names.{AreWithin}
+use Rattle.wopi_model.specs.Moment.{IsMoment}
 use Rattle.wopi_model.specs.Settle.{settled}
-use Rattle.host_core.specs.Entries.{Made, asked_as, ruled}
+use Rattle.host_core.specs.Entries.{Made, asked_as, items_of, ruled}
+use Rattle.host_core.specs.Facts.{dates_of}
 use Rattle.host_core.specs.Files.{files_of}
 use Rattle.host_core.specs.Ledger.{files_in, ended_in, made_by}
 use Rattle.host_core.specs.Steps.{TakesStep, IsNoRoomFor}
 use Rattle.host_core.specs.Whole.{joined}
 use Rattle.host_core.proofs.Counting.{counted_fits}
+use Rattle.host_core.proofs.Dating.{dated_push, dated_same}
 use Rattle.host_core.proofs.Decisions.{ruled_status}
 use Rattle.host_core.proofs.Ending.{made_saved}
+use Rattle.host_core.proofs.History.{later_moment}
 use Rattle.host_core.proofs.Turning.{stand_same}
 use Rattle.host_core.proofs.ledger.take_step.Goals as goal
 
@@ -33,6 +37,8 @@ returns-in-Err-clause-tied g c =
       opened = c.requires.tied.opened ∙ sym (ap (λ (b : Begin). b.opened) begin);
       first = c.requires.tied.first ∙ sym (ap (λ (b : Begin). b.first) begin);
       ended = c.give_up.ensures.ended;
+      dated = dated_same c.args.ledger.now.rack.files.items c.step_files.new.self.files.items (dates_of c.args.ledger.now.opening.value.items) old.begin (g.F.Store.notes c.give_up.new.self).begin (items_of old.made) (items_of (g.F.Store.notes c.give_up.new.self).made) c.args.ledger.now.time
+          c.in-Err.ensures.unmarked begin (ap items_of same) c.requires.tied.dated;
     }
 
 pub returns-in-Err-clause-light : goal.returns-in-Err-clause-light
@@ -77,6 +83,7 @@ returns-in-Ok-clause-takes g c =
       time = now;
       opened = refl;
       capacity = refl;
+      dates = refl;
       first = refl;
       few = c.in-Ok.ensures.few;
       within = λ most above h. ok.within most above (subst (λ (t : ℕ). AreWithin most (ended_in before t)) (sym now) h);
@@ -106,6 +113,12 @@ returns-in-Ok-clause-tied g c =
       opened = c.requires.tied.opened ∙ sym (ap (λ (b : Begin). b.opened) begin);
       first = c.requires.tied.first ∙ sym (ap (λ (b : Begin). b.first) begin);
       ended = c.end.ensures.ended;
+      dated =
+          let files = c.args.ledger.now.rack.files.items in
+          let files' = c.step_files.new.self.files.items in
+          let dates = dates_of c.args.ledger.now.opening.value.items in
+          let pushed = dated_push files files' dates old.begin old.made one c.args.ledger.now.time c.max-now.ensures (subst IsMoment (sym c.max-now.ensures) (later_moment c.args.ledger.now.time c.args.moment c.requires.time c.requires.moment)) c.requires.tied.dated c.in-Ok.ensures.marks in
+          dated_same files' files' dates old.begin new.begin (items_of (old.made ++ one ∷ [])) (items_of new.made) c.max-now.result refl begin (ap items_of entries) pushed;
     }
 
 pub returns-in-Ok-clause-room : goal.returns-in-Ok-clause-room

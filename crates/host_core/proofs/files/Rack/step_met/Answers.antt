@@ -1,11 +1,28 @@
-use Rattle.std.proofs.Common.{◌≡◌, ◌≤◌, ◌^◌, ap, arith}
+use Rattle.std.proofs.Common.{◌≡◌, ◌≤◌, ◌^◌, ◌∙◌, ℕ, List, sym, ap, arith}
 use Rattle.std.proofs.lemmas.List.{length-set}
 use Rattle.kept_locks.specs.Locks.{Locks}
 use Rattle.host_core.specs.Whole.{seen, standing_at, joined}
-use Rattle.host_core.proofs.Joining.{get_joined, long_joined}
+use Rattle.host_core.specs.Names.{place_in}
+use Rattle.host_core.proofs.Dating.{marks_set}
+use Rattle.host_core.proofs.Digesting.{set_back}
+use Rattle.host_core.proofs.Joining.{get_joined, long_joined, names_joined}
 use Rattle.host_core.proofs.Meeting.{met_all, met_stopped, place_below, locked_turn, locked_same, within_at}
 use Rattle.host_core.proofs.Numbering.{named_set}
+use Rattle.host_core.proofs.Stocks.{place_at}
 use Rattle.host_core.proofs.files.Rack.step_met.Goals as goal
+
+pub returns-in-Ok-clause-marks : goal.returns-in-Ok-clause-marks
+returns-in-Ok-clause-marks g c =
+    let files = c.args.self.now.files.items in
+    let ss = c.args.self.now.locks.files in
+    let call = c.args.call.now in
+    let at = ap (λ (n : List (List ℕ)). place_in n call.name) (sym (names_joined files ss)) ∙ place_at (joined files ss) call.name c.args.number c.requires.place in
+    marks_set files c.args.number c.index_mut-file.result.now c.step_file.new.file call c.step_file.new.carried.ruling c.args.terms.time at c.index_mut-file.ensures.value
+    (place_below files ss call.name c.args.number c.requires.place) c.in-Ok.ensures.ok.steps.name c.in-Ok.ensures.marks
+
+pub returns-in-Err-clause-unmarked : goal.returns-in-Err-clause-unmarked
+returns-in-Err-clause-unmarked g c =
+    set_back c.args.self.now.files.items c.args.number c.index_mut-file.result.now c.step_file.new.file c.index_mut-file.ensures.value c.in-Err.ensures.unmarked
 
 pub step_file-requires-clause-ready : goal.step_file-requires-clause-ready
 step_file-requires-clause-ready g c =

@@ -1,17 +1,42 @@
-use Rattle.std.proofs.Common.{◌≡◌, ◌-◌, ℕ, List, [], ◌∷◌, ◌++◌, length, sym, ap, subst, ◌∙◌, arith}
+use Rattle.std.proofs.Common.{◌≡◌, ◌==◌, ◌-◌, ℕ, List, [], ◌∷◌, ◌++◌, length, sym, ap, subst, ◌∙◌, arith}
 use Rattle.std.proofs.lemmas.List.{length-map}
 use Rattle.wopi_model.specs.File.{File}
 use Rattle.kept_locks.specs.Locks.{Standing, Locks, all_ended}
 use Rattle.host_core.specs.declared.file.KeptFile.{KeptFile}
+use Rattle.host_core.specs.Facts.{MarksAll}
 use Rattle.host_core.specs.Files.{BeganAtMoment}
 use Rattle.host_core.specs.Numbers.{named, IsNumbered, AreLocked}
 use Rattle.host_core.specs.Steps.{StepsAll}
 use Rattle.host_core.specs.Turns.{Turns}
 use Rattle.host_core.specs.Whole.{seen, standing_at, joined}
+use Rattle.wopi_text.proofs.Disjunctions.{or_none}
+use Rattle.host_core.proofs.Dating.{marks_push, marks_skip, saves_refused, unmet_number}
 use Rattle.host_core.proofs.Light.{create_takes}
 use Rattle.host_core.proofs.Meeting.{push_all, skip_all, skip_bare, still_all, stopped_new, bare_seen, fresh_name, joined_more, locked_more, locked_push, locked_skip}
 use Rattle.host_core.proofs.Numbering.{numbered_push, numbered_back, named_push}
 use Rattle.host_core.proofs.files.Rack.step_new.Goals as goal
+
+pub returns-then-is_met_by-clause-marks : goal.returns-then-is_met_by-clause-marks
+returns-then-is_met_by-clause-marks g c =
+    let kept = c.args.self.now.files.items in
+    let call = c.args.call.now in
+    let ruling = c.step_file.new.carried.ruling in
+    let k = c.unmet-file.result in
+    let k' = c.step_file.new.file in
+    let none = unmet_number kept c.args.self.now.locks.files call.name c.requires.place in
+    let name_is = c.in-Ok-step_file.ensures.ok.steps.name ∙ c.unmet-file.ensures.name ∙ c.copy-name.ensures in
+    let met : c.meet.new.files.items ≡ kept ++ k' ∷ [] = c.meet.ensures ∙ ap (λ (f : List KeptFile). f ++ k' ∷ []) c.make_place.ensures.files in
+    subst (λ (f : List KeptFile). MarksAll kept f call ruling c.args.terms.time) (sym met)
+    (marks_push kept k k' call ruling c.args.terms.time none c.unmet-file.ensures.saved c.unmet-file.ensures.digest name_is c.in-Ok-step_file.ensures.marks)
+
+pub returns-in-Ok-step_file-clause-marks : goal.returns-in-Ok-step_file-clause-marks
+returns-in-Ok-step_file-clause-marks g c =
+    let kept = c.args.self.now.files.items in
+    let call = c.args.call.now in
+    let ruling = c.step_file.new.carried.ruling in
+    let turned = or_none (ruling.status == 200) (ruling.status == 500) (sym c.is_met_by.ensures ∙ c.if-is_met_by.false) in
+    subst (λ (f : List KeptFile). MarksAll kept f call ruling c.args.terms.time) (sym c.make_place.ensures.files)
+    (marks_skip kept call ruling c.args.terms.time (saves_refused call.act ruling turned.0))
 
 pub make_place-requires-clause-fresh : goal.make_place-requires-clause-fresh
 make_place-requires-clause-fresh g c =

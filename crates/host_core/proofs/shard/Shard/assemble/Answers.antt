@@ -7,6 +7,7 @@ use Rattle.wopi_model.proofs.Fullness.{opening-ids}
 use Rattle.host_core.specs.Opening.{IsFirstVersion}
 use Rattle.host_core.specs.Names.{AreWithin}
 use Rattle.host_core.specs.Entries.{Made}
+use Rattle.host_core.specs.Facts.{dates_of}
 use Rattle.host_core.specs.Files.{files_of, torn_in}
 use Rattle.host_core.specs.Notes.{opening_listed}
 use Rattle.host_core.specs.declared.ledger.Ledger.{Ledger}
@@ -17,6 +18,7 @@ use Rattle.host_core.specs.Whole.{Whole, joined}
 use Rattle.host_core.proofs.Joining.{long_joined}
 use Rattle.host_core.specs.Times.{GoesByEntries}
 use Rattle.host_core.proofs.Chaining.{with_chains}
+use Rattle.host_core.proofs.Dating.{dated_start}
 use Rattle.host_core.proofs.History.{keeps-start}
 use Rattle.host_core.proofs.Standing.{rose-begin, lawful}
 use Rattle.host_core.proofs.Starting.{agrees_start, free_joined, free_locked}
@@ -44,11 +46,13 @@ invariant_of-result g c =
       last = 0;
       bytes = stock.bytes;
       rack = record { files = stock.files; index = stock.index; locks = c.args.locks };
+      opening = c.of-opening.result;
     } in
     let book : Book _ = record {
       only = c.of.result.value;
       begin = notes.begin;
       limits = kept_limits c.args.capacity;
+      dates = dates_of c.of-opening.result.value.items;
       made = notes.made;
       time = c.args.opened;
       ticked = c.of-ticked.result.value;
@@ -91,6 +95,7 @@ invariant_of-result g c =
       opened = sym (ap (λ (b : Begin). b.opened) c.requires.listed);
       first = first_is;
       ended = c.requires.ended;
+      dated = dated_start stock.files.items (dates_of c.of-opening.result.value.items) notes.begin notes.made c.args.opened c.requires.made (ap (λ (b : Begin). b.now) c.requires.listed) (ap (λ v. dates_of v.items) c.of-opening.ensures) c.requires.stock.moments c.requires.stock.digests;
     })
 
 pub returns-clause-lawful : goal.returns-clause-lawful

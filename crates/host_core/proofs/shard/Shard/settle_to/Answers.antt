@@ -3,6 +3,7 @@ use Rattle.host_core.specs.Turns.{AllStand}
 use Rattle.host_core.specs.ShardView.{book_of}
 use Rattle.host_core.specs.declared.ledger.Ledger.{Ledger}
 use Rattle.host_core.proofs.Chaining.{with_chains}
+use Rattle.host_core.proofs.Dating.{dated_later}
 use Rattle.host_core.proofs.Standing.{lawful, stands-tick}
 use Rattle.host_core.proofs.Meeting.{locked_ended}
 use Rattle.host_core.proofs.Turning.{stand_ended}
@@ -30,6 +31,7 @@ invariant_of-self g c =
       opened = tied.opened;
       first = tied.first;
       ended = tied.ended;
+      dated = dated_later ledger.rack.files.items _ _ _ ledger.time c.max-self-inside.result (let is = c.max-self-inside.ensures in omega (arith, is)) tied.dated;
     })
 
 pub returns-clause-lawful : goal.returns-clause-lawful

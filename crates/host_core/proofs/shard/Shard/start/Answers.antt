@@ -1,9 +1,23 @@
-use Rattle.std.proofs.Common.{sym, subst, ap}
+use Rattle.std.proofs.Common.{ℕ, List, map, sym, subst, ap, ◌∙◌}
 use Rattle.outside.specs.Folder.{Keeps}
 use Rattle.host_core.specs.Notes.{opening_listed}
+use Rattle.host_core.specs.Opening.{AreDatesOf}
+use Rattle.wopi_model.specs.File.{File}
 use Rattle.host_core.specs.Value.{Book}
+use Rattle.host_core.proofs.Dating.{names_dated}
 use Rattle.host_core.proofs.Gathering.{keeps_both}
 use Rattle.host_core.proofs.shard.Shard.start.Goals as goal
+
+pub returns-in-Ok-take_room-clause-told : goal.returns-in-Ok-take_room-clause-told
+returns-in-Ok-take_room-clause-told g c =
+    subst (λ (b : Book _). AreDatesOf (g.F.Folder.times c.args.folder) b.dates) (sym c.assemble-shard.ensures.value) c.in-Ok.ensures.dates
+
+pub returns-in-Ok-take_room-clause-dates : goal.returns-in-Ok-take_room-clause-dates
+returns-in-Ok-take_room-clause-dates g c =
+    let value = c.assemble-shard.ensures.value in
+    ap (λ (b : Book _). map (λ (one : List ℕ × ℕ). one.0) b.dates) value
+    ∙ names_dated c.in-Ok.stock.files.items c.args.opened c.args.first
+    ∙ sym (ap (λ (b : Book _). map (λ (one : List ℕ × File). one.0) b.begin.files) value)
 
 pub returns-in-Ok-take_room-clause-same : goal.returns-in-Ok-take_room-clause-same
 returns-in-Ok-take_room-clause-same g c =
