@@ -2,7 +2,7 @@
 use Rattle.std.proofs.Common.{◌≡◌, ℕ, suc, ◌+◌, ◌^◌, Option, Some, false, List, [], ◌∷◌, map, length, refl, ap, sym, subst, ◌∙◌, arith}
 use Rattle.std.specs.List.{AllByRecursion}
 use Rattle.atomic_table.specs.Seated.{TableId}
-use Rattle.outside.specs.Folder.{Files}
+use Rattle.outside.specs.Folder.{Files, Times}
 use Rattle.wopi_model.specs.File.{File}
 use Rattle.wopi_model.specs.Begin.{Begin, new_life}
 use Rattle.wopi_model.specs.Host.{Limits}
@@ -45,24 +45,26 @@ module _ {F : Type 0} where
       → IsPassOf (record { locks = locks; bases = bases; opened = opened; first = oldest; limits = limits; made = 1 }) (record { number = 0; last = top (first_seats locks bases); weight = 2 ^ 62; opened = opened; first = oldest; limits = limits; seats = first_seats locks bases })
   of_first opened oldest limits locks bases wide many = record { locks = first_locks locks bases (many ∙ sym wide); bases = first_bases locks bases (many ∙ sym wide) }
 
-module _ {F : Type 0} (files : F → Option Files) (faults : F → ℕ) (opened oldest : ℕ) (limits : Limits) where
-  pub begun_opened : (number : ℕ) (folders : List F) (books : List (Book F)) → AreBegun files faults opened oldest limits number folders books → AreBegun files faults opened oldest limits number folders (map as_opened books)
+module _ {F : Type 0} (files : F → Option Files) (times : F → Option Times) (faults : F → ℕ) (opened oldest : ℕ) (limits : Limits) where
+  pub begun_opened : (number : ℕ) (folders : List F) (books : List (Book F)) → AreBegun files times faults opened oldest limits number folders books → AreBegun files times faults opened oldest limits number folders (map as_opened books)
   begun_opened number [] [] a = tt
   begun_opened number [] (b ∷ books) a = absurd a
   begun_opened number (f ∷ folders) [] a = absurd a
   begun_opened number (f ∷ folders) (b ∷ books) a =
       let life = new_life a.0.stood opened oldest in
-      let is : as_opened b ≡ record { only = Some number; begin = life; limits = limits; made = []; time = opened; ticked = false; start = f; folder = f } = ap as_opened a.0.book in (
+      let is : as_opened b ≡ record { only = Some number; begin = life; limits = limits; dates = b.dates; made = []; time = opened; ticked = false; start = f; folder = f } = ap as_opened a.0.book in (
         record {
           stood = a.0.stood;
-          book = is ∙ (λ i. record { only = Some number; begin = life; limits = limits; made = []; time = opened; ticked = false; start = f; folder = sym (ap start_of a.0.book) i });
+          book = is ∙ (λ i. record { only = Some number; begin = life; limits = limits; dates = b.dates; made = []; time = opened; ticked = false; start = f; folder = sym (ap start_of a.0.book) i });
           opening = a.0.opening;
           fits = a.0.fits;
+          dated = a.0.dated;
+          told = a.0.told;
         },
         begun_opened (number + 1) folders books a.1,
       )
 
-  pub begun_bases : (number : ℕ) (folders : List F) (books : List (Book F)) → AreBegun files faults opened oldest limits number folders books → AreBases opened oldest limits number (map as_opened books)
+  pub begun_bases : (number : ℕ) (folders : List F) (books : List (Book F)) → AreBegun files times faults opened oldest limits number folders books → AreBases opened oldest limits number (map as_opened books)
   begun_bases number [] [] a = tt
   begun_bases number [] (b ∷ books) a = absurd a
   begun_bases number (f ∷ folders) [] a = absurd a
@@ -84,7 +86,7 @@ module _ {F : Type 0} (files : F → Option Files) (faults : F → ℕ) (opened 
       )
 
   -- shards that begin a new life have made no entry before
-  pub begun_top : (number : ℕ) (locks : List TableId) (folders : List F) (books : List (Book F)) → AreBegun files faults opened oldest limits number folders books → top (first_seats locks (map as_opened books)) ≡ 0
+  pub begun_top : (number : ℕ) (locks : List TableId) (folders : List F) (books : List (Book F)) → AreBegun files times faults opened oldest limits number folders books → top (first_seats locks (map as_opened books)) ≡ 0
   begun_top number [] folders books a = refl
   begun_top number (l ∷ locks) [] [] a = refl
   begun_top number (l ∷ locks) [] (b ∷ books) a = absurd a

@@ -21,7 +21,7 @@ use Rattle.host_core.specs.Listing.{IsListing, Lists, LooksAt}
 use Rattle.host_core.specs.Value.{Book}
 use Rattle.host_core.specs.Times.{steps_of, untimed}
 use Rattle.host_table.specs.Histories.{IsSeen}
-use Rattle.host_table.specs.Passes.{Place, PassView, Own, stamp_of, own_of, lock_of, base_of, begin_seen, last_seen, top, seen_at, beginning_at, sight_of, IsBase, Owns, HasOwn, IsSeat, IsPass, HasSeen, IsSamePass}
+use Rattle.host_table.specs.Passes.{Place, PassView, Own, stamp_of, own_of, lock_of, base_of, begin_seen, dates_seen, last_seen, top, seen_at, beginning_at, dates_at, sight_of, IsBase, Owns, HasOwn, IsSeat, IsPass, HasSeen, IsSamePass}
 use Rattle.host_table.specs.Calls.{Calls, Glances, Looks}
 use Rattle.host_table.specs.Sights.{seen_alone}
 use Rattle.host_core.proofs.Timing.{entries-untimed}
@@ -99,6 +99,15 @@ module _ {F : Type 0} (p : PassView F) (k : ℕ) (v w : Place F) (inside : IsPas
     go (suc j) (s ∷ ss) zero x e h b = refl
     go (suc j) (s ∷ ss) (suc n) x e h b = go j ss n x e (omega arith) b
 
+  dates_same : w.base ≡ v.base → (shard : ℕ) → dates_at (slice_get (set p.seats k w) shard) ≡ dates_at (slice_get p.seats shard)
+  dates_same base shard = go shard p.seats k v at here base where
+    go : (j : ℕ) (ss : List (Place F)) (n : ℕ) (x : Place F) → x ≡ get_or ss n x → n < length ss → w.base ≡ x.base → dates_at (slice_get (set ss n w) j) ≡ dates_at (slice_get ss j)
+    go j [] n x e h b = refl
+    go zero (s ∷ ss) zero x e h b = ap dates_seen (b ∙ ap (λ (z : Place F). z.base) e)
+    go zero (s ∷ ss) (suc n) x e h b = refl
+    go (suc j) (s ∷ ss) zero x e h b = refl
+    go (suc j) (s ∷ ss) (suc n) x e h b = go j ss n x e (omega arith) b
+
   -- a seat's own shard is the only one of which more may have been seen
   frames_at : (last : ℕ) (base : Book F) → v.base ≡ Some base → w.base ≡ v.base → IsSeen base w.seen → FramesAt (sight_of p) (sight_of (with_seat p k w last)) k
   frames_at last base based same seen =
@@ -109,6 +118,7 @@ module _ {F : Type 0} (p : PassView F) (k : ℕ) (v w : Place F) (inside : IsPas
       record {
         others = λ shard differ. ap seen_at (get_other p.seats k shard w differ);
         begins = begin_same same;
+        dates = dates_same same;
         home = λ other. refl;
         pass = refl;
         limits = refl;
@@ -305,6 +315,11 @@ module _ {F : Type 0} (p : PassView F) (k : ℕ) (v w : Place F) (inside : IsPas
             room = subst Room home room;
             back = calls.back;
           }
+
+      -- the history that the call found
+      pub makes_found : makes.found ≡ untimed made
+      unfolding makes
+      makes_found = refl
 
     module _ (refusal : CallFault) (looks : Looks v call p.last moment refusal w) where
       abbrev glance : Glances v w

@@ -81,11 +81,12 @@ module _ {F : Type 0} (files : F → Option Files) (faults : F → ℕ) where
       let now : h.begin.now ≡ opened = ap (λ (b : Begin). b.now) t.begin_is ∙ at in
       let time : last_time h.begin.now h.made ≡ h.time = sym goes.time_is in
       let P : Left F × F → Type 0 = λ z. IsEnded files faults opened oldest (as_opened h) z.0 z.1 in
-      let both : (record { opening = h.folder.opening; made = h.made; start = h.start.folder }, h.folder.folder) ≡ (part, folder) = λ i. (sym t.left_is i, sym t.folder_is i) in
-      let Q : ℕ → Type 0 = λ n. IsLawful (record { only = h.only; begin = h.begin; limits = h.limits; made = h.made; time = n; ticked = h.ticked; start = h.start.folder; folder = h.folder.folder }) (files h.start.folder) (files h.folder.folder) (faults h.start.folder) (faults h.folder.folder) in
+      let both : (record { opening = h.folder.opening; dates = h.dates; made = h.made; start = h.start.folder }, h.folder.folder) ≡ (part, folder) = λ i. (sym t.left_is i, sym t.folder_is i) in
+      let Q : ℕ → Type 0 = λ n. IsLawful (record { only = h.only; begin = h.begin; limits = h.limits; dates = h.dates; made = h.made; time = n; ticked = h.ticked; start = h.start.folder; folder = h.folder.folder }) (files h.start.folder) (files h.folder.folder) (faults h.start.folder) (faults h.folder.folder) in
       let was : Q h.time = record { legal = t.lawful.legal; folder = t.lawful.folder; faults = t.lawful.faults; timely = t.lawful.timely; alone = t.lawful.alone } in
       subst P both (record {
         begin = t.begin_is ∙ (λ i. new_life h.folder.opening (at i) (begins i));
+        dates = refl;
         start = refl;
         timely = subst (λ (n : ℕ). IsTimely n h.made) now goes.timely;
         lawful = subst Q (sym time) was;

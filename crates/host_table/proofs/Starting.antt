@@ -1,6 +1,6 @@
 -- Folders that are opened and handed back, one after another.
 use Rattle.std.proofs.Common.{◌≡◌, ℕ, ◌+◌, Option, Some, List, [], ◌∷◌, ◌++◌, map, length, refl, ap, sym, subst, ◌∙◌, append_assoc, arith}
-use Rattle.outside.specs.Folder.{Files}
+use Rattle.outside.specs.Folder.{Files, Times}
 use Rattle.outside.specs.Faults.{Rose}
 use Rattle.wopi_model.specs.Host.{Limits}
 use Rattle.host_core.specs.declared.opening.StartFault.{StartFault}
@@ -33,41 +33,42 @@ module _ {F : Type 0} (files : F → Option Files) (faults : F → ℕ) where
   handed_long (o ∷ olds) [] a = absurd a
   handed_long (o ∷ olds) (n ∷ news) a = let rest = handed_long olds news a.1 in omega arith
 
-  pub begun_push : (opened oldest : ℕ) (limits : Limits) (number n : ℕ) (folders : List F) (bases : List (Book F)) (folder : F) (base : Book F) → n ≡ number + length folders → AreBegun files faults opened oldest limits number folders bases → IsBegun files faults opened oldest limits n folder base
-      → AreBegun files faults opened oldest limits number (folders ++ folder ∷ []) (bases ++ base ∷ [])
+module _ {F : Type 0} (files : F → Option Files) (times : F → Option Times) (faults : F → ℕ) where
+  pub begun_push : (opened oldest : ℕ) (limits : Limits) (number n : ℕ) (folders : List F) (bases : List (Book F)) (folder : F) (base : Book F) → n ≡ number + length folders → AreBegun files times faults opened oldest limits number folders bases → IsBegun files times faults opened oldest limits n folder base
+      → AreBegun files times faults opened oldest limits number (folders ++ folder ∷ []) (bases ++ base ∷ [])
   begun_push opened oldest limits number n [] [] folder base e a is = let here : n ≡ number = omega arith in
-      let P : ℕ → Type 0 = λ z. IsBegun files faults opened oldest limits z folder base in (subst P here is, tt)
+      let P : ℕ → Type 0 = λ z. IsBegun files times faults opened oldest limits z folder base in (subst P here is, tt)
   begun_push opened oldest limits number n [] (b ∷ bases) folder base e a is = absurd a
   begun_push opened oldest limits number n (f ∷ folders) [] folder base e a is = absurd a
   begun_push opened oldest limits number n (f ∷ folders) (b ∷ bases) folder base e a is = (a.0, begun_push opened oldest limits (number + 1) n folders bases folder base (omega arith) a.1 is)
 
-  pub begun_starts : (opened oldest : ℕ) (limits : Limits) (number : ℕ) (folders : List F) (bases : List (Book F)) → AreBegun files faults opened oldest limits number folders bases → map start_of bases ≡ folders
+  pub begun_starts : (opened oldest : ℕ) (limits : Limits) (number : ℕ) (folders : List F) (bases : List (Book F)) → AreBegun files times faults opened oldest limits number folders bases → map start_of bases ≡ folders
   begun_starts opened oldest limits number [] [] a = refl
   begun_starts opened oldest limits number [] (b ∷ bases) a = absurd a
   begun_starts opened oldest limits number (f ∷ folders) [] a = absurd a
   begun_starts opened oldest limits number (f ∷ folders) (b ∷ bases) a =
       let first : b.start ≡ f = ap start_of a.0.book in let rest = begun_starts opened oldest limits (number + 1) folders bases a.1 in λ i. first i ∷ rest i
 
-  pub begun_new : (opened oldest : ℕ) (limits : Limits) (number : ℕ) (folders : List F) (bases : List (Book F)) → AreBegun files faults opened oldest limits number folders bases → AreNew bases
+  pub begun_new : (opened oldest : ℕ) (limits : Limits) (number : ℕ) (folders : List F) (bases : List (Book F)) → AreBegun files times faults opened oldest limits number folders bases → AreNew bases
   begun_new opened oldest limits number [] [] a = tt
   begun_new opened oldest limits number [] (b ∷ bases) a = absurd a
   begun_new opened oldest limits number (f ∷ folders) [] a = absurd a
   begun_new opened oldest limits number (f ∷ folders) (b ∷ bases) a = (ap (λ (z : Book F). z.made) a.0.book, begun_new opened oldest limits (number + 1) folders bases a.1)
 
-  pub begun_long : (opened oldest : ℕ) (limits : Limits) (number : ℕ) (folders : List F) (bases : List (Book F)) → AreBegun files faults opened oldest limits number folders bases → length bases ≡ length folders
+  pub begun_long : (opened oldest : ℕ) (limits : Limits) (number : ℕ) (folders : List F) (bases : List (Book F)) → AreBegun files times faults opened oldest limits number folders bases → length bases ≡ length folders
   begun_long opened oldest limits number [] [] a = refl
   begun_long opened oldest limits number [] (b ∷ bases) a = absurd a
   begun_long opened oldest limits number (f ∷ folders) [] a = absurd a
   begun_long opened oldest limits number (f ∷ folders) (b ∷ bases) a = let rest = begun_long opened oldest limits (number + 1) folders bases a.1 in omega arith
 
-  pub begun_fine : (opened oldest : ℕ) (limits : Limits) (number : ℕ) (folders : List F) (bases : List (Book F)) → AreBegun files faults opened oldest limits number folders bases → HaveOpenings files faults number folders
+  pub begun_fine : (opened oldest : ℕ) (limits : Limits) (number : ℕ) (folders : List F) (bases : List (Book F)) → AreBegun files times faults opened oldest limits number folders bases → HaveOpenings files faults number folders
   begun_fine opened oldest limits number [] [] a = tt
   begun_fine opened oldest limits number [] (b ∷ bases) a = absurd a
   begun_fine opened oldest limits number (f ∷ folders) [] a = absurd a
   begun_fine opened oldest limits number (f ∷ folders) (b ∷ bases) a = ((a.0.stood, a.0.opening, a.0.fits), begun_fine opened oldest limits (number + 1) folders bases a.1)
 
   module _ (opened oldest : ℕ) (limits : Limits) (n : ℕ) (folders done rest rest' : List F) (folder folder' : F) (shards : List (Book F)) (is : folders ≡ done ++ rest) (first : rest ≡ folder ∷ rest')
-      (begun : AreBegun files faults opened oldest limits 0 done shards) (back1 back2 back3 handed : List F) (back0 : List F) (was_empty : back0 ≡ [])
+      (begun : AreBegun files times faults opened oldest limits 0 done shards) (back1 back2 back3 handed : List F) (back0 : List F) (was_empty : back0 ≡ [])
       (gave : back1 ≡ back0 ++ handed) (are : AreHanded files faults (map start_of shards) handed) (pushed : back2 ≡ back1 ++ folder' ∷ []) (moved : back3 ≡ back2 ++ rest') where
     all_is : folders ≡ done ++ folder ∷ rest'
     all_is = is ∙ ap (λ (z : List F). done ++ z) first
@@ -83,7 +84,7 @@ module _ {F : Type 0} (files : F → Option Files) (faults : F → ℕ) where
     refused_handed one =
         let P : List F × List F → Type 0 = λ z. AreHanded files faults z.0 z.1 in
         let both : (done ++ folder ∷ rest', handed ++ folder' ∷ rest') ≡ (folders, back3) = λ i. (sym all_is i, sym back_is i) in
-        subst P both (handed_append done handed (folder ∷ rest') (folder' ∷ rest') done_handed (one, handed_self rest'))
+        subst P both (handed_append files faults done handed (folder ∷ rest') (folder' ∷ rest') done_handed (one, handed_self files faults rest'))
 
     pub refused_blames : (refusal : StartFault) → n ≡ length shards → IfTooLarge refusal (IsTooLarge (Some n) (files folder)) → (refusal ≡ fault.FolderFault → Rose (faults folder) (faults folder')) → IsBlamed files faults folders back3 refusal
     refused_blames refusal number large failed = go refusal large failed where
@@ -101,7 +102,7 @@ module _ {F : Type 0} (files : F → Option Files) (faults : F → ℕ) where
         new = folder';
         others = rest';
         is = back_is;
-        there = handed_long done handed done_handed;
+        there = handed_long files faults done handed done_handed;
         too_large = subst (λ (k : ℕ). IfTooLarge r (IsTooLarge (Some k) (files folder))) count l;
         failed = f;
       }

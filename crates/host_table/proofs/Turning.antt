@@ -8,17 +8,20 @@ use Rattle.wopi_model.specs.declared.calls.Call.{Call}
 use Rattle.wopi_model.specs.Host.{FullFrom}
 use Rattle.host_core.specs.declared.caller.Receipt.{Receipt}
 use Rattle.host_core.specs.declared.caller.CallFault.{CallFault}
+use Rattle.host_core.specs.declared.caller.EditorReceipt.{EditorReceipt}
 use Rattle.host_core.specs.Caller.{entry_of, IsFullCall, next_stamp}
 use Rattle.host_core.specs.declared.listing.Listing.{Listing}
 use Rattle.host_core.specs.Fullness.{IsNearlyFull}
 use Rattle.host_core.specs.Listing.{IsListing}
 use Rattle.host_core.specs.Entries.{Made}
+use Rattle.host_core.specs.Facts.{made_for}
 use Rattle.host_core.specs.Value.{Book}
 use Rattle.host_core.specs.Times.{untimed}
+use Rattle.host_table.specs.Editors.{TellsEditor}
 use Rattle.host_table.specs.Histories.{last_stamp, as_opened, IsSeen}
-use Rattle.host_table.specs.Held.{Adds, Declines}
+use Rattle.host_table.specs.Held.{Adds, AddsForEditor, Declines}
 use Rattle.host_table.specs.Passes.{Place, begin_seen, last_seen}
-use Rattle.host_table.specs.Calls.{Calls, Glances, Looks}
+use Rattle.host_table.specs.Calls.{Calls, CallsForEditor, Glances, Looks}
 
 places_one : (made : List Made) (one : Made) → places_behind made (made ++ one ∷ []) ≡ length made ∷ []
 places_one made one = let n : length (made ++ one ∷ []) - length made ≡ 1 = omega (arith, length-append made (one ∷ [])) in ap (places_from (length made)) n
@@ -30,6 +33,12 @@ places_none made = let n : length made - length made ≡ 0 = omega arith in ap (
 pub grown : {F : Type 0} (old new : Book F) (call : Call) (pass floor moment : ℕ) (answer : Result Receipt CallFault) → IfOk answer (Adds old new call pass floor moment) → IfErr answer (Declines old new call floor moment) → IsPrefix old.made new.made
 grown old new call pass floor moment (Ok receipt) adds declines = (record { time = adds.time; step = entry_of pass call moment receipt } ∷ [], sym adds.made)
 grown old new call pass floor moment (Err refusal) adds declines = ([], append-nil old.made ∙ sym declines.made)
+
+-- and so does an editor's
+pub grown_for_editor : {F : Type 0} (old new : Book F) (call : Call) (known : Option ℕ) (pass floor moment : ℕ) (answer : Result EditorReceipt CallFault) → IfOk answer (AddsForEditor old new call known pass floor moment) → IfErr answer (Declines old new call floor moment)
+    → IsPrefix old.made new.made
+grown_for_editor old new call known pass floor moment (Ok told) edits declines = (record { time = edits.adds.time; step = entry_of pass (made_for edits.late call) moment told.receipt } ∷ [], sym edits.adds.made)
+grown_for_editor old new call known pass floor moment (Err refusal) edits declines = ([], append-nil old.made ∙ sym declines.made)
 
 -- the seat after the turn, by what it was before
 pub given_back : {F : Type 0} (v t w : Place F) (old new : Book F) → t ≡ record { lock = v.lock; seen = v.seen; own = v.own; weight = v.weight; base = v.base; taken = Some old.made }
@@ -77,6 +86,20 @@ made_call v w old new call pass floor moment receipt free based begins is adds =
       room = subst P (sym begins.1) adds.room;
       back = adds.back;
       same = is ∙ (λ i. record { lock = v.lock; seen = sym seen i; own = own i; weight = v.weight; base = v.base; taken = sym free i });
+    }
+
+pub edited_call : {F : Type 0} (v w : Place F) (old new : Book F) (call : Call) (known : Option ℕ) (pass floor moment : ℕ) (answer : EditorReceipt) → v.taken ≡ None → v.base ≡ Some (as_opened old) → IsPrefix v.seen old.made
+    → w ≡ record { lock = v.lock; seen = new.made; own = v.own ++ added_places (Some old.made) new.made; weight = v.weight; base = v.base; taken = None }
+    → AddsForEditor old new call known pass floor moment answer → CallsForEditor v call known pass floor moment answer w
+unfolding made_call
+edited_call v w old new call known pass floor moment answer free based begins is edits =
+    let P : List Made × List Made → Type 0 = λ z. TellsEditor old.begin old.dates (untimed z.0) (untimed z.1) call known moment edits.late answer in
+    let seen : w.seen ≡ new.made = ap (λ (p : Place _). p.seen) is in
+    let both : (old.made, new.made) ≡ (v.seen ++ begins.0, w.seen) = λ i. (sym begins.1 i, sym seen i) in
+    record {
+      late = edits.late;
+      calls = made_call v w old new (made_for edits.late call) pass floor moment answer.receipt free based begins is edits.adds;
+      tells = subst P both edits.tells;
     }
 
 -- a turn that adds no entry

@@ -1,15 +1,18 @@
 -- A call in one shard, as its seat sees it. (Own.)
-use Rattle.std.specs.Prelude.{◌≡◌, ℕ, List, [], ◌∷◌, ◌++◌, length, Some, true}
+use Rattle.std.specs.Prelude.{◌≡◌, ℕ, Bool, true, List, [], ◌∷◌, ◌++◌, length, Option, Some}
 use mathlib.Core.List.{IsPrefix}
 use Rattle.wopi_model.specs.declared.calls.Call.{Call}
 use Rattle.wopi_model.specs.Host.{FullFrom}
 use Rattle.host_core.specs.declared.caller.Receipt.{Receipt}
 use Rattle.host_core.specs.declared.caller.CallFault.{CallFault}
+use Rattle.host_core.specs.declared.caller.EditorReceipt.{EditorReceipt}
 use Rattle.host_core.specs.Caller.{entry_of, called_back, IsFullCall, next_stamp}
 use Rattle.host_core.specs.Entries.{Made, back_of}
+use Rattle.host_core.specs.Facts.{made_for}
 use Rattle.host_core.specs.LockActs.{is_lock_act}
 use Rattle.host_core.specs.Value.{Book}
 use Rattle.host_core.specs.Times.{untimed}
+use Rattle.host_table.specs.Editors.{TellsEditor}
 use Rattle.host_table.specs.Passes.{Place}
 
 -- The history so far was seen, which begins with what had been seen, and no entry was made.
@@ -40,3 +43,9 @@ module _ {F : Type 0} (v : Place F) (call : Call) where
     pub full : IsFullCall refusal → FullFrom glances.base.limits glances.base.begin (untimed w.seen) floor call moment
     pub handed : called_back refusal ≡ call
     pub light : is_lock_act call.act ≡ true → IsFullCall refusal
+
+-- an editor's call made an entry: its own, or a look at the file's lock where it is a Put that comes too late
+pub record CallsForEditor {F : Type 0} (v : Place F) (call : Call) (known : Option ℕ) (pass floor moment : ℕ) (answer : EditorReceipt) (w : Place F) : Type 0 where
+  pub late : Bool
+  pub calls : Calls v (made_for late call) pass floor moment answer.receipt w
+  pub tells : TellsEditor calls.base.begin calls.base.dates (untimed (v.seen ++ calls.between)) (untimed w.seen) call known moment late answer

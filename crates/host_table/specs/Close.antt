@@ -82,6 +82,7 @@ module _ {F : Type 0} where
     only = base.only;
     begin = base.begin;
     limits = base.limits;
+    dates = base.dates;
     made = part.made;
     time = last_time base.begin.now part.made;
     ticked = base.ticked;
@@ -104,6 +105,7 @@ module _ {F : Type 0} (files : F → Option Files) (faults : F → ℕ) where
   -- entries leave, and its count rose by each store call that failed.
   pub record IsEnded (opened first : ℕ) (base : Book (InMemory F)) (part : Left F) (folder : F) : Type 0 where
     pub begin : base.begin ≡ new_life part.opening opened first
+    pub dates : base.dates ≡ part.dates
     pub start : part.start ≡ base.start.folder
     pub timely : IsTimely opened part.made
     pub lawful : IsLawful (ended_book base part folder) (files part.start) (files folder) (faults part.start) (faults folder)

@@ -1,16 +1,19 @@
 -- A shard of a host, as it lies under its lock. (Own.)
-use Rattle.std.specs.Prelude.{◌≡◌, ⊤, ℕ, ◌≤◌, true, false, [], ◌∷◌, ◌++◌, length, Option, None, Some}
+use Rattle.std.specs.Prelude.{◌≡◌, ⊤, ℕ, ◌≤◌, Bool, true, false, [], ◌∷◌, ◌++◌, length, Option, None, Some}
 use Rattle.outside.specs.Folder.{Files, Keeps}
 use Rattle.wopi_model.specs.declared.calls.Call.{Call}
 use Rattle.wopi_model.specs.Begin.{new_life}
 use Rattle.wopi_model.specs.Host.{FullFrom}
 use Rattle.host_core.specs.declared.caller.Receipt.{Receipt}
 use Rattle.host_core.specs.declared.caller.CallFault.{CallFault}
+use Rattle.host_core.specs.declared.caller.EditorReceipt.{EditorReceipt}
 use Rattle.host_core.specs.Caller.{entry_of, called_back, IsFullCall, next_stamp}
 use Rattle.host_core.specs.Entries.{back_of}
+use Rattle.host_core.specs.Facts.{made_for}
 use Rattle.host_core.specs.LockActs.{is_lock_act}
 use Rattle.host_core.specs.Value.{Book, InMemory, Left, IsLawful}
 use Rattle.host_core.specs.Times.{untimed}
+use Rattle.host_table.specs.Editors.{TellsEditor}
 use Rattle.host_table.specs.Histories.{AreNamed}
 
 -- no more entries than the store takes, where it bounds them
@@ -36,6 +39,12 @@ pub record Adds {F : Type 0} (old new : Book F) (call : Call) (pass floor moment
   pub room : FullFrom old.limits old.begin (untimed old.made) floor call moment → ⊥
   pub back : receipt.back ≡ back_of call.act receipt.ruling
 
+-- an editor's call that made an entry: its own, or a look at the file's lock where it is a Put that comes too late
+pub record AddsForEditor {F : Type 0} (old new : Book F) (call : Call) (known : Option ℕ) (pass floor moment : ℕ) (answer : EditorReceipt) : Type 0 where
+  pub late : Bool
+  pub adds : Adds old new (made_for late call) pass floor moment answer.receipt
+  pub tells : TellsEditor old.begin old.dates (untimed old.made) (untimed new.made) call known moment late answer
+
 -- a call that made none
 pub record Declines {F : Type 0} (old new : Book F) (call : Call) (floor moment : ℕ) (refusal : CallFault) : Type 0 where
   pub made : new.made ≡ old.made
@@ -45,7 +54,7 @@ pub record Declines {F : Type 0} (old new : Book F) (call : Call) (floor moment 
 
 -- what a shard leaves, and its folder as the last step left it
 pub record IsTakenApart {F : Type 0} (files : F → Option Files) (faults : F → ℕ) (book : Book (InMemory F)) (left : Left F) (folder : F) : Type 0 where
-  pub left_is : left ≡ record { opening = book.folder.opening; made = book.made; start = book.start.folder }
+  pub left_is : left ≡ record { opening = book.folder.opening; dates = book.dates; made = book.made; start = book.start.folder }
   pub folder_is : folder ≡ book.folder.folder
   pub begin_is : book.begin ≡ new_life book.folder.opening book.begin.opened book.begin.first
   pub held : IsHeld book (files book.start.folder) (files book.folder.folder) (faults book.start.folder) (faults book.folder.folder)

@@ -15,6 +15,7 @@ use Rattle.wopi_model.specs.Shard.{Item, Entry, RisesFrom, entries, stamps}
 use Rattle.host_core.specs.Opening.{IsFirstVersion, MayKeep}
 use Rattle.host_core.specs.Entries.{Made}
 use Rattle.host_core.specs.Caller.{Sight}
+use Rattle.host_core.specs.Facts.{Dates}
 use Rattle.host_core.specs.Value.{Book}
 use Rattle.host_core.specs.Times.{untimed}
 use Rattle.host_table.specs.Histories.{last_stamp, AreNamed, IsSeen}
@@ -104,6 +105,11 @@ module _ {F : Type 0} where
   begin_seen None = new_life [] 0 1
   begin_seen (Some base) = base.begin
 
+  -- nor is any date told of its files
+  abbrev pub dates_seen : Option (Book F) → Dates
+  dates_seen None = []
+  dates_seen (Some base) = base.dates
+
   -- the last stamp that was seen of the shard, or the last one before its beginning
   abbrev pub last_seen : Place F → ℕ
   last_seen seat = last_stamp (begin_seen seat.base).last seat.seen
@@ -129,6 +135,10 @@ module _ {F : Type 0} where
   beginning_at None = begin_seen None
   beginning_at (Some seat) = begin_seen seat.base
 
+  abbrev pub dates_at : Option (Place F) → Dates
+  dates_at None = dates_seen None
+  dates_at (Some seat) = dates_seen seat.base
+
   -- what a pass has seen, as of any caller
   abbrev pub sight_of : PassView F → Sight
   sight_of pass = record {
@@ -139,6 +149,7 @@ module _ {F : Type 0} where
     ticked = false;
     home = shard_of;
     begins = λ shard. beginning_at (slice_get pass.seats shard);
+    dates = λ shard. dates_at (slice_get pass.seats shard);
     seen = λ shard. seen_at (slice_get pass.seats shard);
   }
 

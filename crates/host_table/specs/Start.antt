@@ -4,13 +4,13 @@ use Rattle.std.specs.List.{AllByRecursion}
 use Rattle.atomic_table.specs.Seated.{TableId}
 use Rattle.turn_lock.specs.Seats.{first_seat}
 use Rattle.outside.specs.Faults.{Rose}
-use Rattle.outside.specs.Folder.{Files, Keeps}
+use Rattle.outside.specs.Folder.{Files, Keeps, Times}
 use Rattle.wopi_model.specs.Begin.{new_life}
 use Rattle.wopi_model.specs.Host.{Limits, kept_limits}
 use Rattle.wopi_model.specs.Shard.{Opening}
 use Rattle.host_core.specs.declared.opening.StartFault.{StartFault}
 use Rattle.host_core.specs.declared.opening.StartFault.TheVariants as fault
-use Rattle.host_core.specs.Opening.{IsOpening, Fits, IsTooLarge, IfTooLarge}
+use Rattle.host_core.specs.Opening.{AreDatesOf, IsOpening, Fits, IsTooLarge, IfTooLarge}
 use Rattle.host_core.specs.Value.{Book, InMemory}
 use Rattle.host_table.specs.Passes.{Place, HostView, PassView, IsPassOf, top}
 
@@ -77,12 +77,15 @@ module _ {F : Type 0} (files : F → Option Files) (faults : F → ℕ) where
   IsBlamed olds news fault.FolderFault = Blames 0 olds news fault.FolderFault
   IsBlamed olds news fault.Memory = ⊤
 
-  -- the shard of that number, as it was opened over a folder with these files
+module _ {F : Type 0} (files : F → Option Files) (times : F → Option Times) (faults : F → ℕ) where
+  -- The shard of that number, as it was opened over a folder with these files. Each was last saved when the folder's was last changed.
   pub record IsBegun (opened first : ℕ) (limits : Limits) (number : ℕ) (folder : F) (base : Book F) : Type 0 where
     pub stood : Opening
-    pub book : base ≡ record { only = Some number; begin = new_life stood opened first; limits = limits; made = []; time = opened; ticked = false; start = folder; folder = base.folder }
+    pub book : base ≡ record { only = Some number; begin = new_life stood opened first; limits = limits; dates = base.dates; made = []; time = opened; ticked = false; start = folder; folder = base.folder }
     pub opening : IsOpening (Some number) (files folder) stood
     pub fits : Fits stood
+    pub dated : map (λ one. one.0) base.dates ≡ map (λ one. one.0) base.begin.files
+    pub told : AreDatesOf (times folder) base.dates
 
   abbrev pub AreBegun : ℕ → ℕ → Limits → ℕ → List F → List (Book F) → Type 0
   AreBegun opened first limits number [] [] = ⊤
@@ -100,9 +103,9 @@ module _ {F : Type 0} (files : F → Option Files) (faults : F → ℕ) where
     pub pass_is : pass ≡ first_pass host
     pub of_host : IsPassOf host pass
 
-module _ {F : Type 0} (files : F → Option Files) (faults : F → ℕ) where
+module _ {F : Type 0} (files : F → Option Files) (times : F → Option Times) (faults : F → ℕ) where
   -- a host over stores in memory over these folders, and its first pass
   pub record StartsKept (folders : List F) (capacity opened first : ℕ) (host : HostView (InMemory F)) (pass : PassView (InMemory F)) : Type 0 where
     pub stores : List (InMemory F)
     pub over : map folder_in stores ≡ folders
-    pub starts : Starts (λ store. files store.folder) (λ store. faults store.folder) stores capacity opened first host pass
+    pub starts : Starts (λ store. files store.folder) (λ store. times store.folder) (λ store. faults store.folder) stores capacity opened first host pass

@@ -1,5 +1,5 @@
 //! A shard as it lies under its lock.
-ghost use Rattle.std.specs.Prelude.{◌≡◌, ◌≤◌, ◌<◌, Some, [], false, true, ◌↔◌, IfOk, IfErr, IsTrue};
+ghost use Rattle.std.specs.Prelude.{◌≡◌, ◌≤◌, ◌<◌, Some, [], false, true, ◌↔◌, map, IfOk, IfErr, IsTrue};
 ghost use Rattle.outside.specs.Faults.{Rose};
 ghost use Rattle.outside.specs.Folder.{Keeps};
 ghost use Rattle.wopi_model.specs.Begin.{new_life};
@@ -8,14 +8,15 @@ ghost use Rattle.wopi_model.specs.Moment.{IsMoment};
 ghost use Rattle.wopi_model.specs.Shard.{Opening};
 ghost use Rattle.host_core.specs.Fullness.{IsNearlyFull};
 ghost use Rattle.host_core.specs.Listing.{IsListing};
-ghost use Rattle.host_core.specs.Opening.{IsFirstVersion, IsOpening, Fits, IsTooLarge, IfTooLarge};
+ghost use Rattle.host_core.specs.Opening.{AreDatesOf, IsFirstVersion, IsOpening, Fits, IsTooLarge, IfTooLarge};
 ghost use Rattle.host_core.specs.Times.{untimed};
 ghost use Rattle.wopi_text.specs.FileName.{shard_of};
 ghost use Rattle.host_table.specs.Histories.{last_stamp, as_opened, IsSeen};
-ghost use Rattle.host_table.specs.Held.{Adds, Declines, IsTakenApart};
+ghost use Rattle.host_table.specs.Held.{Adds, AddsForEditor, Declines, IsTakenApart};
 
 use host_core::{
-    CallFault, Kept, Listing, Past, Receipt, Shard, StartFault, StepFault, Store, leave,
+    CallFault, EditorReceipt, Kept, Listing, Past, Receipt, Shard, StartFault, StepFault, Store,
+    leave,
 };
 use outside::Folder;
 use std::alloc::Global;
@@ -75,6 +76,7 @@ impl<F: Store> Held<F> {
           only = Some number;
           begin = held.begin;
           limits = kept_limits capacity;
+          dates = held.dates;
           made = [];
           time = opened;
           ticked = false;
@@ -82,6 +84,8 @@ impl<F: Store> Held<F> {
           folder = held.folder;
         }) }
         ensures opening { IfOk result (λ held. (opening : Opening) × (held.begin ≡ new_life opening opened first) × IsOpening (Some number) (F.files folder) opening × Fits opening) }
+        ensures dates { IfOk result (λ held. map (λ one. one.0) held.dates ≡ map (λ one. one.0) held.begin.files) }
+        ensures told { IfOk result (λ held. AreDatesOf (F.times folder) held.dates) }
         ensures same { IfOk result (λ held. Keeps (F.files folder) (F.files held.folder)) }
         ensures never_falls { IfOk result (λ held. F.faults folder ≤ F.faults held.folder) }
         ensures too_large { IfErr result (λ refused. IfTooLarge refused.1 (IsTooLarge (Some number) (F.files folder))) }
@@ -120,6 +124,44 @@ impl<F: Store> Held<F> {
                     place,
                     ruling,
                     back,
+                });
+            }
+            Err(StepFault::Full(call)) => return Err(CallFault::Full(call)),
+            Err(StepFault::Memory(call)) => return Err(CallFault::Memory(call)),
+        }
+    }
+
+    /// One step of the shard for an editor, which knows of the moment at which the file was last saved. A Put that comes too
+    /// late isn't made: the file's lock is looked at in its stead.
+    pub fn call_for_editor(
+        &mut self,
+        call: Call,
+        known: Option<u64>,
+        pass: u32,
+        floor: u64,
+        moment: u64,
+    ) -> Result<EditorReceipt, CallFault>
+        requires moment { IsMoment moment }
+        requires only { self.old.only ≡ Some (shard_of call.name) }
+        ensures base { as_opened self.new ≡ as_opened self.old }
+        ensures seen { IsSeen (as_opened self.new) self.new.made }
+        ensures made { IfOk result (λ answer. AddsForEditor self.old self.new call known pass floor moment answer) }
+        ensures refused { IfErr result (λ refusal. Declines self.old self.new call floor moment refusal) }
+    {
+        let shard = call.name.shard();
+        let place = self.shard.len();
+        match self.shard.step_for_editor(call, known, pass, floor, moment) {
+            Ok(step) => {
+                return Ok(EditorReceipt {
+                    receipt: Receipt {
+                        stamp: step.stamp,
+                        shard,
+                        place,
+                        ruling: step.ruling,
+                        back: step.back,
+                    },
+                    late: step.late,
+                    facts: step.facts,
                 });
             }
             Err(StepFault::Full(call)) => return Err(CallFault::Full(call)),

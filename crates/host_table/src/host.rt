@@ -1,11 +1,12 @@
 //! The host.
-ghost use Rattle.std.specs.Prelude.{◌≡◌, ◌+◌, ◌<◌, ◌≤◌, ◌∷◌, [], ◌++◌, length, map, IfOk, IfErr, OnOk, OnErr, None, Some, IsSomeAnd, IsTrue, max, ◌↔◌};
+ghost use Rattle.std.specs.Prelude.{◌≡◌, ◌+◌, ◌<◌, ◌≤◌, ◌∷◌, [], ◌++◌, length, map, is_some, IfOk, IfErr, OnOk, OnErr, None, Some, IsSomeAnd, IsTrue, max, ◌↔◌};
 ghost use Rattle.std.specs.List.{AllByRecursion};
 ghost use Rattle.wopi_model.specs.Host.{kept_limits};
 ghost use Rattle.wopi_model.specs.Moment.{IsMoment};
 ghost use Rattle.host_core.specs.Opening.{IsFirstVersion};
 ghost use Rattle.wopi_text.specs.FileName.{shard_of};
-ghost use Rattle.host_core.specs.Caller.{Makes, Refuses, Frames, entry_of};
+ghost use Rattle.host_core.specs.Caller.{Makes, MakesForEditor, Refuses, Frames, entry_of};
+ghost use Rattle.host_core.specs.Facts.{made_for};
 ghost use Rattle.host_core.specs.Fullness.{IsNearlyFull, IsNearlyFullAt};
 ghost use Rattle.host_core.specs.Listing.{IsListing, Lists, LooksAt};
 ghost use Rattle.host_core.specs.Times.{untimed};
@@ -13,7 +14,7 @@ ghost use Rattle.host_table.specs.Histories.{as_opened, IsSeen};
 ghost use Rattle.host_table.specs.Passes.{locks_of, own_of, last_seen, top, sight_of, kept_pass, given_pass, IsPassOf, IsSamePass, HasSeen, AreBases};
 ghost use Rattle.host_table.specs.Start.{first_seats, first_pass, AreHanded, IsBlamed, Starts, StartsKept};
 ghost use Rattle.host_table.specs.Close.{IsWhole, Ends};
-ghost use Rattle.host_table.specs.Calls.{Calls, Glances, Looks};
+ghost use Rattle.host_table.specs.Calls.{Calls, CallsForEditor, Glances, Looks};
 
 use crate::closing::end_host;
 use crate::held::Held;
@@ -24,7 +25,7 @@ use crate::rooms::{CloseRoom, SplitRoom};
 use crate::rows::split_all;
 use crate::stores::{free_all, keep_all};
 use crate::whole::{are_numbered, weigh_whole};
-use host_core::{CallFault, Kept, Listing, Receipt, StartFault, Store};
+use host_core::{CallFault, EditorReceipt, Kept, Listing, Receipt, StartFault, Store};
 use outside::Folder;
 use std::alloc::Global;
 use std::marker::Model;
@@ -92,6 +93,33 @@ fn turn<F: Store, R: Wait>(
 {
     let mut held = lock.take(rt, seat);
     let answer = held.call(call, number, *last, moment);
+    *last = (*last).max(held.last());
+    lock.give_back(seat, held);
+    answer
+}
+
+/// One call of an editor in the shard's turn. `last` is the pass's last stamp.
+fn turn_for_editor<F: Store, R: Wait>(
+    rt: &R,
+    lock: &TurnLock<Held<F>>,
+    seat: &mut Seat<Held<F>>,
+    call: Call,
+    known: Option<u64>,
+    number: u32,
+    last: &mut u64,
+    moment: u64,
+) -> Result<EditorReceipt, CallFault>
+    requires lock { seat.old.lock ≡ lock.now }
+    requires free { seat.old.taken ≡ None }
+    requires based { IsSomeAnd seat.old.base (λ base. base.only ≡ Some (shard_of call.name)) }
+    requires moment { IsMoment moment }
+    ensures last { last.new ≡ max last.old (last_seen seat.new) }
+    ensures seen { IsSomeAnd seat.old.base (λ base. IsSeen base seat.new.seen) }
+    ensures made { IfOk result (λ answer. CallsForEditor seat.old call known number last.old moment answer seat.new) }
+    ensures refused { IfErr result (λ refusal. Looks seat.old call last.old moment refusal seat.new) }
+{
+    let mut held = lock.take(rt, seat);
+    let answer = held.call_for_editor(call, known, number, *last, moment);
     *last = (*last).max(held.last());
     lock.give_back(seat, held);
     answer
@@ -198,7 +226,7 @@ impl<F: Store> Host<F> {
         requires folders { length folders.items ≡ 16 }
         requires opened { IsMoment opened }
         requires first { IsFirstVersion first }
-        ensures starts { IfOk result (λ begun. Starts F.files F.faults folders.items capacity opened first begun.0 begun.1) }
+        ensures starts { IfOk result (λ begun. Starts F.files F.times F.faults folders.items capacity opened first begun.0 begun.1) }
         ensures handed { IfErr result (λ refused. AreHanded F.files F.faults folders.items refused.0.items) }
         ensures blamed { IfErr result (λ refused. IsBlamed F.files F.faults folders.items refused.0.items refused.1) }
     {
@@ -301,6 +329,39 @@ impl<F: Store> Host<F> {
         turn(rt, lock, seat, call, number, &mut pass.last, moment)
     }
 
+    /// The same for an editor, which knows of the moment at which the file was last saved. A Put that would be accepted, of a
+    /// file that was last saved at another moment, isn't made: the file's lock is looked at in its stead. The file is told of
+    /// as the shard stands then, all in one turn.
+    pub fn call_for_editor<R: Wait>(
+        &self,
+        rt: &R,
+        pass: &mut Pass<F>,
+        call: Call,
+        known: Option<u64>,
+        moment: u64,
+    ) -> Result<EditorReceipt, CallFault>
+        requires host { locks_of pass.old ≡ self.now.locks }
+        requires moment { IsMoment moment }
+        ensures made { IfOk result (MakesForEditor (sight_of pass.old) (sight_of pass.new) call known moment) }
+        ensures refused { IfErr result (Refuses (sight_of pass.old) (sight_of pass.new) call moment) }
+        ensures frame { Frames (sight_of pass.old) (sight_of pass.new) call.name }
+        ensures own { IfOk result (λ answer. own_of pass.new ≡ own_of pass.old
+            ++ record {
+              shard = answer.receipt.shard;
+              place = answer.receipt.place;
+              entry = entry_of pass.old.number (made_for (is_some answer.late) call) moment answer.receipt;
+            } ∷ []) }
+        ensures none { OnErr result (own_of pass.new ≡ own_of pass.old) }
+        ensures same { IsSamePass pass.old pass.new }
+        ensures seen { HasSeen pass.new }
+    {
+        let number = pass.number;
+        let shard = usize::from(call.name.shard());
+        let lock = &self.locks[shard];
+        let seat = &mut pass.seats[shard];
+        turn_for_editor(rt, lock, seat, call, known, number, &mut pass.last, moment)
+    }
+
     /// The files of a shard that exist, in a turn that the pass waits for. No entry is made. The pass has then seen what
     /// the shard's history was, also where there is no memory for the files.
     pub fn look<R: Wait>(&self, rt: &R, pass: &mut Pass<F>, shard: u8) -> Result<Listing, Memory>
@@ -360,7 +421,7 @@ impl<F: Folder> Host<Kept<F>> {
         requires folders { length folders.items ≡ 16 }
         requires opened { IsMoment opened }
         requires first { IsFirstVersion first }
-        ensures starts { IfOk result (λ begun. StartsKept F.files F.faults folders.items capacity opened first begun.0 begun.1) }
+        ensures starts { IfOk result (λ begun. StartsKept F.files F.times F.faults folders.items capacity opened first begun.0 begun.1) }
         ensures handed { IfErr result (λ refused. AreHanded F.files F.faults folders.items refused.0.items) }
         ensures blamed { IfErr result (λ refused. IsBlamed F.files F.faults folders.items refused.0.items refused.1) }
     {

@@ -54,7 +54,7 @@ pub(crate) fn open_all<F: Store>(
     requires opened { IsMoment opened }
     requires first { IsFirstVersion first }
     requires room { (back.old.items ≡ []) × (16 ≤ vec_capacity back.old) }
-    ensures begun { IfOk result (λ shards. AreBegun F.files F.faults opened first (kept_limits capacity) 0 folders.items shards.items) }
+    ensures begun { IfOk result (λ shards. AreBegun F.files F.times F.faults opened first (kept_limits capacity) 0 folders.items shards.items) }
     ensures back { OnOk result ((back.new.items ≡ []) × (vec_capacity back.new ≡ vec_capacity back.old)) }
     ensures handed { IfErr result (λ fault. AreHanded F.files F.faults folders.items back.new.items) }
     ensures blamed { IfErr result (λ fault. IsBlamed F.files F.faults folders.items back.new.items fault) }

@@ -5,7 +5,7 @@ ghost use Rattle.host_table.specs.Seated.{AreInShards-prop};
 
 use crate::host::{Host, SHARDS};
 use crate::pass::Pass;
-use host_core::{CallFault, Caller, Lister, Listing, Receipt, Store};
+use host_core::{CallFault, Caller, EditorReceipt, Lister, Listing, Receipt, Store};
 use std::marker::Model;
 use std::snapshot::Snapshot;
 use std::sync::Wait;
@@ -74,6 +74,16 @@ impl<R: Wait, F: Store> Caller for Seated<'_, R, F> {
 
     fn call(&mut self, call: Call, moment: u64) -> Result<Receipt, CallFault> {
         self.host.call(self.rt, self.pass, call, moment)
+    }
+
+    fn call_for_editor(
+        &mut self,
+        call: Call,
+        known: Option<u64>,
+        moment: u64,
+    ) -> Result<EditorReceipt, CallFault> {
+        self.host
+            .call_for_editor(self.rt, self.pass, call, known, moment)
     }
 }
 

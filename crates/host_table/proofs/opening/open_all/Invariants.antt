@@ -11,7 +11,7 @@ invariant-loop-folder g l = let F = g.row.F.Denot in let f = g.F.Folder in recor
   room : 16 ≤ vec_capacity l.shards;
   empty : l.back.items ≡ [];
   capacity : vec_capacity l.back ≡ vec_capacity l.initial.back;
-  begun : (done : List F) × (l.fn.folders.items ≡ done ++ into_iter_items l.rest) × AreBegun f.files f.faults l.opened l.first (kept_limits l.capacity) 0 done l.shards.items;
+  begun : (done : List F) × (l.fn.folders.items ≡ done ++ into_iter_items l.rest) × AreBegun f.files f.times f.faults l.opened l.first (kept_limits l.capacity) 0 done l.shards.items;
 }
 
 abbrev pub decreases-loop-folder : goal.decreases-loop-folder

@@ -1,0 +1,33 @@
+use Rattle.std.proofs.Common.{sym, ap, subst, Option, List, IsSomeAnd}
+use mathlib.Core.List.{IsPrefix}
+use Rattle.host_core.specs.Entries.{Made}
+use Rattle.host_table.specs.Passes.{Place}
+use Rattle.host_table.specs.Calls.{CallsForEditor, Looks}
+use Rattle.host_table.proofs.Turning.{grown_for_editor, given_back, seen_call, edited_call, refused_call, err_map}
+use Rattle.host_core.proofs.Results.{ifok_map}
+use Rattle.host_table.proofs.host.turn_for_editor.Goals as goal
+
+pub give_back-requires-clause-turn : goal.give_back-requires-clause-turn
+give_back-requires-clause-turn g c =
+    let P : Option (List Made) → Type 0 = λ o. IsSomeAnd o (λ taken. IsPrefix taken c.call_for_editor-answer.new.self.made) in
+    subst P (sym (ap (λ (p : Place g.row.F.Denot). p.taken) c.take-held.ensures.seat)) (grown_for_editor _ _ _ _ _ _ _ _ c.call_for_editor-answer.ensures.made c.call_for_editor-answer.ensures.refused)
+
+pub returns-clause-seen : goal.returns-clause-seen
+returns-clause-seen g c =
+    let v = c.args.seat.now in let w = c.give_back.new.seat in let old = c.take-held.result in let new = c.call_for_editor-answer.new.self in
+    let after = given_back v c.take-held.new.seat w old new c.take-held.ensures.seat c.give_back.ensures in
+    seen_call v w old new c.take-held.ensures.base c.call_for_editor-answer.ensures.base after c.call_for_editor-answer.ensures.seen
+
+pub returns-clause-made : goal.returns-clause-made
+returns-clause-made g c =
+    let v = c.args.seat.now in let w = c.give_back.new.seat in let old = c.take-held.result in let new = c.call_for_editor-answer.new.self in
+    let after = given_back v c.take-held.new.seat w old new c.take-held.ensures.seat c.give_back.ensures in
+    ifok_map c.call_for_editor-answer.result _ (λ told. CallsForEditor v c.args.call c.args.known c.args.number c.args.last.now c.args.moment told w)
+    (λ told edits. edited_call v w old new c.args.call c.args.known c.args.number c.args.last.now c.args.moment told c.requires.free c.take-held.ensures.base c.take-held.ensures.prefix after edits) c.call_for_editor-answer.ensures.made
+
+pub returns-clause-refused : goal.returns-clause-refused
+returns-clause-refused g c =
+    let v = c.args.seat.now in let w = c.give_back.new.seat in let old = c.take-held.result in let new = c.call_for_editor-answer.new.self in
+    let after = given_back v c.take-held.new.seat w old new c.take-held.ensures.seat c.give_back.ensures in
+    err_map c.call_for_editor-answer.result _ (λ refusal. Looks v c.args.call c.args.last.now c.args.moment refusal w)
+    (λ refusal declines. refused_call v w old new c.args.call c.args.last.now c.args.moment refusal c.requires.free c.take-held.ensures.base c.take-held.ensures.prefix after declines) c.call_for_editor-answer.ensures.refused
