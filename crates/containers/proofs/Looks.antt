@@ -19,6 +19,7 @@ pub Follows-same : (s : Sight) → Follows s s
 Follows-same s = record {
   seen = λ shard. Extends-same (entries (s.seen shard));
   begins = λ shard. refl;
+  dates = λ shard. refl;
   home = λ name. refl;
   pass = refl;
   limits = refl;
@@ -29,6 +30,7 @@ pub Follows-trans : (a b c : Sight) → Follows a b → Follows b c → Follows 
 Follows-trans a b c p q = record {
   seen = λ shard. Extends-trans (entries (a.seen shard)) (entries (b.seen shard)) (entries (c.seen shard)) (p.seen shard) (q.seen shard);
   begins = λ shard. q.begins shard ∙ p.begins shard;
+  dates = λ shard. q.dates shard ∙ p.dates shard;
   home = λ name. q.home name ∙ p.home name;
   pass = q.pass ∙ p.pass;
   limits = q.limits ∙ p.limits;
@@ -54,6 +56,7 @@ LooksOn-one old new asked looks = record {
   follows = record {
     seen = seen_on old new asked looks;
     begins = looks.rest.begins;
+    dates = looks.rest.dates;
     home = looks.rest.home;
     pass = looks.rest.pass;
     limits = looks.rest.limits;

@@ -1,5 +1,5 @@
 -- What a request is answered, and what is done for it (MS-WOPI; that an unreadable token is 401 and a full shard 500 is own).
-use Rattle.std.specs.Prelude.{ℕ, ◌≡◌, ◌<◌, Bool, false, List, [], ◌∷◌, Some}
+use Rattle.std.specs.Prelude.{ℕ, ◌≡◌, ◌<◌, Bool, true, false, List, [], ◌∷◌, Option, None, Some}
 use Rattle.wopi_model.specs.declared.token.Token.{Token}
 use Rattle.wopi_model.specs.declared.calls.Act.{Act}
 use Rattle.wopi_model.specs.declared.calls.Call.{Call}
@@ -21,9 +21,11 @@ use Rattle.host_core.specs.declared.listing.Listing.{Listing}
 use Rattle.containers.specs.Answers.{ContainerAnswered}
 use Rattle.host_server.specs.declared.desk.Desk.{Desk}
 use Rattle.host_server.specs.declared.copying.Copying.{Copying}
-use Rattle.host_server.specs.Deeds.{Deed, Made, Blocked, Listed, IsFull, IsOf}
+use Rattle.host_server.specs.Deeds.{Deed, EditorCall, Made, MadeFor, Blocked, Listed, IsFor, IsFull, IsOf}
 use Rattle.host_server.specs.Editing.{refused_status, token_taken}
-use Rattle.host_server.specs.Telling.{journal_full, told_to}
+use Rattle.host_server.specs.declared.knowing.LastSave.{LastSave}
+use Rattle.host_server.specs.Known.{last_known, moment_known, suite_of}
+use Rattle.host_server.specs.Telling.{journal_full, told, told_for}
 use Rattle.host_server.specs.Copies.{Copied}
 
 abbrev pub call_of : Ask → Token → Act → Call
@@ -33,20 +35,23 @@ abbrev pub copying_of : Ask → Token → Target → List ℕ → ℕ → Copyin
 copying_of ask token target body moment =
     record { source = ask.file; token = token; target = target; contents = body; moment = moment }
 
--- What an ask with this body is answered at this moment, and what is done for it, by whether the host serves editors.
-pub data RuledTo (editor : Bool) (desk : Desk) (ask : Ask) (body : List ℕ) (moment : ℕ) (deeds : List Deed) (a : Answer) : Type 0 where
-  unauthorized : ((token : Token) → ¬ (IsSigned desk.keys ask.token token)) → deeds ≡ [] → a ≡ status_only 401 → RuledTo editor desk ask body moment deeds a
-  ruled : (token : Token) (asked : Act) (entry : Entry) → IsSigned desk.keys ask.token token → act_of ask.op body ≡ Some asked
-      → IsOf (call_of ask token asked) moment entry → deeds ≡ Made entry ∷ [] → a ≡ told_to editor desk.origin entry → RuledTo editor desk ask body moment deeds a
+-- What an ask with this body is answered at this moment, and what is done for it, by whether the host serves editors, and which save the request knows of.
+pub data RuledTo (editor : Bool) (last : Option LastSave) (desk : Desk) (ask : Ask) (body : List ℕ) (moment : ℕ) (deeds : List Deed) (a : Answer) : Type 0 where
+  unauthorized : ((token : Token) → ¬ (IsSigned desk.keys ask.token token)) → deeds ≡ [] → a ≡ status_only 401 → RuledTo editor last desk ask body moment deeds a
+  ruled : (token : Token) (asked : Act) (entry : Entry) → editor ≡ false → IsSigned desk.keys ask.token token → act_of ask.op body ≡ Some asked
+      → IsOf (call_of ask token asked) moment entry → deeds ≡ Made entry ∷ [] → a ≡ told entry → RuledTo editor last desk ask body moment deeds a
+  ruled_for : (token : Token) (asked : Act) (one : EditorCall) → editor ≡ true → IsSigned desk.keys ask.token token → act_of ask.op body ≡ Some asked
+      → IsFor (call_of ask token asked) (moment_known last) moment one → deeds ≡ MadeFor one ∷ [] → a ≡ told_for desk.origin (suite_of last) one
+      → RuledTo editor last desk ask body moment deeds a
   full : (token : Token) (asked : Act) (before after : Sight) → IsSigned desk.keys ask.token token → act_of ask.op body ≡ Some asked
       → IsFull (call_of ask token asked) moment before after
-      → deeds ≡ Blocked (call_of ask token asked) moment before after ∷ [] → a ≡ journal_full → RuledTo editor desk ask body moment deeds a
+      → deeds ≡ Blocked (call_of ask token asked) moment before after ∷ [] → a ≡ journal_full → RuledTo editor last desk ask body moment deeds a
   copied : (token : Token) (target : Target) → IsSigned desk.keys ask.token token → ask.op ≡ op.PutRelative target
-      → Copied desk (copying_of ask token target body moment) deeds a → RuledTo editor desk ask body moment deeds a
+      → Copied desk (copying_of ask token target body moment) deeds a → RuledTo editor last desk ask body moment deeds a
 
 -- the same of a host that serves no editors
 abbrev pub Ruled : Desk → Ask → List ℕ → ℕ → List Deed → Answer → Type 0
-Ruled = RuledTo false
+Ruled = RuledTo false None
 
 -- the deed of listing, where there are listings
 abbrev pub listed_by : List Listing → List Deed
@@ -72,7 +77,7 @@ container_asked_with editor fields ask = record ask { token = token_taken editor
 -- What a request is answered at this moment, and what is done for it, by whether the host serves editors.
 pub data AnsweredTo (editor : Bool) (desk : Desk) (q : Request) (moment : ℕ) (deeds : List Deed) (a : Answer) : Type 0 where
   refused : (s : ℕ) → IsPlaceRefusal q s → deeds ≡ [] → a ≡ status_only (refused_status editor q s) → AnsweredTo editor desk q moment deeds a
-  asked : (ask : Ask) → AsksFor q ask → RuledTo editor desk (asked_with editor q.fields ask) q.body moment deeds a → AnsweredTo editor desk q moment deeds a
+  asked : (ask : Ask) → AsksFor q ask → RuledTo editor (last_known editor q.fields) desk (asked_with editor q.fields ask) q.body moment deeds a → AnsweredTo editor desk q moment deeds a
   contained : (ask : ContainerAsk) → IsAtContainers q → AsksContainer q ask → Contained desk (container_asked_with editor q.fields ask) moment deeds a
       → AnsweredTo editor desk q moment deeds a
 

@@ -1,5 +1,5 @@
 -- What a host that serves editors answers beyond what every host does. (MS-WOPI, CheckFileInfo, has the members that a body has beside the others, PostMessageOrigin among them, and says of each what it tells; that the token may stand in an Authorization field is RFC 6750, 2.1; what HEAD and OPTIONS are told is RFC 9110, 9.3.2 and 9.3.7; which of them stand, what an editor is told of a host's health, and that OPTIONS tells the same of each target, is own.)
-use Rattle.std.specs.Prelude.{ℕ, Bool, true, false, not, ◌&&◌, ◌==◌, if◌then◌else◌, List, [], ◌∷◌, length, codes, drop, Option, None, Some, option_and_then}
+use Rattle.std.specs.Prelude.{ℕ, Bool, true, false, not, ◌&&◌, ◌==◌, if◌then◌else◌, List, [], ◌∷◌, length, codes, drop, Option, None, Some, option_and_then, option_map}
 use Rattle.std.specs.Str.{bytes_eq}
 use Rattle.serde_json.specs.Data.{Data, Members, boolean, number, unsigned, string, object, member, no_members, put}
 use Rattle.serde_json.specs.Written.{compact_text}
@@ -13,6 +13,10 @@ use Rattle.access_tokens.specs.OriginTests.{passes}
 use Rattle.put_relative.specs.CopyNames.{ending_of}
 use Rattle.file_info.specs.declared.info.Info.{Info}
 use Rattle.file_info.specs.Info.{info_text}
+use Rattle.file_info.specs.declared.save.Saved.{Saved}
+use Rattle.file_info.specs.Saved.{digest_text}
+use Rattle.host_core.specs.declared.facts.Facts.{Facts}
+use Rattle.moment_text.specs.Text.{moment_text}
 
 -- what is told as the page's origin passes the tests of one
 unfoldable pub may_tell : Option (List ℕ) → Bool
@@ -24,16 +28,40 @@ abbrev pub with_origin : Option (List ℕ) → Members → Members
 with_origin None others = others
 with_origin (Some origin) others = member (codes "PostMessageOrigin") (string origin) others
 
--- the members of a file's answer to an editor: those of every answer, and what kind of file it is, that it can't be renamed, whether and
--- under which name the user may change it, and with which page the editor speaks
-abbrev pub editor_json : Option (List ℕ) → Info → Data
-editor_json origin info =
+-- a file's last save: its moment, and the digest of the contents
+abbrev pub Last : Type 0
+Last = ℕ × List ℕ
+
+-- what is told of it, where both are
+abbrev pub last_of : Option Facts → Option Last
+last_of None = None
+last_of (Some facts) = option_map (λ digest. (facts.saved, digest.bytes)) facts.digest
+
+abbrev pub last_in : Option Saved → Option Last
+last_in saved = option_map (λ save. (save.moment, save.digest)) saved
+
+-- the member that tells when the file was last saved, where that is told, in front of these
+abbrev pub with_moment : Option Last → Members → Members
+with_moment None others = others
+with_moment (Some last) others = member (codes "LastModifiedTime") (string (moment_text last.0)) others
+
+-- the member that tells the digest of its contents, likewise
+abbrev pub with_digest : Option Last → Members → Members
+with_digest None others = others
+with_digest (Some last) others = member (codes "SHA256") (string (digest_text last.1)) others
+
+-- the members of a file's answer to an editor: those of every answer, and what kind of file it is, what its last save was, that it can't be
+-- renamed, whether and under which name the user may change it, and with which page the editor speaks
+abbrev pub editor_json : Option (List ℕ) → Option Last → Info → Data
+editor_json origin last info =
     object
     (member (codes "BaseFileName") (string info.name)
     (member (codes "FileExtension") (string (ending_of info.name))
+    (with_moment last
     (member (codes "OwnerId") (string info.owner)
     (with_origin origin
     (member (codes "ReadOnly") (boolean (not info.can_write))
+    (with_digest last
     (member (codes "Size") (number (unsigned info.size))
     (member (codes "SupportsDeleteFile") (boolean true)
     (member (codes "SupportsExtendedLockLength") (boolean true)
@@ -47,7 +75,7 @@ editor_json origin info =
     (member (codes "UserFriendlyName") (string info.user)
     (member (codes "UserId") (string info.user)
     (member (codes "Version") (string info.version)
-    no_members))))))))))))))))))
+    no_members))))))))))))))))))))
 
 -- members beside others, each at its place
 abbrev pub with_members : List (List ℕ × Data) → Members → Members
@@ -72,13 +100,23 @@ user_members info =
     (codes "ReadOnly", boolean (not info.can_write)) ∷ (codes "UserCanNotWriteRelative", boolean (not info.can_write)) ∷ (codes "UserCanRename", boolean false)
     ∷ (codes "UserCanWrite", boolean info.can_write) ∷ (codes "UserFriendlyName", string info.user) ∷ (codes "UserId", string info.user) ∷ []
 
--- the body of that answer, written without spaces
-abbrev pub editor_text : Option (List ℕ) → Info → List ℕ
-editor_text origin info = compact_text (editor_json origin info)
+-- those that tell of its last save, where that is told, beside others
+abbrev pub with_last : Option Last → Members → Members
+with_last None others = others
+with_last (Some last) others = put (codes "SHA256") (string (digest_text last.1)) (put (codes "LastModifiedTime") (string (moment_text last.0)) others)
 
--- the body of CheckFileInfo's answer, by whether the host serves editors, and in which page
-abbrev pub info_body : Bool → Option (List ℕ) → Info → List ℕ
-info_body editor origin info = if editor then editor_text origin info else info_text info
+-- the one that tells the page's origin, where there is one, beside others
+abbrev pub with_page : Option (List ℕ) → Members → Members
+with_page None others = others
+with_page (Some origin) others = put (codes "PostMessageOrigin") (string origin) others
+
+-- the body of that answer, written without spaces
+abbrev pub editor_text : Option (List ℕ) → Option Last → Info → List ℕ
+editor_text origin last info = compact_text (editor_json origin last info)
+
+-- the body of CheckFileInfo's answer, by whether the host serves editors, in which page, and what it tells of the file's last save
+abbrev pub info_body : Bool → Option (List ℕ) → Option Last → Info → List ℕ
+info_body editor origin last info = if editor then editor_text origin last info else info_text info
 
 -- what a value bears behind the scheme, which is compared without regard to ASCII case
 abbrev pub behind_scheme : List ℕ → Option (List ℕ)

@@ -7,6 +7,7 @@ ghost use Rattle.wopi_acts.specs.Acts.{act_of};
 ghost use Rattle.host_server.specs.Answering.{RuledTo, Contained, asked_with, container_asked_with};
 ghost use Rattle.host_server.specs.Asking.{asks_info, is_copy, TellsAct, TellsCopy};
 ghost use Rattle.host_server.specs.Calls.{Tells};
+ghost use Rattle.host_server.specs.Known.{last_known};
 ghost use Rattle.host_server.specs.Turns.{Answers, AnswersTo};
 
 use crate::calling::{Called, make};
@@ -14,6 +15,8 @@ use crate::copying::{Copying, put_beside};
 use crate::desk::Desk;
 use crate::editing::{refused_status, token_taken};
 use crate::kept::Kept;
+use crate::knowing::{LastSave, last_known, moment_known, suite_of};
+use crate::saving::{is_info, told_by};
 use crate::telling::{info_told, journal_full, ruling_told, status_only};
 use access_tokens::{RecentTokens, Token};
 use containers::container_answer;
@@ -23,12 +26,6 @@ use std::mem;
 use wopi_headers::{Answer, Ask, AskFault, ContainerAsk, Op, Target, place_into};
 use wopi_http::{Field, Request};
 use wopi_text::{Bytes, LockId, Memory};
-
-fn is_info(op: &Op) -> bool
-    ensures { result ≡ asks_info op.now }
-{
-    matches!(op, Op::Info)
-}
 
 fn is_copy(op: &Op) -> bool
     ensures { result ≡ is_copy op.now }
@@ -82,7 +79,7 @@ fn make_and_tell<C: Caller>(
     requires moment { IsMoment moment }
     requires alone { is_copy ask.now.op ≡ false }
     requires other { asks_info ask.now.op ≡ false }
-    ensures tells { (editor : Bool) (origin : Option (List ℕ)) → TellsAct editor origin ask.now token body moment C.always (C.sight caller.old) (C.sight caller.new) result }
+    ensures tells { (origin : Option (List ℕ)) (last : Option LastSave) → TellsAct false origin last ask.now token body moment C.always (C.sight caller.old) (C.sight caller.new) result }
     ensures basis { C.basis caller.new ≡ C.basis caller.old }
     ensures references { C.references caller.new ≡ C.references caller.old }
 {
@@ -99,8 +96,6 @@ fn make_and_tell<C: Caller>(
 fn check_file_info<C: Caller>(
     alloc: Global,
     caller: &mut C,
-    desk: &Desk,
-    editor: bool,
     ask: &Ask,
     token: Token,
     body: Bytes,
@@ -108,7 +103,7 @@ fn check_file_info<C: Caller>(
 ) -> Result<Answer, Memory>
     requires moment { IsMoment moment }
     requires info { asks_info ask.now.op ≡ true }
-    ensures tells { TellsAct editor desk.now.origin ask.now token body moment C.always (C.sight caller.old) (C.sight caller.new) result }
+    ensures tells { (origin : Option (List ℕ)) (last : Option LastSave) → TellsAct false origin last ask.now token body moment C.always (C.sight caller.old) (C.sight caller.new) result }
     ensures basis { C.basis caller.new ≡ C.basis caller.old }
     ensures references { C.references caller.new ≡ C.references caller.old }
 {
@@ -121,16 +116,79 @@ fn check_file_info<C: Caller>(
     };
     match make(caller, call, moment) {
         Called::Ruled { ruling, back: _ } => info_told(
-            alloc,
-            editor,
-            &desk.origin,
-            &ask.file,
-            &token,
-            ruling,
+            alloc, false, &None, &None, &ask.file, &token, ruling,
         ),
         Called::Full => journal_full(alloc),
         Called::Memory => Err(Memory),
     }
+}
+
+/// Makes an editor's call, which is no PutRelativeFile, and tells what became of it and what its file is like.
+fn call_for_editor<C: Caller>(
+    alloc: Global,
+    caller: &mut C,
+    desk: &Desk,
+    last: Option<LastSave>,
+    ask: &Ask,
+    token: Token,
+    body: Bytes,
+    moment: u64,
+) -> Result<Answer, Memory>
+    requires moment { IsMoment moment }
+    requires alone { is_copy ask.now.op ≡ false }
+    ensures tells { TellsAct true desk.now.origin last ask.now token body moment C.always (C.sight caller.old) (C.sight caller.new) result }
+    ensures basis { C.basis caller.new ≡ C.basis caller.old }
+    ensures references { C.references caller.new ≡ C.references caller.old }
+{
+    let name = ask.file.copy();
+    let shown = token.copy();
+    let act = act_of(&ask.op, body);
+    let call = Call {
+        name,
+        token: shown,
+        act,
+    };
+    match caller.call_for_editor(call, moment_known(last), moment) {
+        Ok(told) => told_by(
+            alloc,
+            &desk.origin,
+            suite_of(last),
+            &ask.op,
+            &ask.file,
+            &token,
+            told,
+        ),
+        Err(CallFault::Full(_)) => journal_full(alloc),
+        Err(CallFault::Memory(_)) => Err(Memory),
+    }
+}
+
+/// Makes the call of an operation that is no PutRelativeFile, by whether the host serves editors, and tells what became of it.
+fn call_asked<C: Caller>(
+    alloc: Global,
+    caller: &mut C,
+    desk: &Desk,
+    editor: bool,
+    fields: &[Field],
+    ask: &Ask,
+    token: Token,
+    body: Bytes,
+    moment: u64,
+) -> Result<Answer, Memory>
+    requires moment { IsMoment moment }
+    requires alone { is_copy ask.now.op ≡ false }
+    ensures tells { TellsAct editor desk.now.origin (last_known editor fields.now) ask.now token body moment C.always (C.sight caller.old) (C.sight caller.new) result }
+    ensures basis { C.basis caller.new ≡ C.basis caller.old }
+    ensures references { C.references caller.new ≡ C.references caller.old }
+{
+    let last = last_known(editor, fields);
+    if editor {
+        return call_for_editor(alloc, caller, desk, last, ask, token, body, moment);
+    }
+    if is_info(&ask.op) {
+        return check_file_info(alloc, caller, ask, token, body, moment);
+    }
+    make_and_tell(alloc, caller, ask, token, body, moment)
 }
 
 /// Makes the calls of a PutRelativeFile, and tells what became of them. The target is taken out of the ask.
@@ -180,7 +238,7 @@ fn answer_ask<C: Caller>(
 ) -> Result<Answer, Memory>
     requires moment { IsMoment moment }
     requires remembers { Remembers desk.now.keys recent.old }
-    ensures tells { Tells (RuledTo editor desk.now (asked_with editor fields.now ask.old) body moment) C.always (C.sight caller.old) (C.sight caller.new) result }
+    ensures tells { Tells (RuledTo editor (last_known editor fields.now) desk.now (asked_with editor fields.now ask.old) body moment) C.always (C.sight caller.old) (C.sight caller.new) result }
     ensures basis { C.basis caller.new ≡ C.basis caller.old }
     ensures references { C.references caller.new ≡ C.references caller.old }
     ensures remembers { Remembers desk.now.keys recent.new }
@@ -193,10 +251,9 @@ fn answer_ask<C: Caller>(
     if is_copy(&ask.op) {
         return copy_asked(alloc, caller, desk, ask, token, body, moment);
     }
-    if is_info(&ask.op) {
-        return check_file_info(alloc, caller, desk, editor, ask, token, body, moment);
-    }
-    make_and_tell(alloc, caller, ask, token, body, moment)
+    call_asked(
+        alloc, caller, desk, editor, fields, ask, token, body, moment,
+    )
 }
 
 /// Answers what was asked, which is in its place.
@@ -213,7 +270,7 @@ fn answer_kept<C: Caller>(
     requires moment { IsMoment moment }
     requires asked { IsSome kept.old.ask }
     requires remembers { Remembers desk.now.keys kept.old.recent }
-    ensures tells { IfSome kept.old.ask (λ ask. Tells (RuledTo editor desk.now (asked_with editor fields.now ask) body moment) C.always (C.sight caller.old) (C.sight caller.new) result) }
+    ensures tells { IfSome kept.old.ask (λ ask. Tells (RuledTo editor (last_known editor fields.now) desk.now (asked_with editor fields.now ask) body moment) C.always (C.sight caller.old) (C.sight caller.new) result) }
     ensures basis { C.basis caller.new ≡ C.basis caller.old }
     ensures references { C.references caller.new ≡ C.references caller.old }
     ensures remembers { Remembers desk.now.keys kept.new.recent }

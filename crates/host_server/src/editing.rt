@@ -5,10 +5,10 @@ ghost use Rattle.serde_json.specs.Data.{boolean, string, put as with_member};
 ghost use Rattle.serde_json.specs.View.{members_view, view};
 ghost use Rattle.std.specs.Str.{IsUtf8};
 ghost use Rattle.file_info.specs.Info.{HasTexts};
-ghost use Rattle.host_server.specs.Editing.{as_get, asks_head, asks_health, asks_options, bearer_in, behind_scheme, editor_json, file_members, info_body, is_get, is_head, is_options, joined, judged_as, may_tell, refused_status, supports_members, token_taken, user_members, with_members};
+ghost use Rattle.host_server.specs.Editing.{as_get, asks_head, asks_health, asks_options, bearer_in, behind_scheme, editor_json, file_members, info_body, is_get, is_head, is_options, joined, judged_as, last_in, may_tell, refused_status, supports_members, token_taken, user_members, with_last, with_members, with_page};
 
 use crate::address::text_of;
-use file_info::{Info, info_text};
+use file_info::{Info, Saved, info_text, put_saved};
 use put_relative::ending;
 use serde_json::{Map, Value, put};
 use std::alloc::{AllocError, Global};
@@ -79,45 +79,75 @@ fn put_user(alloc: Global, map: &mut Map<String, Value>, info: &Info) -> Result<
     put_text(alloc, map, "UserId", user)
 }
 
+/// Puts the members that tell of the file's last save, where that is told.
+fn put_last(
+    alloc: Global,
+    map: &mut Map<String, Value>,
+    saved: &Option<Saved>,
+) -> Result<(), AllocError>
+    ensures { OnOk result (members_view map.new.entries ≡ with_last (last_in saved.now) (members_view map.old.entries)) }
+{
+    match saved {
+        None => return Ok(()),
+        Some(saved) => return put_saved(alloc, map, saved),
+    }
+}
+
+/// Puts the member that tells the page's origin, where there is one.
+fn put_page(
+    alloc: Global,
+    map: &mut Map<String, Value>,
+    origin: &Option<Bytes>,
+) -> Result<(), AllocError>
+    requires { may_tell origin.now ≡ true }
+    ensures { OnOk result (members_view map.new.entries ≡ with_page origin.now (members_view map.old.entries)) }
+{
+    match origin {
+        None => return Ok(()),
+        Some(origin) => {
+            return put_text(alloc, map, "PostMessageOrigin", text_of(origin.as_slice()));
+        }
+    }
+}
+
 /// What the body of CheckFileInfo's answer tells an editor in a page of that origin.
-fn editor_value(alloc: Global, origin: &Option<Bytes>, info: &Info) -> Result<Value, AllocError>
+#[tactic(auto, using(crate::proofs::MemberLemmas::told_in_order))]
+fn editor_value(
+    alloc: Global,
+    origin: &Option<Bytes>,
+    saved: &Option<Saved>,
+    info: &Info,
+) -> Result<Value, AllocError>
     requires texts { HasTexts info.now }
     requires page { may_tell origin.now ≡ true }
-    ensures { IfOk result (λ value. view value ≡ editor_json origin.now info.now) }
+    ensures { IfOk result (λ value. view value ≡ editor_json origin.now (last_in saved.now) info.now) }
 {
     let mut map = Map::new(alloc);
     put_file(alloc, &mut map, info)?;
     put_supports(alloc, &mut map)?;
     put_user(alloc, &mut map, info)?;
-    match origin {
-        None => return Ok(Value::Object(map)),
-        Some(origin) => {
-            put_text(
-                alloc,
-                &mut map,
-                "PostMessageOrigin",
-                text_of(origin.as_slice()),
-            )?;
-            return Ok(Value::Object(map));
-        }
-    }
+    put_last(alloc, &mut map, saved)?;
+    put_page(alloc, &mut map, origin)?;
+    Ok(Value::Object(map))
 }
 
-/// The body of CheckFileInfo's answer, by whether the host serves editors, and in which page.
+/// The body of CheckFileInfo's answer, by whether the host serves editors, in which page, and what it tells of the
+/// file's last save.
 pub fn info_body(
     alloc: Global,
     editor: bool,
     origin: &Option<Bytes>,
+    saved: &Option<Saved>,
     info: &Info,
 ) -> Result<Bytes, Memory>
     requires texts { HasTexts info.now }
     requires page { may_tell origin.now ≡ true }
-    ensures { IfOk result (λ text. text ≡ info_body editor origin.now info.now) }
+    ensures { IfOk result (λ text. text ≡ info_body editor origin.now (last_in saved.now) info.now) }
 {
     if !editor {
         return info_text(alloc, info);
     }
-    let value = editor_value(alloc, origin, info)?;
+    let value = editor_value(alloc, origin, saved, info)?;
     Ok(Bytes::from_vec(value.to_vec(alloc)?))
 }
 

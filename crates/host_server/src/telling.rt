@@ -2,13 +2,13 @@
 ghost use Rattle.std.specs.Prelude.{◌≡◌, ◌==◌, [], IfOk, codes, true, unwrap_or, if◌then◌else◌};
 ghost use Rattle.wopi_headers.specs.declared.answer.BodyKind.TheVariants.{Plain};
 ghost use Rattle.file_info.specs.Info.{HasTexts};
-ghost use Rattle.host_server.specs.Editing.{may_tell};
+ghost use Rattle.host_server.specs.Editing.{last_in, may_tell};
 ghost use Rattle.wopi_acts.specs.Answers.{status_only, kind_of_contents, ruling_told};
 ghost use Rattle.host_server.specs.Telling.{journal_full, info_of, info_told_to};
 
 use crate::editing::info_body;
 use access_tokens::Token;
-use file_info::Info;
+use file_info::{Info, Saved};
 use host_core::Ruling;
 use std::alloc::Global;
 use wopi_headers::{Answer, BodyKind, version_text};
@@ -108,18 +108,19 @@ fn info_of(
     })
 }
 
-/// The answer that tells CheckFileInfo's ruling, by whether the host serves editors, and in which page. Its body
-/// has the version, and no field has it.
+/// The answer that tells CheckFileInfo's ruling, by whether the host serves editors, in which page, and what it tells of the
+/// file's last save. Its body has the version, and no field has it.
 pub fn info_told(
     alloc: Global,
     editor: bool,
     origin: &Option<Bytes>,
+    saved: &Option<Saved>,
     name: &FileName,
     token: &Token,
     ruling: Ruling,
 ) -> Result<Answer, Memory>
     requires { may_tell origin.now ≡ true }
-    ensures { IfOk result (λ a. a ≡ info_told_to editor origin.now name.now token.now ruling) }
+    ensures { IfOk result (λ a. a ≡ info_told_to editor origin.now (last_in saved.now) name.now token.now ruling) }
 {
     let accepted = ruling.status == 200;
     let version = ruling.version.unwrap_or(0);
@@ -129,7 +130,7 @@ pub fn info_told(
         let info = info_of(alloc, name, token, version, size)?;
         answer.version = None;
         answer.kind = BodyKind::Json;
-        answer.body = info_body(alloc, editor, origin, &info)?;
+        answer.body = info_body(alloc, editor, origin, saved, &info)?;
     }
     Ok(answer)
 }

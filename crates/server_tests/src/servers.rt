@@ -163,9 +163,9 @@ fn a_suggestion_gets_a_hundred_tries(rt: HostRuntime) -> Result<(), Fail> {
     Ok(())
 }
 
-/// A caller over `a.csv`, whose removal fails once.
+/// A caller over `a.csv`, whose removal, the fifth call of the folder, fails.
 fn over_a_failing_removal(alloc: Global) -> Result<Single<Kept<MemFolder>>, Fail> {
-    let mut folder = MemFolder::new(alloc, Vec::new(alloc), [4u64].as_slice().to_vec(alloc)?);
+    let mut folder = MemFolder::new(alloc, Vec::new(alloc), [5u64].as_slice().to_vec(alloc)?);
     folder.replace("a.csv", b"1,2").ok().ok_or("a file")?;
     over(alloc, 4096, folder)
 }

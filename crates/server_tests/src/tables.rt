@@ -15,6 +15,7 @@ use std::thread::join;
 use wopi_model::{Token, User};
 use wopi_text::{Bytes, FileName, LockId};
 
+mod editing;
 mod listing;
 
 /// An entry's stamp and shard.
@@ -65,6 +66,16 @@ fn lock_call(rt: &impl Abort, file: &[u8]) -> Call {
             id: LockId::read(b"L1").expect(rt, "a lock id"),
         },
     }
+}
+
+/// A save of `a.csv` under L1.
+fn save_call(rt: &impl Abort, alloc: Global, text: &[u8]) -> Result<Call, Fail> {
+    let mut save = lock_call(rt, b"a.csv");
+    save.act = Act::Put {
+        lock: Some(LockId::read(b"L1").expect(rt, "a lock id")),
+        contents: Bytes::from_vec(text.to_vec(alloc)?),
+    };
+    Ok(save)
 }
 
 /// Makes a call by whatever caller, and tells where its entry stands.

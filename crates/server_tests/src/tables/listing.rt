@@ -35,16 +35,6 @@ fn look_at<R: Wait>(
     host.look(rt, pass, shard)
 }
 
-/// A save of `a.csv` under L1.
-fn save_call(rt: &impl Abort, alloc: Global, text: &[u8]) -> Result<Call, Fail> {
-    let mut save = lock_call(rt, b"a.csv");
-    save.act = Act::Put {
-        lock: Some(LockId::read(b"L1").expect(rt, "a lock id")),
-        contents: Bytes::from_vec(text.to_vec(alloc)?),
-    };
-    Ok(save)
-}
-
 #[test]
 fn a_host_is_listed_shard_by_shard(rt: HostRuntime) -> Result<(), Fail> {
     let alloc = rt.alloc();

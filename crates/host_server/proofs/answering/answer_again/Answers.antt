@@ -2,6 +2,7 @@ use Rattle.std.proofs.Common.{List, IfSome, ap, subst, ◌∙◌}
 use Rattle.wopi_http.specs.declared.message.Field.{Field}
 use Rattle.host_server.specs.Answering.{RuledTo, Contained, asked_with, container_asked_with}
 use Rattle.host_server.specs.Calls.{Tells}
+use Rattle.host_server.specs.Known.{last_known}
 use Rattle.wopi_acts.specs.Answers.{status_only}
 use Rattle.host_server.proofs.TellLemmas.{is_kept, kept_answers, contained_answers, refused_answers}
 use Rattle.host_server.proofs.answering.answer_again.Goals as goal
@@ -10,7 +11,7 @@ pub returns-in-Ok-None-clause-answers : goal.returns-in-Ok-None-clause-answers
 returns-in-Ok-None-clause-answers g c =
     kept_answers c.args.editor c.args.desk.now c.args.request c.args.moment g.C.Caller.always _ (rw c.in-Ok-None.field-0-is at c.in-Ok-None.ensures.read) (g.C.Caller.sight c.args.caller.now)
     (g.C.Caller.sight c.answer_kept.new.caller) c.answer_kept.result
-    (subst (λ (fields : List Field). IfSome c.place_into.new.place (λ ask. Tells (RuledTo c.args.editor c.args.desk.now (asked_with c.args.editor fields ask) c.args.request.body c.args.moment) g.C.Caller.always
+    (subst (λ (fields : List Field). IfSome c.place_into.new.place (λ ask. Tells (RuledTo c.args.editor (last_known c.args.editor fields) c.args.desk.now (asked_with c.args.editor fields ask) c.args.request.body c.args.moment) g.C.Caller.always
     (g.C.Caller.sight c.args.caller.now) (g.C.Caller.sight c.answer_kept.new.caller) c.answer_kept.result)) c.as_slice.ensures c.answer_kept.ensures.tells)
 
 pub answer_kept-requires-clause-asked : goal.answer_kept-requires-clause-asked

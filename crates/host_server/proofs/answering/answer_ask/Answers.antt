@@ -3,6 +3,7 @@ use Rattle.std.proofs.lemmas.Result.{err_from_is_err_and}
 use Rattle.access_tokens.specs.TokenText.{IsSigned}
 use Rattle.host_server.specs.Answering.{RuledTo, asked_with}
 use Rattle.host_server.specs.Editing.{token_taken}
+use Rattle.host_server.specs.Known.{last_known}
 use Rattle.host_server.proofs.DeedLemmas.{Does-nil}
 use Rattle.host_server.proofs.TellLemmas.{dead_tells, call_tells, copy_tells, tells_nothing}
 use Rattle.host_server.proofs.answering.answer_ask.Goals as goal
@@ -12,13 +13,13 @@ returns-in_err-judged-clause-tells g c =
     let sight = g.C.Caller.sight c.args.caller.now in
     let p = err_from_is_err_and c.from_residual.result c.from_residual.ensures.1 in
     rw p.1 (tells_nothing g.C.Caller.always sight sight
-    (RuledTo c.args.editor c.args.desk.now (asked_with c.args.editor c.args.fields.now c.args.ask.now) c.args.body c.args.moment) p.0 (Does-nil g.C.Caller.always sight))
+    (RuledTo c.args.editor (last_known c.args.editor c.args.fields.now) c.args.desk.now (asked_with c.args.editor c.args.fields.now c.args.ask.now) c.args.body c.args.moment) p.0 (Does-nil g.C.Caller.always sight))
 
 pub returns-in_default-clause-tells : goal.returns-in_default-clause-tells
 returns-in_default-clause-tells g c =
     let same : c.in_ok-judged.judged ≡ token_taken c.args.editor c.args.fields.now c.args.ask.now.token =
     c.in_ok-judged.ensures ∙ ap (token_taken c.args.editor c.args.fields.now) c.replace-text.ensures.value in
-    dead_tells c.args.editor c.args.desk.now (asked_with c.args.editor c.args.fields.now c.args.ask.now) c.args.body c.args.moment g.C.Caller.always (g.C.Caller.sight c.args.caller.now) _
+    dead_tells c.args.editor (last_known c.args.editor c.args.fields.now) c.args.desk.now (asked_with c.args.editor c.args.fields.now c.args.ask.now) c.args.body c.args.moment g.C.Caller.always (g.C.Caller.sight c.args.caller.now) _
     (λ token signed.
     let shown = subst (λ (t : List ℕ). IsSigned c.args.desk.now.keys t token) (sym same) signed in
     let read = (c.read.ensures.exact token).1 shown in absurd (cc)) c.status_only.ensures
@@ -29,26 +30,17 @@ returns-then-is_copy-clause-tells g c =
     c.in_ok-judged.ensures ∙ ap (token_taken c.args.editor c.args.fields.now) c.replace-text.ensures.value in
     let told = c.copy_asked.ensures.tells in
     let signed = subst (λ (t : List ℕ). IsSigned c.args.desk.now.keys t c.in-Some.token) same ((c.in-Some.ensures.exact c.in-Some.token).0 refl) in
-    copy_tells c.args.editor c.args.desk.now (asked_with c.args.editor c.args.fields.now c.args.ask.now) c.args.body c.args.moment g.C.Caller.always c.in-Some.token told.0 signed told.1 c.args.body refl
+    copy_tells c.args.editor (last_known c.args.editor c.args.fields.now) c.args.desk.now (asked_with c.args.editor c.args.fields.now c.args.ask.now) c.args.body c.args.moment g.C.Caller.always c.in-Some.token told.0 signed told.1 c.args.body refl
     (g.C.Caller.sight c.args.caller.now) (g.C.Caller.sight c.copy_asked.new.caller) c.copy_asked.result told.2
-
-pub returns-then-is_info-clause-tells : goal.returns-then-is_info-clause-tells
-returns-then-is_info-clause-tells g c =
-    let same : c.in_ok-judged.judged ≡ token_taken c.args.editor c.args.fields.now c.args.ask.now.token =
-    c.in_ok-judged.ensures ∙ ap (token_taken c.args.editor c.args.fields.now) c.replace-text.ensures.value in
-    let told = c.check_file_info.ensures.tells in
-    let signed = subst (λ (t : List ℕ). IsSigned c.args.desk.now.keys t c.in-Some.token) same ((c.in-Some.ensures.exact c.in-Some.token).0 refl) in
-    call_tells c.args.editor c.args.desk.now (asked_with c.args.editor c.args.fields.now c.args.ask.now) c.args.body c.args.moment g.C.Caller.always c.in-Some.token told.0 signed told.1
-    (g.C.Caller.sight c.args.caller.now) (g.C.Caller.sight c.check_file_info.new.caller) c.check_file_info.result told.2
 
 pub returns-clause-tells : goal.returns-clause-tells
 returns-clause-tells g c =
     let same : c.in_ok-judged.judged ≡ token_taken c.args.editor c.args.fields.now c.args.ask.now.token =
     c.in_ok-judged.ensures ∙ ap (token_taken c.args.editor c.args.fields.now) c.replace-text.ensures.value in
-    let told = c.make_and_tell.ensures.tells c.args.editor c.args.desk.now.origin in
+    let told = c.call_asked.ensures.tells in
     let signed = subst (λ (t : List ℕ). IsSigned c.args.desk.now.keys t c.in-Some.token) same ((c.in-Some.ensures.exact c.in-Some.token).0 refl) in
-    call_tells c.args.editor c.args.desk.now (asked_with c.args.editor c.args.fields.now c.args.ask.now) c.args.body c.args.moment g.C.Caller.always c.in-Some.token told.0 signed told.1
-    (g.C.Caller.sight c.args.caller.now) (g.C.Caller.sight c.make_and_tell.new.caller) c.make_and_tell.result told.2
+    call_tells c.args.editor (last_known c.args.editor c.args.fields.now) c.args.desk.now (asked_with c.args.editor c.args.fields.now c.args.ask.now) c.args.body c.args.moment g.C.Caller.always
+    c.in-Some.token told.0 signed told.1 (g.C.Caller.sight c.args.caller.now) (g.C.Caller.sight c.call_asked.new.caller) c.call_asked.result told.2
 
 -- a token that is read can be written
 pub copy_asked-requires-clause-asking : goal.copy_asked-requires-clause-asking

@@ -1,4 +1,4 @@
-use Rattle.std.proofs.Common.{refl, ◌∙◌, subst, ◌≡◌}
+use Rattle.std.proofs.Common.{false, refl, ◌∙◌, subst, ◌≡◌}
 use Rattle.std.specs.Prelude.{IfOk, Err}
 use Rattle.wopi_headers.specs.declared.answer.Answer.{Answer}
 use Rattle.wopi_model.specs.declared.calls.Call.{Call}
@@ -10,36 +10,36 @@ use Rattle.host_server.proofs.TellLemmas.{ruling_of_call, ruled_tells, full_tell
 use Rattle.host_server.proofs.answering.make_and_tell.Goals as goal
 
 pub returns-in-Ok-clause-tells : goal.returns-in-Ok-clause-tells
-returns-in-Ok-clause-tells g c editor origin =
+returns-in-Ok-clause-tells g c origin last =
     let old = g.C.Caller.sight c.args.caller.now in
     let new = g.C.Caller.sight c.call.new.self in
     let call : Call = record { name = c.copy-name.result; token = c.args.token; act = c.act_of-act.result } in
     let other = info_same c.args.ask.now.op c.args.body c.act_of-act.result c.act_of-act.ensures ∙ c.requires.other in
-    let told = ruling_of_call editor origin call c.in-Ok.receipt.ruling other in
+    let told = ruling_of_call call c.in-Ok.receipt.ruling other in
     let calls = makes_calls g.C.Caller.always old new call c.args.moment c.in-Ok.receipt c.in-Ok.ensures.made c.call.ensures.frame
     (g.met.C.Caller.has_floor c.args.caller.now) (g.met.C.Caller.is_always c.args.caller.now) (g.met.C.Caller.is_always c.call.new.self) in
-    act_tells editor origin c.args.ask.now c.args.token c.args.body c.args.moment g.C.Caller.always old new c.copy-name.result c.args.token c.act_of-act.result
+    act_tells false origin last c.args.ask.now c.args.token c.args.body c.args.moment g.C.Caller.always old new c.copy-name.result c.args.token c.act_of-act.result
     c.copy-name.ensures refl c.act_of-act.ensures c.ruling_told.result
-    (ruled_tells g.C.Caller.always old new editor origin call c.args.moment c.in-Ok.receipt.ruling _ c.ruling_told.result calls
+    (ruled_tells g.C.Caller.always old new origin last call c.args.moment c.in-Ok.receipt.ruling _ c.ruling_told.result calls
     (subst (λ (other : Answer). IfOk c.ruling_told.result (λ a. a ≡ other)) told c.ruling_told.ensures))
 
 pub returns-in-Err-Full-clause-tells : goal.returns-in-Err-Full-clause-tells
-returns-in-Err-Full-clause-tells g c editor origin =
+returns-in-Err-Full-clause-tells g c origin last =
     let old = g.C.Caller.sight c.args.caller.now in
     let new = g.C.Caller.sight c.call.new.self in
     let call : Call = record { name = c.copy-name.result; token = c.args.token; act = c.act_of-act.result } in
     let calls = full_calls g.C.Caller.always old new call c.args.moment _ (rw c.in-Err-Full.field-0-is at c.in-Err-Full.ensures.refused) c.call.ensures.frame
     (g.met.C.Caller.has_floor c.args.caller.now) (g.met.C.Caller.is_always c.args.caller.now) (g.met.C.Caller.is_always c.call.new.self) in
-    act_tells editor origin c.args.ask.now c.args.token c.args.body c.args.moment g.C.Caller.always old new c.copy-name.result c.args.token c.act_of-act.result
+    act_tells false origin last c.args.ask.now c.args.token c.args.body c.args.moment g.C.Caller.always old new c.copy-name.result c.args.token c.act_of-act.result
     c.copy-name.ensures refl c.act_of-act.ensures c.journal_full.result
-    (full_tells g.C.Caller.always old new editor origin call c.args.moment c.journal_full.result calls c.journal_full.ensures)
+    (full_tells g.C.Caller.always old new origin last call c.args.moment false c.journal_full.result calls c.journal_full.ensures)
 
 pub returns-clause-tells : goal.returns-clause-tells
-returns-clause-tells g c editor origin =
+returns-clause-tells g c origin last =
     let old = g.C.Caller.sight c.args.caller.now in
     let new = g.C.Caller.sight c.call.new.self in
     let call : Call = record { name = c.copy-name.result; token = c.args.token; act = c.act_of-act.result } in
-    act_tells editor origin c.args.ask.now c.args.token c.args.body c.args.moment g.C.Caller.always old new c.copy-name.result c.args.token c.act_of-act.result
+    act_tells false origin last c.args.ask.now c.args.token c.args.body c.args.moment g.C.Caller.always old new c.copy-name.result c.args.token c.act_of-act.result
     c.copy-name.ensures refl c.act_of-act.ensures (Err (record {}))
-    (tells_nothing g.C.Caller.always old new (TellsCall editor origin call c.args.moment) _
+    (tells_nothing g.C.Caller.always old new (TellsCall false origin last call c.args.moment) _
     (does_nothing g.C.Caller.always old new call c.args.moment _ c.in-Err-Memory.ensures.refused c.call.ensures.frame))
