@@ -19,10 +19,10 @@ use Rattle.wopi_client.specs.declared.desktop.Desktop.{Desktop}
 use Rattle.host_server.specs.Deeds.{made}
 use Rattle.host_server.specs.Turns.{Turn, Said, answer, head, options, no_memory}
 use Rattle.wopi_world.specs.History.{Item, Ran}
-use Rattle.wopi_world.specs.Requests.{Client, Sent, sent_with, operation, call_of}
-use Rattle.wopi_world.specs.Talks.{LooksSame, IsSameText, Speaker, first_speaker, does, hears, Awaits, Came, TalksOver, IsTalkOver}
+use Rattle.wopi_world.specs.Requests.{Client, Sent, Put, sent_with, operation, call_of, look_of}
+use Rattle.wopi_world.specs.Talks.{LooksSame, IsSameText, changed_by, Speaker, first_speaker, does, hears, Awaits, Came, TalksOver, IsTalkOver}
 use Rattle.wopi_world.specs.Talks as talks
-use Rattle.wopi_ends.specs.Messages.{TellsNone, TellsEntry, IsOwnTurn, unmade, makes}
+use Rattle.wopi_ends.specs.Messages.{TellsNone, TellsRuling, IsOwnTurn, unmade, makes, looked}
 use Rattle.wopi_ends.specs.Hearing.{Spoken, own, aside, IsAsked, Ending, behind_all, at_bad, at_want, Hears}
 use Rattle.wopi_ends.specs.Hearing as hearing
 use Rattle.wopi_ends.specs.Crossing.{IsOwn, IsReadAs, Arrival, ComesOf, told_entry, told_none, IsReplyTo, Crosses, AreExchangedOver}
@@ -69,12 +69,12 @@ data Reads (sent : Sent) (ruling : Ruling) (got : Answer) : Type 0 where
   tells : LooksSame (operation sent) got (ruling_told ruling) → Reads sent ruling got
   fails : got.status ≢ 200 → got.status ≢ 409 → Reads sent ruling got
 
-reads_entry : (sent : Sent) (entry : Entry) (said : Said) (got : Answer) → TellsEntry sent entry said → IsReadAs sent said got → Reads sent entry.ruling got
-reads_entry sent entry (answer a) got looks is =
-    tells (looks_through (operation sent) got a (ruling_told entry.ruling) is looks)
-reads_entry sent entry (head a) got looks is = absurd looks
-reads_entry sent entry options got looks is = absurd looks
-reads_entry sent entry no_memory got looks is = fails (fault_ok got.status is) (fault_conflict got.status is)
+reads_ruling : (sent : Sent) (ruling : Ruling) (said : Said) (got : Answer) → TellsRuling sent ruling said → IsReadAs sent said got → Reads sent ruling got
+reads_ruling sent ruling (answer a) got looks is =
+    tells (looks_through (operation sent) got a (ruling_told ruling) is looks)
+reads_ruling sent ruling (head a) got looks is = absurd looks
+reads_ruling sent ruling options got looks is = absurd looks
+reads_ruling sent ruling no_memory got looks is = fails (fault_ok got.status is) (fault_conflict got.status is)
 
 reads_none : (sent : Sent) (said : Said) (got : Answer) → TellsNone said → IsReadAs sent said got → (got.status ≢ 200) × (got.status ≢ 409)
 reads_none sent (answer a) got none is =
@@ -89,23 +89,24 @@ one_entry : (one other : Entry) (rest : List Entry) → one ∷ [] ≡ other ∷
 one_entry one other rest e = cc
 
 module _ (desktop : Desktop) (client : Client) (own_turns : (sent : Sent) (t : Turn) → IsOwn desktop client sent t → IsOwnTurn client sent t) where
-  -- the entry that a message made is of the session's call, and what was said tells it
-  record Enters (sent : Sent) (t : Turn) (entry : Entry) : Type 0 where
-    call : entry.call ≡ call_of client sent
-    says : TellsEntry sent entry t.said
+  -- what came of a message that made an entry: the session's call, or a look at the lock in its stead; and what was said tells it
+  data Enters (sent : Sent) (t : Turn) (entry : Entry) : Type 0 where
+    of_call : entry.call ≡ call_of client sent → TellsRuling sent entry.ruling t.said → Enters sent t entry
+    in_stead : (number : ℕ) (contents : List ℕ) → sent ≡ Put number contents → entry.call ≡ look_of client → TellsRuling sent (changed_by entry.ruling) t.said → Enters sent t entry
 
   enters : (sent : Sent) (t : Turn) (entry : Entry) → made t.part ≡ entry ∷ [] → IsOwnTurn client sent t → Enters sent t entry
   enters sent t entry one (unmade none says) = let bad : [] ≡ entry ∷ [] = sym none ∙ one in cc
   enters sent t entry one (makes other made_other call moment says) =
       let same : entry ≡ other = one_entry entry other [] (sym one ∙ made_other) in
-      record {
-        call = ap (λ (e : Entry). e.call) same ∙ call;
-        says = subst (λ (e : Entry). TellsEntry sent e t.said) (sym same) says;
-      }
+      of_call (ap (λ (e : Entry). e.call) same ∙ call) (subst (λ (e : Entry). TellsRuling sent e.ruling t.said) (sym same) says)
+  enters sent t entry one (looked number contents other put when made_other call moment says) =
+      let same : entry ≡ other = one_entry entry other [] (sym one ∙ made_other) in
+      in_stead number contents put (ap (λ (e : Entry). e.call) same ∙ call) (subst (λ (e : Entry). TellsRuling sent (changed_by e.ruling) t.said) (sym same) says)
 
   says_none : (sent : Sent) (t : Turn) → made t.part ≡ [] → IsOwnTurn client sent t → TellsNone t.said
   says_none sent t none (unmade _ says) = says
   says_none sent t none (makes other made_other call moment says) = let bad : [] ≡ other ∷ [] = sym none ∙ made_other in cc
+  says_none sent t none (looked number contents other put when made_other call moment says) = let bad : [] ≡ other ∷ [] = sym none ∙ made_other in cc
 
   -- of each message that made an entry it is known what came of its request, and what its answer tells
   record IsKnown (came : List Came) (sent : Sent) (t : Turn) : Type 0 where
@@ -162,17 +163,25 @@ module _ (desktop : Desktop) (client : Client) (own_turns : (sent : Sent) (t : T
   were_sent_hears : (requests : List Sent) (speaker : Speaker) (input : Input) → WereSent requests speaker → WereSent requests (hears client speaker input)
   were_sent_hears requests speaker input were sent there = hears_stays client speaker input sent (were sent there)
 
-  -- a message makes an entry
+  -- a message makes an entry, of which the answer tells that ruling
+  known_new : (arrivals : List Arrival) (came : List Came) (sent : Sent) (t : Turn) (ruling : Ruling) → AreKnown arrivals came → TellsRuling sent ruling t.said →
+      AreKnown (arrivals ++ record { sent = sent; turn = t } ∷ []) (came ++ record { sent = sent; ruling = ruling } ∷ [])
+  known_new arrivals came sent t ruling known says =
+      let new : Came = record { sent = sent; ruling = ruling } in
+      known_push arrivals came sent t new known (record { ruling = ruling; there = Contains-push came new; reads = λ got reads. reads_ruling sent ruling t.said got says reads })
+
   arriving : (requests : List Sent) (arrivals : List Arrival) (speaker : Speaker) (came : List Came) (sent : Sent) (t : Turn) (entry : Entry) (heard : List Input) (items : List Item) →
-      WereSent requests speaker → AreKnown arrivals came → Contains requests sent → IsOwn desktop client sent t → made t.part ≡ entry ∷ [] →
-      (AreKnown (arrivals ++ record { sent = sent; turn = t } ∷ []) (came ++ record { sent = sent; ruling = entry.ruling } ∷ []) →
-      TalksOver client speaker (came ++ record { sent = sent; ruling = entry.ruling } ∷ []) heard items) → TalksOver client speaker came heard (Ran (Step entry) ∷ items)
-  arriving requests arrivals speaker came sent t entry heard items were known there own_t one more =
-      let e = enters sent t entry one (own_turns sent t own_t) in
-      let new : Came = record { sent = sent; ruling = entry.ruling } in
-      talks.arrives speaker came sent entry heard items (were sent there) e.call
-      (more (known_push arrivals came sent t new known
-      (record { ruling = entry.ruling; there = Contains-push came new; reads = λ got reads. reads_entry sent entry t.said got e.says reads })))
+      WereSent requests speaker → AreKnown arrivals came → Contains requests sent → Enters sent t entry →
+      ((came' : List Came) → AreKnown (arrivals ++ record { sent = sent; turn = t } ∷ []) came' → TalksOver client speaker came' heard items) →
+      TalksOver client speaker came heard (Ran (Step entry) ∷ items)
+  arriving requests arrivals speaker came sent t entry heard items were known there (of_call call says) more =
+      talks.arrives speaker came sent entry heard items (were sent there) call
+      (more (came ++ record { sent = sent; ruling = entry.ruling } ∷ []) (known_new arrivals came sent t entry.ruling known says))
+  arriving requests arrivals speaker came sent t entry heard items were known there (in_stead number contents put call says) more =
+      let ruling = changed_by entry.ruling in
+      talks.looked speaker came number contents entry heard items (subst (Contains speaker.sent) put (were sent there)) call
+      (subst (λ (x : Sent). TalksOver client speaker (came ++ record { sent = x; ruling = ruling } ∷ []) heard items) put
+      (more (came ++ record { sent = sent; ruling = ruling } ∷ []) (known_new arrivals came sent t ruling known says)))
 
   -- What goes on with the rest of the exchanges once the exchange of a request has ended, or one for a copy.
   abbrev Rest : Speaker → List Spoken → List Input → (List Arrival → Type 0) → Type 0
@@ -187,8 +196,8 @@ module _ (desktop : Desktop) (client : Client) (own_turns : (sent : Sent) (t : T
   while_asked speaker sent exchange spoken heard was rest requests arrivals came items (crossing.sends _ _ _ _ _ _ c) were known =
       while_asked speaker sent exchange spoken heard was rest (requests ++ sent ∷ []) arrivals came items c (were_sent_push requests speaker sent were was) known
   while_asked speaker sent exchange spoken heard was rest requests arrivals came (item ∷ items) (crossing.arrives _ _ one t entry _ _ there own_t made_one c) were known =
-      arriving requests arrivals speaker came one t entry heard items were known there own_t made_one
-      (λ k. while_asked speaker sent exchange spoken heard was rest requests (arrivals ++ record { sent = one; turn = t } ∷ []) (came ++ record { sent = one; ruling = entry.ruling } ∷ []) items c were k)
+      arriving requests arrivals speaker came one t entry heard items were known there (enters one t entry made_one (own_turns one t own_t))
+      (λ came' k. while_asked speaker sent exchange spoken heard was rest requests (arrivals ++ record { sent = one; turn = t } ∷ []) came' items c were k)
   while_asked speaker sent exchange spoken heard was rest requests arrivals came items (crossing.replied _ _ _ _ _ _ reply c) were known =
       rest requests arrivals came items reply c were known
   while_asked speaker sent exchange spoken heard was rest requests arrivals came (item ∷ items) (crossing.passes _ _ _ _ _ other c) were known =
@@ -198,8 +207,8 @@ module _ (desktop : Desktop) (client : Client) (own_turns : (sent : Sent) (t : T
       (requests : List Sent) (arrivals : List Arrival) (came : List Came) (items : List Item) → Crosses desktop client requests arrivals (aside exchange ∷ spoken) items →
       WereSent requests speaker → AreKnown arrivals came → TalksOver client speaker came heard items
   while_copying speaker exchange spoken heard rest requests arrivals came (item ∷ items) (crossing.arrives _ _ one t entry _ _ there own_t made_one c) were known =
-      arriving requests arrivals speaker came one t entry heard items were known there own_t made_one
-      (λ k. while_copying speaker exchange spoken heard rest requests (arrivals ++ record { sent = one; turn = t } ∷ []) (came ++ record { sent = one; ruling = entry.ruling } ∷ []) items c were k)
+      arriving requests arrivals speaker came one t entry heard items were known there (enters one t entry made_one (own_turns one t own_t))
+      (λ came' k. while_copying speaker exchange spoken heard rest requests (arrivals ++ record { sent = one; turn = t } ∷ []) came' items c were k)
   while_copying speaker exchange spoken heard rest requests arrivals came items (crossing.copied _ _ _ _ _ c) were known = rest requests arrivals came items tt c were known
   while_copying speaker exchange spoken heard rest requests arrivals came (item ∷ items) (crossing.passes _ _ _ _ _ other c) were known =
       talks.passes speaker came item heard items other (while_copying speaker exchange spoken heard rest requests arrivals came items c were known)
@@ -209,8 +218,8 @@ module _ (desktop : Desktop) (client : Client) (own_turns : (sent : Sent) (t : T
       WereSent requests speaker → AreKnown arrivals came → TalksOver client speaker came [] items
   afterwards speaker requests arrivals came [] (crossing.over _ _) were known = talks.ends speaker came
   afterwards speaker requests arrivals came (item ∷ items) (crossing.arrives _ _ one t entry _ _ there own_t made_one c) were known =
-      arriving requests arrivals speaker came one t entry [] items were known there own_t made_one
-      (λ k. afterwards speaker requests (arrivals ++ record { sent = one; turn = t } ∷ []) (came ++ record { sent = one; ruling = entry.ruling } ∷ []) items c were k)
+      arriving requests arrivals speaker came one t entry [] items were known there (enters one t entry made_one (own_turns one t own_t))
+      (λ came' k. afterwards speaker requests (arrivals ++ record { sent = one; turn = t } ∷ []) came' items c were k)
   afterwards speaker requests arrivals came (item ∷ items) (crossing.passes _ _ _ _ _ other c) were known =
       talks.passes speaker came item [] items other (afterwards speaker requests arrivals came items c were known)
 

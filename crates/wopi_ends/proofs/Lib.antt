@@ -5,3 +5,4 @@ pub mod Living
 pub mod Sourcing
 pub mod Saying
 pub mod Reopening
+pub mod Unsaid

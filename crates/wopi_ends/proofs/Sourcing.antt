@@ -6,7 +6,7 @@ use Rattle.wopi_model.specs.Shard.{Entry}
 use Rattle.host_server.specs.declared.desk.Desk.{Desk}
 use Rattle.host_server.specs.declared.connection.ConnEnd.{ConnEnd}
 use Rattle.host_server.specs.declared.connection.ConnEnd.TheVariants.{Done, ReadFault, WriteFault, Memory}
-use Rattle.host_server.specs.Deeds.{Deed, Made, Blocked, Listed, made}
+use Rattle.host_server.specs.Deeds.{Deed, Made, MadeFor, Blocked, Listed, made}
 use Rattle.host_server.specs.Turns.{Turn, IsTurn, GoOn, bytes_of, parts_of}
 use Rattle.host_server.specs.Connection.{End, closed, empty, refused, wanted, IsEnd, end_part, Next, line, reply, last, IsNext, next_part, Cut, Awaits, IsConnEnd}
 use Rattle.wopi_ends.specs.Sources.{IsOfMessage}
@@ -18,6 +18,7 @@ all_append P (x ∷ xs) ys h k = (h.0, all_append P xs ys h.1 k)
 pub made-append : (xs ys : List Deed) → made (xs ++ ys) ≡ made xs ++ made ys
 made-append [] ys = refl
 made-append (Made entry ∷ xs) ys = ap (λ (l : List Entry). entry ∷ l) (made-append xs ys)
+made-append (MadeFor one ∷ xs) ys = ap (λ (l : List Entry). one.entry ∷ l) (made-append xs ys)
 made-append (Blocked call moment before later ∷ xs) ys = made-append xs ys
 made-append (Listed listings ∷ xs) ys = made-append xs ys
 

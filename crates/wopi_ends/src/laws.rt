@@ -1,12 +1,13 @@
 //! What holds of both ends, as contracts of functions that do nothing.
 ghost use Rattle.std.specs.List.{AllByRecursion};
-ghost use Rattle.std.specs.Prelude.{◌≡◌, ◌++◌, ◌∷◌, ◌<◌, ◌≤◌, ℕ, Bool, List, length, map, Option, Result};
+ghost use Rattle.std.specs.Prelude.{◌≡◌, ◌++◌, ◌∷◌, ◌<◌, ◌≤◌, ℕ, Bool, List, length, map, None, Option, Result, Some};
 ghost use Rattle.outside.specs.declared.dialer.Exchange.{Exchange};
 ghost use Rattle.wopi_http.specs.Limits.{body_limit};
 ghost use Rattle.wopi_http.specs.Replies.{phrase_of};
 ghost use Rattle.wopi_headers.specs.declared.answer.Answer.{Answer};
 ghost use Rattle.wopi_headers.specs.declared.ask.Op.{Op};
 ghost use Rattle.wopi_headers.specs.AnswerReads.{IsAnswer, told};
+ghost use Rattle.wopi_headers.specs.Known.{known_in};
 ghost use Rattle.wopi_headers.specs.Operations.{AsksFor};
 ghost use Rattle.wopi_headers.specs.Requests.{IsReadable};
 ghost use Rattle.save_session.specs.declared.input.Input.{Input};
@@ -76,10 +77,12 @@ pub fn a_script_is_heard()
 {}
 
 /// A message of just the bytes of a session's request, within the limits of a host, asks for what the
-/// request asks for, with its body.
+/// request asks for, with its body; and it doesn't say when the file was last saved.
 pub fn own_bytes_ask_the_same()
-    ensures { (desk : Desk) (desktop : Desktop) (client : Client) (sent : Sent) (t : Turn) → IsReadable (ask_of desktop client sent) desktop.authority (body sent) →
+    ensures asks { (desk : Desk) (desktop : Desktop) (client : Client) (sent : Sent) (t : Turn) → IsReadable (ask_of desktop client sent) desktop.authority (body sent) →
         IsTurn desk t → t.bytes ≡ bytes_of desktop client sent → AsksFor t.request (ask_of desktop client sent) × (t.request.body ≡ body sent) }
+    ensures says_no_moment { (desk : Desk) (desktop : Desktop) (client : Client) (sent : Sent) (t : Turn) → IsReadable (ask_of desktop client sent) desktop.authority (body sent) →
+        IsTurn desk t → t.bytes ≡ bytes_of desktop client sent → known_in t.request.fields ≡ Some None }
 {
     what_is_asked_is_read();
     no_message_begins_another();
@@ -87,7 +90,9 @@ pub fn own_bytes_ask_the_same()
 
 /// A message that a host answers, and that asks for what a session's request asks for, with its body,
 /// makes no entry, or the one of the session's call; and the answer looks to the session like what
-/// tells that entry, or is neither 200 nor 409 where there is none.
+/// tells that entry, or is neither 200 nor 409 where there is none. Only where the request is a Put, and the
+/// message says when the file was last saved, may it make a look at the file's lock in place of that
+/// entry; and then the answer tells that the file was changed, and of the lock.
 pub fn own_messages_make_own_entries()
     ensures { (desk : Desk) (desktop : Desktop) (client : Client) (sent : Sent) (t : Turn) → IsAt desk.keys desktop client →
         AsksFor t.request (ask_of desktop client sent) → t.request.body ≡ body sent → IsTurn desk t → IsOwnTurn client sent t }

@@ -1,9 +1,11 @@
 -- The induction: whatever order is true of time, what happens beside a session keeps what holds of it.
-use Rattle.std.proofs.Common.{◌≡◌, ◌≢◌, ◌⊎◌, ℕ, ◌+◌, ◌<◌, max, true, false, cond, List, [], ◌∷◌, ◌++◌, length, map, Option, None, Some, refl, sym, ap, subst, ◌∙◌, inl, inr, arith}
+use Rattle.std.proofs.Common.{◌≡◌, ◌≢◌, ◌⊎◌, ℕ, ◌+◌, ◌<◌, ◌==◌, max, Bool, true, false, cond, if◌then◌else◌, List, [], ◌∷◌, ◌++◌, length, map, Option, None, Some, refl, sym, ap, subst, ◌∙◌, inl, inr, arith}
+use Rattle.std.proofs.lemmas.Bool.{eqb-false}
 use Rattle.std.proofs.lemmas.List.{append_assoc, append-nil}
 use Rattle.std.specs.Str.{bytes_eq}
 use Rattle.std.specs.List.{Contains}
 use Rattle.wopi_text.specs.declared.lock_field.LockField.{LockField}
+use Rattle.wopi_text.specs.declared.reason.Reason.TheVariants.{Changed}
 use Rattle.wopi_model.specs.declared.calls.Act.{Act}
 use Rattle.wopi_model.specs.declared.calls.Act.TheVariants as act
 use Rattle.wopi_model.specs.declared.calls.Call.{Call}
@@ -30,11 +32,11 @@ use Rattle.save_session.specs.declared.state.Effect.TheVariants.{Sends, Tells, I
 use Rattle.save_session.specs.declared.state.Turn.{Turn}
 use Rattle.save_session.specs.Session.{stepped, body_of}
 use Rattle.wopi_world.specs.History.{Item, Ran, Restarted, IsAllowed, Along, happens, after}
-use Rattle.wopi_world.specs.Requests.{Client, Start, Read, Save, Refresh, Close, Sent, Info, TakeLock, Get, Put, Relock, RefreshLock, Unlock, sent_with, act_sent, call_of}
+use Rattle.wopi_world.specs.Requests.{Client, Start, Read, Save, Refresh, Close, Sent, Info, TakeLock, Get, Put, Relock, RefreshLock, Unlock, sent_with, act_sent, call_of, look_of}
 use Rattle.wopi_world.specs.World.{Told}
 use Rattle.wopi_world.specs.Safe.{IsSave, SavesAreOrdered}
 use Rattle.wopi_world.specs.Sessions.{IsDead}
-use Rattle.wopi_world.specs.Talks.{IsSameText, id_in, LooksSame, Speaker, first_speaker, does, turns, hears, hears_all, told_by, Awaits, Came, IsNoReply, IsOfOthers, TalksOver, ends, prompted, answered, refused, arrives, passes, IsTalkOver, RestartsLater, IsSafeFor}
+use Rattle.wopi_world.specs.Talks.{IsSameText, id_in, LooksSame, Speaker, first_speaker, does, turns, hears, hears_all, told_by, Awaits, Came, changed_by, IsNoReply, IsOfOthers, TalksOver, ends, prompted, answered, refused, arrives, looked, passes, IsTalkOver, RestartsLater, IsSafeFor}
 use Rattle.wopi_world.proofs.Seeing.{IsSameEffect, IsSameTurn, names_same, answered_same, unasked_same, faulted_same}
 use Rattle.wopi_world.proofs.Held.{WasHeld, held_id, own_number, under-settled, gone-settled}
 use Rattle.wopi_world.proofs.Acting.{IsReady, by_other, by_session}
@@ -364,6 +366,28 @@ module _ (client : Client) (start : Shard) where
       (came ++ record { sent = sent; ruling = entry.ruling } ∷ [])) (sym call)
       (λ allowed. kept-by shard history speaker came sent entry.stamp entry.pass entry.moment entry.ruling h was allowed)
 
+  -- a look at the lock in a Put's stead
+
+  look_of_others : (entry : Entry) → entry.call ≡ look_of client → IsOfOthers client (Ran (Step entry))
+  look_of_others entry look same number presents = subst (λ (c : Call). Presents c.act (lock_id client.nonce number)) look presents
+
+  unsaved_by : (accepted : Bool) (ruling : Ruling) → (ruling.status == 200) ≡ accepted →
+      (if accepted then record ruling { status = 409; reason = Some Changed } else ruling).status ≢ 200
+  unsaved_by true ruling e saved = absurd (omega (arith, saved))
+  unsaved_by false ruling e saved = eqb-false ruling.status 200 e saved
+
+  unsaved : (ruling : Ruling) → (changed_by ruling).status ≢ 200
+  unsaved ruling = unsaved_by (ruling.status == 200) ruling refl
+
+  kept-looked : (shard : Shard) (history : List Item) (speaker : Speaker) (came : List Came) (number : ℕ) (contents : List ℕ) (entry : Entry) → Holds client start shard history speaker came →
+      entry.call ≡ look_of client → IsAllowed shard (Ran (Step entry)) →
+      Holds client start (happens shard (Ran (Step entry))) (history ++ Ran (Step entry) ∷ []) speaker (came ++ record { sent = Put number contents; ruling = changed_by entry.ruling } ∷ [])
+  kept-looked shard history speaker came number contents entry h look allowed =
+      let item : Item = Ran (Step entry) in
+      holds-came client start (happens shard item) (history ++ item ∷ []) speaker came (record { sent = Put number contents; ruling = changed_by entry.ruling })
+      (kept-passes shard history speaker came item h (look_of_others entry look) allowed (λ moment first is. absurd (cc is)))
+      (λ saved. absurd (unsaved entry.ruling saved))
+
   -- a restart behind what was accepted under the token
 
   later_than : (whole history items : List Item) (shard : Shard) (item : Item) → history ++ item ∷ items ≡ whole → RestartsLater client whole →
@@ -404,6 +428,9 @@ module _ (client : Client) (start : Shard) where
   goes_on whole later shard history speaker came heard (item ∷ items) (arrives _ _ sent entry _ _ was call more) e allowed h =
       goes_on whole later (happens shard (Ran (Step entry))) (history ++ Ran (Step entry) ∷ []) speaker (came ++ record { sent = sent; ruling = entry.ruling } ∷ []) heard items more
       (append_assoc history (Ran (Step entry) ∷ []) items ∙ e) allowed.1 (kept-arrives shard history speaker came sent entry h was call allowed.0)
+  goes_on whole later shard history speaker came heard (item ∷ items) (looked _ _ number contents entry _ _ was look more) e allowed h =
+      goes_on whole later (happens shard (Ran (Step entry))) (history ++ Ran (Step entry) ∷ []) speaker (came ++ record { sent = Put number contents; ruling = changed_by entry.ruling } ∷ []) heard items more
+      (append_assoc history (Ran (Step entry) ∷ []) items ∙ e) allowed.1 (kept-looked shard history speaker came number contents entry h look allowed.0)
   goes_on whole later shard history speaker came heard (item ∷ items) (passes _ _ _ _ _ other more) e allowed h =
       goes_on whole later (happens shard item) (history ++ item ∷ []) speaker came heard items more
       (append_assoc history (item ∷ []) items ∙ e) allowed.1

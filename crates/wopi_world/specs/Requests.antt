@@ -2,6 +2,7 @@
 use Rattle.std.specs.Prelude.{◌≡◌, ℕ, List, [], Option, unwrap_or}
 use Rattle.wopi_model.specs.declared.token.Token.{Token}
 use Rattle.wopi_model.specs.declared.calls.Act.{Act}
+use Rattle.wopi_model.specs.declared.calls.Act.TheVariants.{GetLock}
 use Rattle.wopi_model.specs.declared.calls.Call.{Call}
 use Rattle.wopi_model.specs.Safety.{Presents}
 use Rattle.wopi_acts.specs.Acts.{act_with}
@@ -72,6 +73,10 @@ act_sent nonce sent = act_with (body sent) (op_of nonce (operation sent))
 -- the one call that a session's request makes
 abbrev pub call_of : Client → Sent → Call
 call_of client sent = record { name = client.token.file; token = client.token; act = act_sent client.nonce sent }
+
+-- the look at the lock of the session's file, under its token
+abbrev pub look_of : Client → Call
+look_of client = record { name = client.token.file; token = client.token; act = GetLock }
 
 -- on the session's file the call presents none of the session's lock ids
 abbrev pub PresentsNone : Client → Call → Type 0

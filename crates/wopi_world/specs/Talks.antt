@@ -1,8 +1,9 @@
 -- One session over one shard, with no world around them: what the session heard, what happened in the shard, and in which order.
-use Rattle.std.specs.Prelude.{◌≡◌, ◌≢◌, ⊤, ℕ, ◌<◌, List, [], ◌∷◌, ◌++◌, Option, None, Some, unwrap_or}
+use Rattle.std.specs.Prelude.{◌≡◌, ◌≢◌, ⊤, ℕ, ◌<◌, List, [], ◌∷◌, ◌++◌, Option, None, Some, unwrap_or, ◌==◌, if◌then◌else◌}
 use Rattle.std.specs.List.{slice_get, Contains}
 use Rattle.wopi_text.specs.declared.lock_field.LockField.{LockField}
 use Rattle.wopi_text.specs.declared.lock_field.LockField.TheVariants as field
+use Rattle.wopi_text.specs.declared.reason.Reason.TheVariants.{Changed}
 use Rattle.wopi_model.specs.declared.calls.Ruling.{Ruling}
 use Rattle.wopi_model.specs.Shard.{Shard, Step, Entry}
 use Rattle.wopi_headers.specs.declared.answer.Answer.{Answer}
@@ -18,7 +19,7 @@ use Rattle.save_session.specs.declared.state.Effect.TheVariants.{Sends, Tells, I
 use Rattle.save_session.specs.declared.state.Turn.{Turn}
 use Rattle.save_session.specs.Session.{new_session, stepped, body_of}
 use Rattle.wopi_world.specs.History.{Item, Ran, Restarted}
-use Rattle.wopi_world.specs.Requests.{Client, Sent, sent_with, call_of, PresentsNone}
+use Rattle.wopi_world.specs.Requests.{Client, Sent, Put, sent_with, call_of, look_of, PresentsNone}
 use Rattle.wopi_world.specs.World.{Told}
 use Rattle.wopi_world.specs.Safe.{SavesAreOrdered}
 use Rattle.wopi_world.specs.Sessions.{KeepsIds, IsUse}
@@ -86,6 +87,11 @@ pub record Came : Type 0 where
   pub sent : Sent
   pub ruling : Ruling
 
+-- What a Put is told in whose stead the file's lock was looked at: where the look was accepted, the lock that stands, and that the file was
+-- changed; else what the look was ruled.
+abbrev pub changed_by : Ruling → Ruling
+changed_by ruling = if ruling.status == 200 then record ruling { status = 409; reason = Some Changed } else ruling
+
 abbrev pub IsNoReply : Input → Type 0
 IsNoReply (Reply answer) = ⊥
 IsNoReply _ = ⊤
@@ -113,6 +119,11 @@ pub data TalksOver (client : Client) : Speaker → List Came → List Input → 
   arrives : (speaker : Speaker) (came : List Came) (sent : Sent) (entry : Entry) (heard : List Input) (items : List Item)
       → Contains speaker.sent sent → entry.call ≡ call_of client sent
       → TalksOver client speaker (came ++ record { sent = sent; ruling = entry.ruling } ∷ []) heard items → TalksOver client speaker came heard (Ran (Step entry) ∷ items)
+  -- a Put that was sent arrives, and the file's lock is looked at in its stead, so that nothing is saved
+  looked : (speaker : Speaker) (came : List Came) (number : ℕ) (contents : List ℕ) (entry : Entry) (heard : List Input) (items : List Item)
+      → Contains speaker.sent (Put number contents) → entry.call ≡ look_of client
+      → TalksOver client speaker (came ++ record { sent = Put number contents; ruling = changed_by entry.ruling } ∷ []) heard items
+      → TalksOver client speaker came heard (Ran (Step entry) ∷ items)
   -- time goes on, the host restarts, or a call of others comes
   passes : (speaker : Speaker) (came : List Came) (item : Item) (heard : List Input) (items : List Item)
       → IsOfOthers client item → TalksOver client speaker came heard items → TalksOver client speaker came heard (item ∷ items)
