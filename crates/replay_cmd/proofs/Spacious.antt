@@ -29,7 +29,7 @@ use Rattle.host_core.specs.Single.{sight_of, SeesItsOwn}
 use Rattle.host_core.specs.Value.{Book}
 use Rattle.host_server.specs.declared.desk.Desk.{Desk}
 use Rattle.host_server.specs.declared.copying.Copying.{Copying}
-use Rattle.host_server.specs.Answering.{Ruled, unauthorized, ruled, full, copied, call_of, copying_of}
+use Rattle.host_server.specs.Answering.{Ruled, unauthorized, ruled, ruled_for, full, copied, call_of, copying_of}
 use Rattle.host_server.specs.Copies.{Copied, Tried, look, create, tries}
 use Rattle.host_server.specs.Copies as copies
 use Rattle.host_server.specs.Deeds.{Deed, Made as DeedMade, Blocked, made, IsFull, IsBetween, FindsRoom, AreMet}
@@ -242,7 +242,8 @@ module _ {F : Type 0} (desk : Desk) (book book' : Book F) (world : World) (set :
 
         by_ruling : Ruled desk ask body moment h.deeds a → ⊥
         by_ruling (unauthorized none deeds told) = let status : a.status ≡ 401 = ap (λ (x : Answer). x.status) told in omega (arith, status, fault)
-        by_ruling (ruled token asked entry reads acts is_of deeds_are told) =
+        by_ruling (ruled_for token asked one editors reads acts is_for deeds_are told) = absurd (cc editors)
+        by_ruling (ruled token asked entry plain reads acts is_of deeds_are told) =
             let one : AllByRecursion IsStored (entry ∷ []) = subst (AllByRecursion IsStored) (ap made deeds_are) h.stored in
             let status : a.status ≡ entry.ruling.status = ap (λ (x : Answer). x.status) told ∙ told_status entry.call entry.ruling in
             one.0 (sym status ∙ fault)

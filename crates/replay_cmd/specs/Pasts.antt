@@ -49,4 +49,4 @@ pub record ShowsHosts {F : Type 0} (start : Shard) (pasts : List (Left F)) (open
 
 -- what a shard leaves
 abbrev pub past_left_by : {F : Type 0} → Book (InMemory F) → Left F
-past_left_by book = record { opening = opening_in book.begin; made = book.made; start = book.start.folder }
+past_left_by book = record { opening = opening_in book.begin; dates = book.dates; made = book.made; start = book.start.folder }

@@ -29,9 +29,11 @@ impl FaultlessFolder {
 }
 
 impl Folder for FaultlessFolder {
-    ghost use Rattle.outside.specs.MemFolderParts.{map_of};
+    ghost use Rattle.outside.specs.MemFolderParts.{map_of, times_of};
 
     ghost files = { λ f. map_of f.folder };
+
+    ghost times = { λ f. times_of f.folder };
 
     ghost faults = { λ f. 0 };
 
@@ -41,6 +43,10 @@ impl Folder for FaultlessFolder {
 
     fn read(&mut self, name: &str, most: usize) -> Result<FolderRead, OutFault> {
         self.folder.read(name, most)
+    }
+
+    fn time(&mut self, name: &str) -> Result<Option<u64>, OutFault> {
+        self.folder.time(name)
     }
 
     fn replace(&mut self, name: &str, contents: &[u8]) -> Result<(), OutFault> {

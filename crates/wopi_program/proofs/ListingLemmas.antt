@@ -8,7 +8,7 @@ use Rattle.host_core.specs.Listing.{AreListed, IsListing}
 use Rattle.host_core.specs.Single.{SeesItsOwn}
 use Rattle.host_core.specs.declared.listing.Listing.{Listing}
 use Rattle.host_table.specs.Seated.{SeesShards}
-use Rattle.host_server.specs.Deeds.{Deed, Made, Blocked, Listed, AreOfAll, IsBetween, AreMet}
+use Rattle.host_server.specs.Deeds.{Deed, Made, MadeFor, Blocked, Listed, AreOfAll, IsBetween, AreMet}
 use Rattle.wopi_program.specs.Files.{AreShownIn}
 
 -- the same listing of the same history
@@ -73,6 +73,9 @@ module _ (opening : Opening) (opened first : ℕ) (new : Sight) where
   all_shown at so_far (Made entry ∷ deeds) is met =
       let finds = met.0 in
       all_shown finds.after (so_far ++ entry ∷ []) deeds (stays_after at finds.before finds.after so_far (entry ∷ []) is finds.between) met.1
+  all_shown at so_far (MadeFor one ∷ deeds) is met =
+      let finds = met.0 in
+      all_shown finds.after (so_far ++ one.entry ∷ []) deeds (stays_after at finds.before finds.after so_far (one.entry ∷ []) is finds.between) met.2
   all_shown at so_far (Blocked call moment before after ∷ deeds) is met =
       all_shown after so_far deeds (with_none after so_far (stays_after at before after so_far [] is met.0.between)) met.1
   all_shown at so_far (Listed listings ∷ deeds) is met =

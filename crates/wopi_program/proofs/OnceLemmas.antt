@@ -8,7 +8,7 @@ use Rattle.wopi_model.specs.Shard.{Opening, Item, Step, Entry, Legal, LegalFrom,
 use Rattle.host_core.specs.Entries.{Made, items_of}
 use Rattle.host_core.specs.Times.{untimed, happened_of}
 use Rattle.host_core.specs.Value.{Book, InMemory, IsLawful}
-use Rattle.host_core.specs.Opening.{IsOpening, Fits}
+use Rattle.host_core.specs.Opening.{AreDatesOf, IsOpening, Fits}
 use Rattle.host_core.specs.Single.{sight_of, sees_its_own, SeesItsOwn}
 use Rattle.host_server.specs.declared.desk.Desk.{Desk}
 use Rattle.host_server.specs.declared.connection.ConnEnd.{ConnEnd}
@@ -76,16 +76,17 @@ module _ {S K F N D C L : Type 0} (m : Meanings S K F N D C L) where
         only = None;
         begin = new_life stood opened 1;
         limits = kept_limits 4096;
+        dates = first.dates;
         made = [];
         time = opened;
         ticked = false;
         start = folder;
         folder = first.folder;
       }
-      → IsOpening None (m.files folder) stood → Fits stood
+      → IsOpening None (m.files folder) stood → Fits stood → map (λ one. one.0) first.dates ≡ map (λ one. one.0) first.begin.files → AreDatesOf (m.times folder) first.dates
       → ServesShard m desk end first folder' mid clock' old new
       → OpensAndServes m keys base editor origin end folder folder' clock clock' old new
-  opens_and_serves desk keys base editor origin opened end folder folder' clock mid clock' old new stood first keys_are base_is editor_is origin_is opened_is times book opening fits serves = record {
+  opens_and_serves desk keys base editor origin opened end folder folder' clock mid clock' old new stood first keys_are base_is editor_is origin_is opened_is times book opening fits dated told serves = record {
     desk = desk;
     mid = mid;
     first = first;
@@ -95,7 +96,7 @@ module _ {S K F N D C L : Type 0} (m : Meanings S K F N D C L) where
     origin_is = origin_is;
     times = subst (Gives (m.work.moments clock) (m.work.moments mid)) (sym opened_is) times;
     stood = stood;
-    opens = subst (λ n. IsFresh m folder stood n first) (sym opened_is) (record { book = book; opening = opening; fits = fits });
+    opens = subst (λ n. IsFresh m folder stood n first) (sym opened_is) (record { book = book; opening = opening; fits = fits; dated = dated; told = told });
     serves = serves;
     legal = subst (λ (n : ℕ). Legal stood n 1 (map Step (made serves.serves.deeds))) (sym opened_is)
         (subst (λ (b : Begin). LegalFrom b (map Step (made serves.serves.deeds))) (ap (λ (b : Book F). b.begin) book)
@@ -111,18 +112,19 @@ module _ {S K F N D C L : Type 0} (m : Meanings S K F N D C L) where
         only = None;
         begin = new_life stood opened 1;
         limits = kept_limits 4096;
+        dates = first.dates;
         made = [];
         time = opened;
         ticked = false;
         start = kept;
         folder = first.folder;
       }
-      → IsOpening None (m.files kept) stood → Fits stood
+      → IsOpening None (m.files kept) stood → Fits stood → map (λ one. one.0) first.dates ≡ map (λ one. one.0) first.begin.files → AreDatesOf (m.times kept) first.dates
       → ServesShard m desk end first folder' mid clock' old new
       → OpensAndServes m keys base editor origin end folder folder' clock clock' old new
-  kept_and_served desk keys base editor origin opened end folder kept folder' clock mid clock' old new stood first same keys_are base_is editor_is origin_is opened_is times book opening fits serves =
+  kept_and_served desk keys base editor origin opened end folder kept folder' clock mid clock' old new stood first same keys_are base_is editor_is origin_is opened_is times book opening fits dated told serves =
       subst (λ (f : F). OpensAndServes m keys base editor origin end f folder' clock clock' old new) same
-      (opens_and_serves desk keys base editor origin opened end kept folder' clock mid clock' old new stood first keys_are base_is editor_is origin_is opened_is times book opening fits serves)
+      (opens_and_serves desk keys base editor origin opened end kept folder' clock mid clock' old new stood first keys_are base_is editor_is origin_is opened_is times book opening fits dated told serves)
 
   -- a run speaks of the streams alone, and of the folder and the clock that it was given
   module _ (keys : Keys) (base : List ℕ) (editor : Bool) (origin : Option (List ℕ)) (folder folder' : F) (clock clock' : C) (old new old' new' : Outside S K F N D C)

@@ -1,6 +1,6 @@
 -- What contracts see of the parts of the outside world. (Own.)
 use Rattle.std.specs.Prelude.{ℕ, List, Option}
-use Rattle.outside.specs.Folder.{Files}
+use Rattle.outside.specs.Folder.{Files, Times}
 use Rattle.outside.specs.declared.dialer.Exchange.{Exchange}
 use Rattle.host_server.specs.WorkMeanings.{WorkMeanings}
 
@@ -12,6 +12,7 @@ pub record Meanings (S K F N D C L : Type 0) : Type 0 where
   pub held : K → Option (List ℕ)
   pub write_faults : K → ℕ
   pub files : F → Option Files
+  pub times : F → Option Times
   pub folder_faults : F → ℕ
   pub work : WorkMeanings N L C
   pub exchanges : D → Option (List Exchange)

@@ -10,7 +10,7 @@ use Rattle.wopi_model.specs.Shard.{Opening, Step, Legal}
 use Rattle.host_core.specs.declared.opening.StartFault.{StartFault}
 use Rattle.host_core.specs.declared.opening.StartFault.TheVariants as start
 use Rattle.host_core.specs.Value.{Book, InMemory, IsLawful}
-use Rattle.host_core.specs.Opening.{IsOpening, Fits, IsTooLarge}
+use Rattle.host_core.specs.Opening.{IsOpening, Fits, IsTooLarge, AreDatesOf}
 use Rattle.host_core.specs.Single.{sight_of, SeesItsOwn}
 use Rattle.host_server.specs.declared.desk.Desk.{Desk}
 use Rattle.host_server.specs.declared.connection.ConnEnd.{ConnEnd}
@@ -67,6 +67,7 @@ over_folder book = record {
   only = book.only;
   begin = book.begin;
   limits = book.limits;
+  dates = book.dates;
   made = book.made;
   time = book.time;
   ticked = book.ticked;
@@ -75,12 +76,13 @@ over_folder book = record {
 }
 
 module _ {S K F N D C L : Type 0} (m : Meanings S K F N D C L) where
-  -- A shard that was opened over a folder at a moment: these files, at version 1, and no entry yet.
+  -- A shard that was opened over a folder at a moment: these files, at version 1, last saved when the folder tells, and no entry yet.
   pub record IsFresh (folder : F) (stood : Opening) (opened : ℕ) (first : Book F) : Type 0 where
     pub book : first ≡ record {
       only = None;
       begin = new_life stood opened 1;
       limits = kept_limits 4096;
+      dates = first.dates;
       made = [];
       time = opened;
       ticked = false;
@@ -89,6 +91,8 @@ module _ {S K F N D C L : Type 0} (m : Meanings S K F N D C L) where
     }
     pub opening : IsOpening None (m.files folder) stood
     pub fits : Fits stood
+    pub dated : map (λ one. one.0) first.dates ≡ map (λ one. one.0) first.begin.files
+    pub told : AreDatesOf (m.times folder) first.dates
 
   -- A connection was served over a shard that began as `first`. What was done is what the shard has come to; its history is legal, its folder
   -- agrees with it, and each answer of a store fault has raised the folder's count.

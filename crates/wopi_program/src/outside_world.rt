@@ -41,6 +41,7 @@ impl<S: Source, K: Sink, F: Folder, N: Listener, D: Dialer, C: Clock> Meant<
       held = K.held;
       write_faults = K.write_faults;
       files = F.files;
+      times = F.times;
       folder_faults = F.faults;
       work = ⟦<Worker<N, C, Kept<F>> as WorkMeant<N, N::Link, C>>⟧.meanings;
       exchanges = D.exchanges;

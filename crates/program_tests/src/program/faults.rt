@@ -36,6 +36,7 @@ fn a_fault_is_told_and_ends_the_run(rt: HostRuntime) -> Result<(), Fail> {
         (0, 1, 0, 4, "write fault\n"),
         (0, 0, 2, 5, "folder fault\n"),
         (0, 0, 3, 5, "folder fault\n"),
+        (0, 0, 4, 5, "folder fault\n"),
     ] {
         given.failing_read = read;
         given.failing_write = write;
@@ -61,7 +62,7 @@ fn a_store_fault_leaves_the_file_and_the_next_save_mends_it(rt: HostRuntime) -> 
         ],
     )?;
     let mut given = whole(&input);
-    given.failing_store = 4;
+    given.failing_store = 5;
     let left = run_with(&rt, alloc, &ONCE, &given)?;
     let wanted =
         "HTTP/1.1 200 OK\r\nContent-Length: 0\r\nX-WOPI-ItemVersion: v1\r\n\r\nHTTP/1.1 500 Internal Server Error\r\nContent-Length: 11\r\nContent-Type: text/plain\r\n\r\nstore faultHTTP/1.1 200 OK\r\nContent-Length: 4\r\nContent-Type: application/octet-stream\r\nX-WOPI-ItemVersion: v1\r\n\r\n1,2\nHTTP/1.1 200 OK\r\nContent-Length: 0\r\nX-WOPI-ItemVersion: v2\r\n\r\n";

@@ -64,6 +64,8 @@ impl<F> GateFolder<F> {
 impl<F: Folder> Folder for GateFolder<F> {
     ghost files = { λ gate. F.files gate.inner };
 
+    ghost times = { λ gate. F.times gate.inner };
+
     ghost faults = { λ gate. F.faults gate.inner };
 
     fn list(&mut self) -> Result<Names, OutFault> {
@@ -72,6 +74,10 @@ impl<F: Folder> Folder for GateFolder<F> {
 
     fn read(&mut self, name: &str, most: usize) -> Result<FolderRead, OutFault> {
         self.inner.read(name, most)
+    }
+
+    fn time(&mut self, name: &str) -> Result<Option<u64>, OutFault> {
+        self.inner.time(name)
     }
 
     fn replace(&mut self, name: &str, contents: &[u8]) -> Result<(), OutFault> {

@@ -193,7 +193,8 @@ fn a_folder_that_fails_in_opening_lets_no_link_in(rt: HostRuntime) -> Result<(),
     for (call, status, notes, replies) in [
         (2, 5, "folder fault\n", b"".as_slice()),
         (3, 5, "folder fault\n", b"".as_slice()),
-        (4, 0, "", LOCKED),
+        (4, 5, "folder fault\n", b"".as_slice()),
+        (5, 0, "", LOCKED),
     ] {
         let left = left_by(&rt, alloc, met(alloc, none, failing(alloc, call)?)?)?;
         assert!(rt; left.status == status, "call {call}");

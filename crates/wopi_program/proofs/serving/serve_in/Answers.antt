@@ -18,7 +18,7 @@ returns-in-Err-clause-write_fault g c = λ is. absurd (refused_apart c.in-Err.re
 pub serve_opened-requires-clause-first : goal.serve_opened-requires-clause-first
 serve_opened-requires-clause-first g c κs within =
     let kept = c.in-Ok-keep.ensures.starts in
-    let fact = ready_at_start _ _ kept.stores c.args.ask.capacity c.first_moment-opened.result c.args.ask.first c.in-Ok-keep.begun.0 c.in-Ok-keep.begun.1 kept.starts in
+    let fact = ready_at_start _ _ _ kept.stores c.args.ask.capacity c.first_moment-opened.result c.args.ask.first c.in-Ok-keep.begun.0 c.in-Ok-keep.begun.1 kept.starts in
     search (rules, fact)
 
 pub returns-in-Ok-keep-clause-runs : goal.returns-in-Ok-keep-clause-runs

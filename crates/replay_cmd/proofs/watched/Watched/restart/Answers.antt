@@ -60,5 +60,5 @@ pub returns-clause-past : goal.returns-clause-past
 returns-clause-past c =
     let book = c.end.result in
     let listed = opening_is book.begin book.folder.opening book.begin.opened book.begin.first c.leave-folder.ensures.begin in
-    c.leave-folder.ensures.past ∙ ap (λ (o : Opening). record { opening = o; made = book.made; start = book.start.folder }) (sym listed)
+    c.leave-folder.ensures.past ∙ ap (λ (o : Opening). record { opening = o; dates = book.dates; made = book.made; start = book.start.folder }) (sym listed)
     ∙ ap past_left_by (c.end.ensures.same ∙ ap (λ (w : Watch (InMemory FaultlessFolder)). w.shard) c.self.view_is)
