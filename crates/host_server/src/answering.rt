@@ -89,6 +89,7 @@ fn make_and_tell<C: Caller>(
         Ok(receipt) => ruling_told(alloc, receipt.ruling),
         Err(CallFault::Full(_)) => journal_full(alloc),
         Err(CallFault::Memory(_)) => Err(Memory),
+        Err(CallFault::Lost(_)) => Err(Memory),
     }
 }
 
@@ -160,6 +161,7 @@ fn call_for_editor<C: Caller>(
         ),
         Err(CallFault::Full(_)) => journal_full(alloc),
         Err(CallFault::Memory(_)) => Err(Memory),
+        Err(CallFault::Lost(_)) => Err(Memory),
     }
 }
 

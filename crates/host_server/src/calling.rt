@@ -12,6 +12,7 @@ pub enum Called {
     /// An entry was made; and the contents that weren't accepted came back.
     Ruled { ruling: Ruling, back: Option<Bytes> },
     Full,
+    /// No entry was made, since there was no memory, or the store of the file's shard is lost.
     Memory,
 }
 
@@ -29,5 +30,6 @@ pub fn make<C: Caller>(caller: &mut C, call: Call, moment: u64) -> Called
         },
         Err(CallFault::Full(_)) => Called::Full,
         Err(CallFault::Memory(_)) => Called::Memory,
+        Err(CallFault::Lost(_)) => Called::Memory,
     }
 }

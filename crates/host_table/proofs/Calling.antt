@@ -13,6 +13,7 @@ use Rattle.wopi_model.specs.Host.{FullFrom, Limits}
 use Rattle.host_core.specs.declared.caller.Receipt.{Receipt}
 use Rattle.host_core.specs.declared.caller.CallFault.{CallFault}
 use Rattle.host_core.specs.Entries.{Made}
+use Rattle.host_core.specs.Notes.{Notes}
 use Rattle.host_core.specs.declared.listing.Listing.{Listing}
 use Rattle.host_core.specs.Opening.{MayKeep}
 use Rattle.host_core.specs.Caller.{entry_of, next_stamp, Extends, Makes, Refuses, Frames, FramesAt, IsFullCall}
@@ -22,7 +23,7 @@ use Rattle.host_core.specs.Value.{Book}
 use Rattle.host_core.specs.Times.{steps_of, untimed}
 use Rattle.host_table.specs.Histories.{IsSeen}
 use Rattle.host_table.specs.Passes.{Place, PassView, Own, stamp_of, own_of, lock_of, base_of, begin_seen, dates_seen, last_seen, top, seen_at, beginning_at, dates_at, sight_of, IsBase, Owns, HasOwn, IsSeat, IsPass, HasSeen, IsSamePass}
-use Rattle.host_table.specs.Calls.{Calls, Glances, Looks}
+use Rattle.host_table.specs.Calls.{Calls, Glances, Looks, AreNotesOf, AreSeenAt}
 use Rattle.host_table.specs.Sights.{seen_alone}
 use Rattle.host_core.proofs.Timing.{entries-untimed}
 use Rattle.host_table.proofs.Stamps.{steps-append, steps-long, get_last}
@@ -355,6 +356,15 @@ module _ {F : Type 0} (p : PassView F) (k : ℕ) (v w : Place F) (inside : IsPas
             handed = looks.handed;
             light = looks.light;
           }
+
+    -- what the store has noted, as the pass has seen it
+    pub noted_then : (notes : Notes) → AreSeenAt notes w → AreNotesOf (sight_of q) (shard_of call.name) notes
+    noted_then notes are =
+        let P : ℕ → Type 0 = λ n. AreNotesOf (sight_of q) n notes in
+        subst P home (record {
+          begin = are.begin ∙ sym (ap beginning_at (get_set p.seats k w here));
+          made = ap untimed are.made ∙ sym (ap seen_at (get_set p.seats k w here));
+        })
 
     -- whatever was answered
     module _ (answer : Result Receipt CallFault) (called : IfOk answer (λ receipt. Calls v call p.number p.last moment receipt w)) (looked : IfErr answer (λ refusal. Looks v call p.last moment refusal w)) where

@@ -13,7 +13,7 @@ use Rattle.host_core.specs.declared.caller.Receipt.{Receipt}
 use Rattle.host_core.specs.declared.caller.CallFault.{CallFault}
 use Rattle.host_core.specs.declared.caller.EditorReceipt.{EditorReceipt}
 use Rattle.host_core.specs.Opening.{IsOfShard}
-use Rattle.host_core.specs.Caller.{entry_of, called_back, IsFullCall}
+use Rattle.host_core.specs.Caller.{entry_of, called_back, IsFullCall, IsLostCall}
 use Rattle.host_core.specs.Entries.{Made, back_of, brought_by, history_of}
 use Rattle.host_core.specs.Facts.{Dates, facts_of, is_info, is_late, made_for, saved_at}
 use Rattle.host_core.specs.LockActs.{is_lock_act}
@@ -131,7 +131,7 @@ held_edits old new call known pass floor moment answer late goes goes' exactly i
 pub held_declines : {F : Type 0} (old new : Book F) (call : Call) (floor moment : ℕ) (refusal : CallFault) → GoesByEntries old.begin.now old.made old.time
     → new ≡ record old { folder = new.folder }
     → (IsFullCall refusal → FullFrom old.limits old.begin (history_of old.made old.time) floor call moment) → called_back refusal ≡ call
-    → (is_lock_act call.act ≡ true → IsFullCall refusal) → Declines old new call floor moment refusal
+    → (is_lock_act call.act ≡ true → (IsLostCall refusal → ⊥) → IsFullCall refusal) → Declines old new call floor moment refusal
 held_declines old new call floor moment refusal goes is full handed light = record {
   made = ap (λ (b : Book _). b.made) is;
   full = λ f. full-untimed old.limits old.begin old.made old.time floor call moment goes.timely goes.time_is (full f);
@@ -145,3 +145,8 @@ seen_stays old new start now began count h is alone = record {
   legal = alone (ap (λ (b : Book _). b.ticked) is ∙ h.unticked);
   named = subst (λ (b : Book _). AreNamed b.only b.made) (sym is) h.named;
 }
+
+-- a Bool that is neither
+pub neither : (b : Bool) → (b ≡ true → ⊥) → (b ≡ false → ⊥) → ⊥
+neither true h k = h refl
+neither false h k = k refl

@@ -15,13 +15,14 @@ use Rattle.host_core.specs.Fullness.{IsNearlyFull}
 use Rattle.host_core.specs.Listing.{IsListing}
 use Rattle.host_core.specs.Entries.{Made}
 use Rattle.host_core.specs.Facts.{made_for}
+use Rattle.host_core.specs.Notes.{Notes}
 use Rattle.host_core.specs.Value.{Book}
 use Rattle.host_core.specs.Times.{untimed}
 use Rattle.host_table.specs.Editors.{TellsEditor}
 use Rattle.host_table.specs.Histories.{last_stamp, as_opened, IsSeen}
 use Rattle.host_table.specs.Held.{Adds, AddsForEditor, Declines}
 use Rattle.host_table.specs.Passes.{Place, begin_seen, last_seen}
-use Rattle.host_table.specs.Calls.{Calls, CallsForEditor, Glances, Looks}
+use Rattle.host_table.specs.Calls.{Calls, CallsForEditor, Glances, Looks, AreSeenAt}
 
 places_one : (made : List Made) (one : Made) → places_behind made (made ++ one ∷ []) ≡ length made ∷ []
 places_one made one = let n : length (made ++ one ∷ []) - length made ≡ 1 = omega (arith, length-append made (one ∷ [])) in ap (places_from (length made)) n
@@ -64,6 +65,18 @@ last_given v w old new based same is =
     let base : w.base ≡ Some (as_opened new) = ap (λ (p : Place _). p.base) is ∙ (based ∙ ap Some (sym same)) in
     let seen : w.seen ≡ new.made = ap (λ (p : Place _). p.seen) is in
     λ i. last_stamp (begin_seen (sym base i)).last (sym seen i)
+
+-- what the shard's store has noted is what the seat has seen
+pub noted_given : {F : Type 0} (v w : Place F) (old new : Book F) (notes : Notes) → v.base ≡ Some (as_opened old) → as_opened new ≡ as_opened old
+    → w ≡ record { lock = v.lock; seen = new.made; own = v.own ++ added_places (Some old.made) new.made; weight = v.weight; base = v.base; taken = None }
+    → notes.begin ≡ new.begin → notes.made ≡ new.made → AreSeenAt notes w
+noted_given v w old new notes based same is begin made =
+    let base : w.base ≡ Some (as_opened new) = ap (λ (p : Place _). p.base) is ∙ (based ∙ ap Some (sym same)) in
+    let seen : w.seen ≡ new.made = ap (λ (p : Place _). p.seen) is in
+    record {
+      begin = begin ∙ sym (ap begin_seen base);
+      made = made ∙ sym seen;
+    }
 
 pub made_call : {F : Type 0} (v w : Place F) (old new : Book F) (call : Call) (pass floor moment : ℕ) (receipt : Receipt) → v.taken ≡ None → v.base ≡ Some (as_opened old) → IsPrefix v.seen old.made
     → w ≡ record { lock = v.lock; seen = new.made; own = v.own ++ added_places (Some old.made) new.made; weight = v.weight; base = v.base; taken = None }

@@ -18,6 +18,9 @@ pub struct Seated<'a, R: Wait, F: Store> {
     rt: &'a R,
     host: &'a Host<F>,
     pass: &'a mut Pass<F>,
+    /// The shard of the last call, and its store, as the call's turn left it.
+    shard: u8,
+    store: Option<Snapshot<F>>,
     ghost of_host: { locks_of pass.now ≡ host.now.locks },
     ghost last_is: { pass.now.last ≡ top pass.now.seats },
     ghost below: { AreBelow pass.now.last pass.now.seats },
@@ -48,14 +51,20 @@ impl<'a, R: Wait, F: Store> Seated<'a, R, F> {
         ensures reference { result.pass.ghost_name ≡ pass.entry.ghost_name }
     {
         pass.look();
-        Seated { rt, host, pass }
+        Seated {
+            rt,
+            host,
+            pass,
+            shard: 0,
+            store: None,
+        }
     }
 }
 
 impl<R: Wait, F: Store> Caller for Seated<'_, R, F> {
-    ghost use Rattle.std.specs.Prelude.{[], ◌∷◌};
+    ghost use Rattle.std.specs.Prelude.{[], ◌∷◌, option_map};
     ghost use Rattle.host_table.specs.Passes.{sight_of};
-    ghost use Rattle.host_table.specs.Seated.{basis_of, SeesShards};
+    ghost use Rattle.host_table.specs.Seated.{basis_of, is_lost_at, SeesShards};
     ghost use Rattle.host_table.specs.Sights.{has_its_floor, sees_its_shards};
 
     type Basis = Footing<F>;
@@ -68,12 +77,18 @@ impl<R: Wait, F: Store> Caller for Seated<'_, R, F> {
 
     ghost references = { λ seated. seated.pass.ghost_name ∷ [] };
 
+    ghost lost = { λ seated name. is_lost_at F.lost seated.shard (option_map (λ store. store.value) seated.store) name };
+
     ghost has_floor = { λ seated. has_its_floor seated.pass.now seated.last_is };
 
     ghost is_always = { λ seated. sees_its_shards seated.pass.now seated.named seated.below };
 
     fn call(&mut self, call: Call, moment: u64) -> Result<Receipt, CallFault> {
-        self.host.call(self.rt, self.pass, call, moment)
+        let shard = call.name.shard();
+        let (answer, store) = self.host.call_at_store(self.rt, self.pass, call, moment);
+        self.shard = shard;
+        self.store = Some(store);
+        answer
     }
 
     fn call_for_editor(
@@ -82,8 +97,13 @@ impl<R: Wait, F: Store> Caller for Seated<'_, R, F> {
         known: Option<u64>,
         moment: u64,
     ) -> Result<EditorReceipt, CallFault> {
-        self.host
-            .call_for_editor(self.rt, self.pass, call, known, moment)
+        let shard = call.name.shard();
+        let (answer, left) = self
+            .host
+            .call_for_editor_at_store(self.rt, self.pass, call, known, moment);
+        self.shard = shard;
+        self.store = Some(left);
+        answer
     }
 }
 

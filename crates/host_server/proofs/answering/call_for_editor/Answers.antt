@@ -49,6 +49,16 @@ returns-in-Err-Full-clause-tells g c =
     c.copy-name.ensures c.copy-shown.ensures c.act_of-act.ensures c.journal_full.result
     (full_tells g.C.Caller.always old new c.args.desk.now.origin c.args.last call c.args.moment true c.journal_full.result calls c.journal_full.ensures)
 
+pub returns-in-Err-Memory-clause-tells : goal.returns-in-Err-Memory-clause-tells
+returns-in-Err-Memory-clause-tells g c =
+    let old = g.C.Caller.sight c.args.caller.now in
+    let new = g.C.Caller.sight c.call_for_editor.new.self in
+    let call : Call = record { name = c.copy-name.result; token = c.copy-shown.result; act = c.act_of-act.result } in
+    act_tells true c.args.desk.now.origin c.args.last c.args.ask.now c.args.token c.args.body c.args.moment g.C.Caller.always old new c.copy-name.result c.copy-shown.result c.act_of-act.result
+    c.copy-name.ensures c.copy-shown.ensures c.act_of-act.ensures (Err (record {}))
+    (tells_nothing g.C.Caller.always old new (TellsCall true c.args.desk.now.origin c.args.last call c.args.moment) _
+    (does_nothing g.C.Caller.always old new call c.args.moment _ c.in-Err-Memory.ensures.refused c.call_for_editor.ensures.frame))
+
 pub returns-clause-tells : goal.returns-clause-tells
 returns-clause-tells g c =
     let old = g.C.Caller.sight c.args.caller.now in
@@ -57,4 +67,4 @@ returns-clause-tells g c =
     act_tells true c.args.desk.now.origin c.args.last c.args.ask.now c.args.token c.args.body c.args.moment g.C.Caller.always old new c.copy-name.result c.copy-shown.result c.act_of-act.result
     c.copy-name.ensures c.copy-shown.ensures c.act_of-act.ensures (Err (record {}))
     (tells_nothing g.C.Caller.always old new (TellsCall true c.args.desk.now.origin c.args.last call c.args.moment) _
-    (does_nothing g.C.Caller.always old new call c.args.moment _ c.in-Err-Memory.ensures.refused c.call_for_editor.ensures.frame))
+    (does_nothing g.C.Caller.always old new call c.args.moment _ c.in-Err-Lost.ensures.refused c.call_for_editor.ensures.frame))

@@ -34,6 +34,16 @@ returns-in-Err-Full-clause-tells g c origin last =
     c.copy-name.ensures refl c.act_of-act.ensures c.journal_full.result
     (full_tells g.C.Caller.always old new origin last call c.args.moment false c.journal_full.result calls c.journal_full.ensures)
 
+pub returns-in-Err-Memory-clause-tells : goal.returns-in-Err-Memory-clause-tells
+returns-in-Err-Memory-clause-tells g c origin last =
+    let old = g.C.Caller.sight c.args.caller.now in
+    let new = g.C.Caller.sight c.call.new.self in
+    let call : Call = record { name = c.copy-name.result; token = c.args.token; act = c.act_of-act.result } in
+    act_tells false origin last c.args.ask.now c.args.token c.args.body c.args.moment g.C.Caller.always old new c.copy-name.result c.args.token c.act_of-act.result
+    c.copy-name.ensures refl c.act_of-act.ensures (Err (record {}))
+    (tells_nothing g.C.Caller.always old new (TellsCall false origin last call c.args.moment) _
+    (does_nothing g.C.Caller.always old new call c.args.moment _ c.in-Err-Memory.ensures.refused c.call.ensures.frame))
+
 pub returns-clause-tells : goal.returns-clause-tells
 returns-clause-tells g c origin last =
     let old = g.C.Caller.sight c.args.caller.now in
@@ -42,4 +52,4 @@ returns-clause-tells g c origin last =
     act_tells false origin last c.args.ask.now c.args.token c.args.body c.args.moment g.C.Caller.always old new c.copy-name.result c.args.token c.act_of-act.result
     c.copy-name.ensures refl c.act_of-act.ensures (Err (record {}))
     (tells_nothing g.C.Caller.always old new (TellsCall false origin last call c.args.moment) _
-    (does_nothing g.C.Caller.always old new call c.args.moment _ c.in-Err-Memory.ensures.refused c.call.ensures.frame))
+    (does_nothing g.C.Caller.always old new call c.args.moment _ c.in-Err-Lost.ensures.refused c.call.ensures.frame))

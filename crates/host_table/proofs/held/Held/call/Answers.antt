@@ -3,7 +3,7 @@ use Rattle.host_core.specs.declared.caller.CallFault.TheVariants as fault
 use Rattle.host_core.specs.Entries.{Made}
 use Rattle.host_core.specs.Value.{Book}
 use Rattle.host_table.specs.Held.{IsHeld}
-use Rattle.host_table.proofs.Holding.{held_push, seen_of, seen_stays, held_adds, held_declines}
+use Rattle.host_table.proofs.Holding.{held_push, seen_of, seen_stays, neither, held_adds, held_declines}
 use Rattle.host_table.proofs.held.Held.call.Goals as goal
 
 pub invariant_of-self : goal.invariant_of-self
@@ -32,9 +32,17 @@ returns-in-Err-Memory-clause-seen g c = seen_stays c.self.inside.shard c.step.ne
 pub returns-in-Err-Full-clause-refused : goal.returns-in-Err-Full-clause-refused
 returns-in-Err-Full-clause-refused g c =
     let h = rw c.in-Err-Full.field-0-is at c.in-Err-Full.ensures in
-    rw (← c.self.view_is) (held_declines c.self.inside.shard c.step.new.self c.args.call c.args.floor c.args.moment (fault.Full c.in-Err-Full.call) (c.len-place.ensures.lawful.timely c.self.invariant.unticked) h.err h.full h.call (λ light. tt))
+    rw (← c.self.view_is) (held_declines c.self.inside.shard c.step.new.self c.args.call c.args.floor c.args.moment (fault.Full c.in-Err-Full.call) (c.len-place.ensures.lawful.timely c.self.invariant.unticked) h.err h.full h.call (λ light going. tt))
 
 pub returns-in-Err-Memory-clause-refused : goal.returns-in-Err-Memory-clause-refused
 returns-in-Err-Memory-clause-refused g c =
     let h = rw c.in-Err-Memory.field-0-is at c.in-Err-Memory.ensures in
-    rw (← c.self.view_is) (held_declines c.self.inside.shard c.step.new.self c.args.call c.args.floor c.args.moment (fault.Memory c.in-Err-Memory.call) (c.len-place.ensures.lawful.timely c.self.invariant.unticked) h.err h.full h.call h.light)
+    rw (← c.self.view_is) (held_declines c.self.inside.shard c.step.new.self c.args.call c.args.floor c.args.moment (fault.Memory c.in-Err-Memory.call) (c.len-place.ensures.lawful.timely c.self.invariant.unticked) h.err h.full h.call (λ light going. neither (g.F.Store.lost c.self.inside.shard.folder) (h.lost.1) (λ stays. h.light light stays)))
+
+pub returns-in-Err-Lost-clause-seen : goal.returns-in-Err-Lost-clause-seen
+returns-in-Err-Lost-clause-seen g c = seen_stays c.self.inside.shard c.step.new.self _ _ _ _ c.self.invariant c.in-Err-Lost.ensures.err c.step.ensures.lawful.alone
+
+pub returns-in-Err-Lost-clause-refused : goal.returns-in-Err-Lost-clause-refused
+returns-in-Err-Lost-clause-refused g c =
+    let h = rw c.in-Err-Lost.field-0-is at c.in-Err-Lost.ensures in
+    rw (← c.self.view_is) (held_declines c.self.inside.shard c.step.new.self c.args.call c.args.floor c.args.moment (fault.Lost c.in-Err-Lost.call) (c.len-place.ensures.lawful.timely c.self.invariant.unticked) h.err h.full h.call (λ light going. absurd (going tt)))

@@ -1,0 +1,5 @@
+pub mod Texts
+pub mod Growing
+pub mod Noting
+pub mod Standing
+pub mod Keeping

@@ -1,0 +1,35 @@
+//! What an entry was, in no memory.
+ghost use Rattle.std.specs.Prelude.{◌≡◌};
+ghost use Rattle.host_core.specs.Entries.{ruled};
+
+use crate::begun::Begun;
+use host_core::Ruling;
+use std::marker::Model;
+use std::snapshot::Snapshot;
+
+/// An entry of which nothing is kept: contracts alone see it.
+#[derive(Drop)]
+pub struct Note {
+    asked: Snapshot<Begun>,
+    ruling: Snapshot<Ruling>,
+}
+
+impl Model for Note {
+    ghost use Rattle.host_core.specs.Entries.{Made, ruled};
+
+    ghost Value = { Made };
+
+    ghost view = { λ n. ruled n.ruling.value n.asked.value };
+}
+
+impl Note {
+    /// A call that was begun, with its ruling.
+    pub fn of(begun: &Begun, ruling: &Ruling) -> Note
+        ensures { result ≡ ruled ruling.now begun.now }
+    {
+        Note {
+            asked: Snapshot::of(begun),
+            ruling: Snapshot::of(ruling),
+        }
+    }
+}
