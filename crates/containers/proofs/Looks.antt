@@ -53,6 +53,7 @@ seen_on old new asked looks shard =
 LooksOn-one : (old new : Sight) (asked : ℕ) → LooksAt old new asked → LooksOn old new
 LooksOn-one old new asked looks = record {
   own = looks.own;
+  told = looks.told;
   follows = record {
     seen = seen_on old new asked looks;
     begins = looks.rest.begins;
@@ -65,13 +66,13 @@ LooksOn-one old new asked looks = record {
 }
 
 pub LooksOn-same : (s : Sight) → LooksOn s s
-LooksOn-same s = record { own = refl; follows = Follows-same s }
+LooksOn-same s = record { own = refl; told = refl; follows = Follows-same s }
 
 -- asking for one more
 pub LooksOn-more : (a b c : Sight) (asked : ℕ) → LooksOn a b → LooksAt b c asked → LooksOn a c
 LooksOn-more a b c asked looks one =
     let on = LooksOn-one b c asked one in
-    record { own = on.own ∙ looks.own; follows = Follows-trans a b c looks.follows on.follows }
+    record { own = on.own ∙ looks.own; told = on.told ∙ looks.told; follows = Follows-trans a b c looks.follows on.follows }
 
 at_home : (old new : Sight) (shard : ℕ) (children : List Child) → ((name : List ℕ) → new.home name ≡ old.home name)
     → AllByRecursion (λ child. old.home child.name ≡ shard) children → AllByRecursion (λ child. new.home child.name ≡ shard) children

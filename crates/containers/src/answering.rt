@@ -41,6 +41,7 @@ pub fn container_answer<L: Lister>(
         × AreShown (L.sight lister.old) (L.sight lister.new) listings) }
     ensures small { IfOk result (λ a. length a.body ≤ body_limit) }
     ensures looks { LooksOn (L.sight lister.old) (L.sight lister.new) }
+    ensures telling { L.telling lister.new ≡ L.telling lister.old }
     ensures basis { L.basis lister.new ≡ L.basis lister.old }
     ensures references { L.references lister.new ≡ L.references lister.old }
 {
@@ -91,6 +92,7 @@ fn children_told<L: Lister>(
         × (a ≡ json_told (listing_text terms.now.keys.now terms.now.base.now terms.now.token.now terms.now.moment children))) }
     ensures small { IfOk result (λ a. length a.body ≤ body_limit) }
     ensures looks { LooksOn (L.sight lister.old) (L.sight lister.new) }
+    ensures telling { L.telling lister.new ≡ L.telling lister.old }
     ensures basis { L.basis lister.new ≡ L.basis lister.old }
     ensures references { L.references lister.new ≡ L.references lister.old }
 {

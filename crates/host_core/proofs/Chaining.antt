@@ -13,6 +13,8 @@ use Rattle.host_core.specs.declared.file.KeptFile.{KeptFile}
 use Rattle.host_core.specs.declared.ledger.Ledger.{Ledger}
 use Rattle.host_core.specs.Names.{place_in}
 use Rattle.host_core.specs.Chains.{KeepsChains, chain_at}
+use Rattle.wopi_model.specs.Host.{kept_from}
+use Rattle.host_core.specs.Entries.{items_of}
 use Rattle.host_core.specs.Files.{file_of, files_of, is_named}
 use Rattle.host_core.specs.Ledger.{files_in, IsTied}
 use Rattle.host_core.specs.Notes.{Notes}
@@ -80,13 +82,13 @@ found_at first (k ∷ files) [] name number at =
 found_at first (k ∷ files) (s ∷ ss) name number at = found_one first k s files ss name number (λ m e. found_at first files ss name m e) (bytes_eq k.name name) refl at
 
 -- what is kept has the chains of what has happened
-chains_kept : {F : Type 0} (ledger : Ledger) (notes : Notes) (book : Book F) → book.time ≡ ledger.time → Reflects book.begin book.made book.time ledger.last ledger.bytes (files_in ledger) → IsTied ledger notes
+chains_kept : {F : Type 0} (ledger : Ledger) (notes : Notes) (book : Book F) (all : ℕ) → book.time ≡ ledger.time → Reflects book.begin book.made book.time ledger.last all (files_in ledger) → IsTied ledger notes
     → KeepsChains ledger book
-chains_kept ledger notes book time keeps tied = λ name number at.
+chains_kept ledger notes book all time keeps tied = λ name number at.
     let ss = ledger.rack.locks.files in
     let s = standing_at ss number in
     let (k, is) = found_at book.begin.first ledger.rack.files.items ss name number at in
-    let shown = shown-file book.begin book.made book.time ledger.last ledger.bytes (files_in ledger) keeps name in
+    let shown = shown-file book.begin book.made book.time ledger.last all (files_in ledger) keeps name in
     let none : expired s.lock ledger.time ≡ None = unexpired s.lock ledger.time (tied.stand number) in
     ap (still_spent (chain_at ledger.rack.locks.chains number)) time
     ∙ chain_still ledger.rack.locks.chains ss ledger.time number (tied.locked.as_of.chains ledger.time tied.locked.as_of.stepped)
@@ -99,4 +101,4 @@ chains_kept ledger notes book time keeps tied = λ name number at.
 pub with_chains : {F : Type 0} (ledger : Ledger) (notes : Notes) (book : Book F) (start now : Option Files) (began count : ℕ) → book.time ≡ ledger.time
     → Stands book ledger.last (files_in ledger) ledger.bytes start now began count → IsTied ledger notes
     → Stands book ledger.last (files_in ledger) ledger.bytes start now began count × IsTied ledger notes × KeepsChains ledger book
-with_chains ledger notes book start now began count time stands tied = (stands, tied, chains_kept ledger notes book time stands.keeps tied)
+with_chains ledger notes book start now began count time stands tied = (stands, tied, chains_kept ledger notes book (kept_from book.begin (items_of book.made)) time stands.keeps tied)

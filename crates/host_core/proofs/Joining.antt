@@ -1,10 +1,13 @@
 -- The files joined with what stands under their numbers.
-use Rattle.std.proofs.Common.{◌≡◌, ◌≢◌, ◌<◌, ◌-◌, ℕ, zero, suc, Bool, true, false, if◌then◌else◌, List, [], ◌∷◌, ◌++◌, length, set, get_or, Option, None, Some, option_map, unwrap_or, refl, sym, ap, subst, ◌∙◌, arith, slice_get}
+use Rattle.std.proofs.Common.{◌≡◌, ◌≢◌, ◌<◌, ◌≤◌, ◌-◌, ℕ, zero, suc, Bool, true, false, if◌then◌else◌, List, [], ◌∷◌, ◌++◌, length, map, set, get_or, Option, None, Some, option_map, unwrap_or, refl, sym, ap, subst, ◌∙◌, arith, slice_get}
 use Rattle.std.specs.Str.{bytes_eq}
 use Rattle.wopi_model.specs.File.{File, never_met}
 use Rattle.host_core.specs.Places.{first_of}
-use Rattle.kept_locks.specs.Locks.{Standing, ended_at, all_ended}
-use Rattle.kept_locks.specs.Whole.{ended_file}
+use Rattle.wopi_model.specs.Settle.{settled}
+use Rattle.kept_locks.specs.Locks.{Standing, unlocked, all_ended, ended_at, purged_at}
+use Rattle.kept_locks.specs.Whole.{ended_file, purged_file}
+use Rattle.kept_locks.proofs.Ending.{ended_shows, purged_shows}
+use Rattle.host_core.specs.Turns.{all_gone, gone_at}
 use Rattle.host_core.specs.declared.file.KeptFile.{KeptFile}
 use Rattle.host_core.specs.Names.{AreWithin, names_of}
 use Rattle.host_core.specs.Files.{file_of, is_named, files_of, torn_in}
@@ -84,27 +87,57 @@ stands_at [] n lt = absurd (omega (arith, lt))
 stands_at (s ∷ ss) zero lt = refl
 stands_at (s ∷ ss) (suc n) lt = stands_at ss n (omega (arith, lt))
 
+-- a change of what stands under each number, which leaves what was never locked
+module _ (change : Standing → Standing) (bare : change unlocked ≡ unlocked) where
+  stands_changed : (ss : List Standing) (n : ℕ) → standing_at (map change ss) n ≡ change (standing_at ss n)
+  stands_changed [] n = sym bare
+  stands_changed (s ∷ ss) zero = refl
+  stands_changed (s ∷ ss) (suc n) = stands_changed ss n
+
+  later_changed : (ss : List Standing) → later (map change ss) ≡ map change (later ss)
+  later_changed [] = refl
+  later_changed (s ∷ ss) = refl
+
+  -- the files with what stands then
+  files_changed : (becomes : File → File) → ((k : KeptFile) (s : Standing) → file_of (whole k (change s)) ≡ becomes (file_of (whole k s)))
+      → (oldest : ℕ) → becomes (never_met oldest) ≡ never_met oldest → (files : List KeptFile) (ss : List Standing) (name : List ℕ)
+      → files_of oldest (joined files (map change ss)) name ≡ becomes (files_of oldest (joined files ss) name)
+  files_changed becomes same oldest none [] ss name = sym none
+  files_changed becomes same oldest none (k ∷ files) ss name =
+      ap (λ (l : List Whole). files_of oldest l name) (joined_cons k files (map change ss))
+      ∙ go (ap (λ (l : List Standing). files_of oldest (joined files l) name) (later_changed ss) ∙ files_changed becomes same oldest none files (later ss) name) (bytes_eq k.name name)
+      ∙ sym (ap (λ (l : List Whole). becomes (files_of oldest l name)) (joined_cons k files ss)) where
+        go : files_of oldest (joined files (later (map change ss))) name ≡ becomes (files_of oldest (joined files (later ss)) name)
+            → (b : Bool) → unwrap_or (option_map file_of (if b then Some (whole k (standing_at (map change ss) 0)) else first_of (is_named name) (joined files (later (map change ss))))) (never_met oldest)
+            ≡ becomes (unwrap_or (option_map file_of (if b then Some (whole k (standing_at ss 0)) else first_of (is_named name) (joined files (later ss)))) (never_met oldest))
+        go rest true = ap (λ (s : Standing). file_of (whole k s)) (stands_changed ss 0) ∙ same k (standing_at ss 0)
+        go rest false = rest
+
 pub stands_ended : (now : ℕ) (ss : List Standing) (n : ℕ) → standing_at (all_ended now ss) n ≡ ended_at now (standing_at ss n)
-stands_ended now [] n = refl
-stands_ended now (s ∷ ss) zero = refl
-stands_ended now (s ∷ ss) (suc n) = stands_ended now ss n
+stands_ended now ss n = stands_changed (ended_at now) refl ss n
 
-later_ended : (now : ℕ) (ss : List Standing) → later (all_ended now ss) ≡ all_ended now (later ss)
-later_ended now [] = refl
-later_ended now (s ∷ ss) = refl
+-- what stands once locks have ended, and ids have gone where that is so
+pub stands_gone : (purged : Bool) (now : ℕ) (ss : List Standing) (n : ℕ) → standing_at (all_gone purged now ss) n ≡ gone_at purged now (standing_at ss n)
+stands_gone false now ss n = stands_ended now ss n
+stands_gone true now ss n = stands_changed (purged_at now) refl (all_ended now ss) n ∙ ap (purged_at now) (stands_ended now ss n)
 
--- the files once the locks have ended that are over
+abbrev pub gone_file : Bool → ℕ → File → File
+gone_file purged now file = if purged then purged_file now (ended_file now file) else ended_file now file
+
+-- the files then
+pub files_gone : (oldest : ℕ) (files : List KeptFile) (ss : List Standing) (purged : Bool) (now : ℕ) (name : List ℕ) → files_of oldest (joined files (all_gone purged now ss)) name ≡ gone_file purged now (files_of oldest (joined files ss) name)
+files_gone oldest files ss false now name = files_changed (ended_at now) refl (ended_file now) (λ k s. refl) oldest refl files ss name
+files_gone oldest files ss true now name =
+    files_changed (purged_at now) refl (purged_file now) (λ k s. refl) oldest refl files (all_ended now ss) name
+    ∙ ap (purged_file now) (files_changed (ended_at now) refl (ended_file now) (λ k s. refl) oldest refl files ss name)
+
 pub files_ended : (oldest : ℕ) (files : List KeptFile) (ss : List Standing) (now : ℕ) (name : List ℕ) → files_of oldest (joined files (all_ended now ss)) name ≡ ended_file now (files_of oldest (joined files ss) name)
-files_ended oldest [] ss now name = refl
-files_ended oldest (k ∷ files) ss now name =
-    ap (λ (l : List Whole). files_of oldest l name) (joined_cons k files (all_ended now ss))
-    ∙ go (ap (λ (l : List Standing). files_of oldest (joined files l) name) (later_ended now ss) ∙ files_ended oldest files (later ss) now name) (bytes_eq k.name name)
-    ∙ sym (ap (λ (l : List Whole). ended_file now (files_of oldest l name)) (joined_cons k files ss)) where
-      go : files_of oldest (joined files (later (all_ended now ss))) name ≡ ended_file now (files_of oldest (joined files (later ss)) name)
-          → (b : Bool) → unwrap_or (option_map file_of (if b then Some (whole k (standing_at (all_ended now ss) 0)) else first_of (is_named name) (joined files (later (all_ended now ss))))) (never_met oldest)
-          ≡ ended_file now (unwrap_or (option_map file_of (if b then Some (whole k (standing_at ss 0)) else first_of (is_named name) (joined files (later ss)))) (never_met oldest))
-      go rest true = ap (λ (s : Standing). file_of (whole k s)) (stands_ended now ss 0)
-      go rest false = rest
+files_ended oldest files ss now name = files_gone oldest files ss false now name
+
+-- they show the same at each later moment
+pub gone_shows : (purged : Bool) (file : File) (early late : ℕ) → early ≤ late → settled (gone_file purged early file) late ≡ settled file late
+gone_shows false file early late le = ended_shows file early late le
+gone_shows true file early late le = purged_shows (ended_file early file) early late le ∙ ended_shows file early late le
 
 -- what doesn't come from the locks is the same whatever stands there
 pub read_any : {A : Type 0} (read : Whole → A) (none : A) → ((k : KeptFile) (s s' : Standing) → read (whole k s) ≡ read (whole k s'))

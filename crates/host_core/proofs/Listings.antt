@@ -69,6 +69,7 @@ single_looks book shard start now began count low lawful =
     let none : 0 ≡ shard = omega (arith, low) in
     subst (λ (n : ℕ). LooksAt (sight_of book) (sight_of book) n) none (record {
       own = refl;
+      told = refl;
       begins = ([], sym (append-nil (entries ((sight_of book).seen 0))));
       rest = single_frames book book [] start now began count refl refl refl refl lawful;
     })

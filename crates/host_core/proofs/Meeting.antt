@@ -1,5 +1,5 @@
 -- One call on the files and their locks.
-use Rattle.std.proofs.Common.{◌≡◌, inl, inr, ◌<◌, ◌≤◌, ◌+◌, ◌==◌, ◌||◌, ℕ, zero, suc, Bool, true, false, if◌then◌else◌, List, [], ◌∷◌, ◌++◌, length, set, get_or, Option, None, Some, option_map, unwrap_or, refl, sym, ap, subst, ◌∙◌, arith}
+use Rattle.std.proofs.Common.{◌≡◌, inl, inr, ◌<◌, ◌≤◌, ◌+◌, ◌==◌, ◌||◌, ℕ, zero, suc, max, Bool, true, false, if◌then◌else◌, List, [], ◌∷◌, ◌++◌, length, set, get_or, Option, None, Some, option_map, unwrap_or, refl, sym, ap, subst, ◌∙◌, arith}
 use Rattle.std.proofs.lemmas.Bool.Decides.{eqb_tells}
 use Rattle.std.specs.Str.{bytes_eq}
 use Rattle.outside.specs.Folder.{Files}
@@ -24,11 +24,12 @@ use Rattle.host_core.specs.Files.{file_of, files_of, torn_in, is_named}
 use Rattle.host_core.specs.Numbers.{named, IsNumbered, AreLocked}
 use Rattle.name_index.specs.Index.{number_of}
 use Rattle.std.proofs.lemmas.List.{length-map}
-use Rattle.host_core.proofs.Turning.{began_ended, as_of_later}
+use Rattle.host_core.proofs.Turning.{began_ended, began_gone, long_gone, as_of_later}
 use Rattle.host_core.specs.Steps.{Moves, Stops, StepsAll, StopsAll, IsNoRoomFor, IsRoomFor}
-use Rattle.host_core.specs.Turns.{Turns, AreAsOf}
+use Rattle.host_core.specs.Turns.{Turns, AreAsOf, all_gone, gone_at}
 use Rattle.host_core.specs.Whole.{Whole, whole, seen, standing_at, joined}
-use Rattle.host_core.proofs.Joining.{later, stands_later, joined_cons, files_ended, joined_as, joined_put, joined_push, names_joined, long_joined, get_joined, stands_ended}
+use Rattle.host_core.proofs.Joining.{later, stands_later, joined_cons, files_ended, joined_as, joined_put, joined_push, names_joined, long_joined, get_joined, stands_ended, stands_gone}
+use Rattle.host_core.proofs.FileLists.{file_at}
 use Rattle.host_core.proofs.Leaving.{none_place, some_is}
 use Rattle.host_core.proofs.Moving.{moves_ended}
 use Rattle.host_core.proofs.Numbering.{first_named, first_below}
@@ -186,6 +187,23 @@ locked_skip files old new number now beyond room at bare turns = record {
   as_of = turns.as_of;
 }
 
+-- the locks when those that are over have ended, and ids that are over may have gone
+pub locked_gone : (purged : Bool) (files : List KeptFile) (old new : Locks) (time later : ℕ) → AreLocked files old time → time ≤ later → new.files ≡ all_gone purged later old.files → new.latest ≤ max old.latest later → AreChained new
+    → AreLocked files new later
+locked_gone purged files old new time later locked le is fell chains = record {
+  long = let more = locked.long in let same : length new.files ≡ length old.files = ap (λ (l : List Standing). length l) is ∙ long_gone purged later old.files in omega (arith, more, same);
+  beyond = λ n lt. ap (λ (l : List Standing). standing_at l n) is ∙ stands_gone purged later old.files n ∙ ap (gone_at purged later) (locked.beyond n lt) ∙ bare_gone purged later;
+  as_of = record {
+    began = subst (BeganBy later) (sym is) (began_gone purged old.files later later (as_of_later old time later locked.as_of le).began);
+    stepped = let by = locked.as_of.stepped in omega (arith, by, le, fell);
+    chains = chains;
+  };
+}
+  where
+    bare_gone : (purged : Bool) (now : ℕ) → gone_at purged now unlocked ≡ unlocked
+    bare_gone false now = refl
+    bare_gone true now = refl
+
 -- the locks when time goes on
 pub locked_ended : (files : List KeptFile) (old new : Locks) (time later : ℕ) → AreLocked files old time → time ≤ later → new.files ≡ all_ended later old.files → new.latest ≤ old.latest → AreChained new → AreLocked files new later
 locked_ended files old new time later locked le is fell chains = record {
@@ -265,6 +283,11 @@ locked_same files files' old new time long same locked = subst (λ (l : Locks). 
   beyond = λ n le. locked.beyond n (omega (arith, le, long));
   as_of = locked.as_of;
 })
+
+-- the file of a name that was met
+pub met_file : (oldest : ℕ) (files : List KeptFile) (ss : List Standing) (name : List ℕ) (number : ℕ) (k : KeptFile) → IsFirst (is_named name) (joined files ss) number → k ≡ get_or files number k
+    → files_of oldest (joined files ss) name ≡ file_of (whole k (standing_at ss number))
+met_file oldest files ss name number k first e = file_at file_of (never_met oldest) (joined files ss) name number (whole k (standing_at ss number)) first (get_joined files number k ss e)
 
 -- the room for a call is the same once the locks have ended
 pub room_raw : (oldest : ℕ) (files : List KeptFile) (ss : List Standing) (name : List ℕ) (kept : ℕ) (call : Call) (opened now : ℕ)

@@ -89,7 +89,7 @@ begin_again begin one is =
     let m = one.step.moment in
     ap (λ (b : Begin). begin_after b one.step) (begin_at-begin_at begin one.time m ∙ begin_later begin (max one.time m) m (omega (arith, is)))
 
-left-untimed : (begin : Begin) (made : List Made) → IsTimely begin.now made → left_of begin (items_of made) ≡ left_of begin (untimed made)
+pub left-untimed : (begin : Begin) (made : List Made) → IsTimely begin.now made → left_of begin (items_of made) ≡ left_of begin (untimed made)
 left-untimed begin [] t = refl
 left-untimed begin (one ∷ made) t =
     let next = begin_happens begin (Step one.step) in
@@ -110,7 +110,7 @@ found-untimed begin made time m t is =
     found_timed begin made time m ∙ ap (λ (b : Begin). begin_at b (max time m)) (left-untimed begin made t) ∙ begin_later end (max time m) m (omega (arith, now))
 
 -- and a call at a moment finds the same, whether time has gone on to it or not
-found-later : (begin : Begin) (made : List Made) (time m : ℕ) → found_at begin (history_of made (max time m)) m ≡ found_at begin (history_of made time) m
+pub found-later : (begin : Begin) (made : List Made) (time m : ℕ) → found_at begin (history_of made (max time m)) m ≡ found_at begin (history_of made time) m
 found-later begin made time m =
     let before = left_of begin (items_of made) in
     found_timed begin made (max time m) m ∙ begin_later before (max (max time m) m) (max time m) (omega arith) ∙ sym (found_timed begin made time m)

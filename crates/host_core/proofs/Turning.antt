@@ -1,6 +1,7 @@
 -- What a step makes of the locks.
-use Rattle.std.proofs.Common.{◌≡◌, ◌≢◌, inl, inr, ◌<◌, ◌≤◌, ℕ, zero, suc, Bool, true, false, if◌then◌else◌, List, [], ◌∷◌, ◌++◌, length, Option, None, Some, is_some, option_map, unwrap_or, nat_le, ◌+◌, refl, sym, ap, subst, ◌∙◌, arith, slice_get}
+use Rattle.std.proofs.Common.{◌≡◌, ◌≢◌, inl, inr, ◌<◌, ◌≤◌, ℕ, zero, suc, Bool, true, false, if◌then◌else◌, List, [], ◌∷◌, ◌++◌, length, map, Option, None, Some, is_some, option_map, unwrap_or, nat_le, ◌+◌, refl, sym, ap, subst, ◌∙◌, arith, slice_get}
 use Rattle.std.proofs.lemmas.Bool.Decides.{eqb_tells, nat_tests}
+use Rattle.std.proofs.lemmas.List.{length-map}
 use Rattle.std.proofs.lemmas.Option.{slice_get-map, none-some}
 use Rattle.std.specs.Str.{bytes_eq}
 use Rattle.wopi_model.specs.declared.locks.Lock.{Lock}
@@ -18,12 +19,12 @@ use Rattle.lock_machine.specs.declared.change.Change.{Change}
 use Rattle.lock_machine.specs.declared.change.Change.TheVariants as change
 use Rattle.wopi_model.specs.Moment.{lock_life}
 use Rattle.wopi_model.specs.Settle.{standing, is_over}
-use Rattle.kept_locks.specs.Locks.{Standing, Locks, unlocked, ended_at, all_ended, stepped, with_lock}
+use Rattle.kept_locks.specs.Locks.{Standing, Locks, unlocked, ended_at, all_ended, purged_at, stepped, with_lock}
 use Rattle.kept_locks.specs.Ties.{BeganBy, GoesOn, Spends, renewed, renewed_at}
 use Rattle.host_core.specs.Effects.{taken_of}
-use Rattle.host_core.specs.Turns.{LockFollows, AllStand, AreAsOf}
+use Rattle.host_core.specs.Turns.{LockFollows, AllStand, AreAsOf, all_gone, gone_at}
 use Rattle.host_core.specs.Whole.{standing_at}
-use Rattle.host_core.proofs.Joining.{stands_at, stands_ended}
+use Rattle.host_core.proofs.Joining.{stands_at, stands_ended, stands_gone}
 
 pub follows_same : (lock : Option Lock) (now : ℕ) → LockFollows lock lock now
 follows_same None now = tt
@@ -50,15 +51,32 @@ stood (Some lock) now one e = go (is_over lock now) e where
   go true h = cc
   go false h = h
 
-mapped : (now : ℕ) (o : Option Standing) (file : Standing) → option_map (ended_at now) o ≡ Some file → (s : Standing) × (o ≡ Some s) × (ended_at now s ≡ file)
-mapped now None file e = absurd (cc)
-mapped now (Some s) file e = (s, refl, cc)
+-- a change of what stands leaves the lock or ends it
+module _ (change : Standing → Standing) (moment : ℕ) (ends : (s : Standing) (lock : Lock) → (change s).lock ≡ Some lock → s.lock ≡ Some lock) where
+  mapped : (o : Option Standing) (file : Standing) → option_map change o ≡ Some file → (s : Standing) × (o ≡ Some s) × (change s ≡ file)
+  mapped None file e = absurd (cc)
+  mapped (Some s) file e = (s, refl, cc)
+
+  began_changed : (ss : List Standing) → BeganBy moment ss → BeganBy moment (map change ss)
+  began_changed ss began = λ number file lock at is.
+      let (s, there, changed) = mapped (slice_get ss number) file (sym (slice_get-map change ss number) ∙ at) in
+      began number s lock there (ends s lock (ap (λ (x : Standing). x.lock) changed ∙ is))
 
 -- locks that end are no longer there
 pub began_ended : (ss : List Standing) (now moment : ℕ) → BeganBy moment ss → BeganBy moment (all_ended now ss)
-began_ended ss now moment began = λ number file lock at is.
-    let (s, there, ended) = mapped now (slice_get ss number) file (sym (slice_get-map (ended_at now) ss number) ∙ at) in
-    began number s lock there (stood s.lock now lock (ap (λ (x : Standing). x.lock) ended ∙ is))
+began_ended ss now moment began = began_changed (ended_at now) moment (λ s lock. stood s.lock now lock) ss began
+
+pub began_gone : (purged : Bool) (ss : List Standing) (now moment : ℕ) → BeganBy moment ss → BeganBy moment (all_gone purged now ss)
+began_gone false ss now moment began = began_ended ss now moment began
+began_gone true ss now moment began = began_changed (purged_at now) moment (λ s lock is. is) (all_ended now ss) (began_ended ss now moment began)
+
+pub long_gone : (purged : Bool) (now : ℕ) (ss : List Standing) → length (all_gone purged now ss) ≡ length ss
+long_gone false now ss = length-map ss (ended_at now)
+long_gone true now ss = length-map (all_ended now ss) (purged_at now) ∙ length-map ss (ended_at now)
+
+lock_gone : (purged : Bool) (now : ℕ) (s : Standing) → (gone_at purged now s).lock ≡ standing s.lock now
+lock_gone false now s = refl
+lock_gone true now s = refl
 
 there_ended : (ss : List Standing) (number now : ℕ) → number < length ss → slice_get (all_ended now ss) number ≡ Some (ended_at now (standing_at ss number))
 there_ended ss number now lt = slice_get-map (ended_at now) ss number ∙ ap (option_map (ended_at now)) (stands_at ss number lt)
@@ -226,6 +244,12 @@ pub stand_ended : (ss : List Standing) (now : ℕ) → AllStand now (all_ended n
 stand_ended ss now number =
     let is = stands_ended now ss number in
     ap (λ (s : Standing). standing s.lock now) is ∙ stands_twice (standing_at ss number).lock now ∙ sym (ap (λ (s : Standing). s.lock) is)
+
+pub stand_gone : (purged : Bool) (ss : List Standing) (now : ℕ) → AllStand now (all_gone purged now ss)
+stand_gone purged ss now number =
+    let is = stands_gone purged now ss number in
+    let lock : (standing_at (all_gone purged now ss) number).lock ≡ standing (standing_at ss number).lock now = ap (λ (s : Standing). s.lock) is ∙ lock_gone purged now (standing_at ss number) in
+    ap (λ (l : Option Lock). standing l now) lock ∙ stands_twice (standing_at ss number).lock now ∙ sym lock
 
 -- nor when one of them became another one
 pub stand_set : (ss : List Standing) (number : ℕ) (lock : Option Lock) (spend : Option Spent) (now : ℕ) → number < length ss → standing lock now ≡ lock → AllStand now ss

@@ -23,6 +23,7 @@ pub record Lists (sight : Sight) (shard : ℕ) (listing : Listing) : Type 0 wher
 -- what was seen before, and the rest stays.
 pub record LooksAt (old new : Sight) (shard : ℕ) : Type 0 where
   pub own : new.own ≡ old.own
+  pub told : new.told ≡ old.told
   pub begins : Extends (entries (old.seen shard)) (entries (new.seen shard))
   pub rest : FramesAt old new shard
 
@@ -49,4 +50,5 @@ pub record Follows (old new : Sight) : Type 0 where
 -- what asking for listings of any shards leaves
 pub record LooksOn (old new : Sight) : Type 0 where
   pub own : new.own ≡ old.own
+  pub told : new.told ≡ old.told
   pub follows : Follows old new

@@ -1,7 +1,12 @@
 -- What a store has noted.
-use Rattle.std.specs.Prelude.{◌≡◌, ◌==◌, ℕ, List, map, unwrap_or, [], Option, None, Some, option_map, if◌then◌else◌}
+use Rattle.std.specs.Prelude.{◌≡◌, ◌==◌, ⊤, ℕ, ◌<◌, ◌≤◌, true, List, map, unwrap_or, [], Option, None, Some, option_map, if◌then◌else◌}
 use Rattle.wopi_model.specs.Begin.{Begin}
 use Rattle.wopi_model.specs.Shard.{Opening}
+use Rattle.wopi_model.specs.declared.calls.Act.TheVariants as act
+use Rattle.wopi_model.specs.declared.calls.Call.{Call}
+use Rattle.wopi_model.specs.declared.calls.Ruling.{Ruling}
+use Rattle.wopi_model.specs.Act.{is_stored}
+use Rattle.wopi_model.specs.Step.{bare}
 use Rattle.host_core.specs.declared.file.KeptFile.{KeptFile}
 use Rattle.host_core.specs.Entries.{Made, Asked, brought_by}
 
@@ -14,17 +19,49 @@ abbrev pub saved_in : Made → Option Brought
 saved_in one = if one.step.ruling.status == 200 then option_map (λ contents. (one.step.ruling.version, contents)) (brought_by one.step.call.act) else None
 
 -- What the shard began with, the entries, and the one that was begun and has no ruling yet. `saved` are the contents that the folder took
--- since the last one was begun, and `most` is how many entries there may be.
+-- since the last one was begun, and `most` is how many entries there may be, where that is bounded.
 pub record Notes : Type 0 where
   pub begin : Begin
   pub made : List Made
   pub begun : Option Asked
   pub saved : Option Brought
-  pub most : ℕ
+  pub most : Option ℕ
 
--- an entry was begun, whose call is of that name
-abbrev pub IsBegunOn : Notes → List ℕ → Type 0
-IsBegunOn notes name = (one : Asked) × (notes.begun ≡ Some one) × (one.call.name ≡ name)
+-- beside so many entries there may be one more
+abbrev pub HasPlace : Option ℕ → ℕ → Type 0
+HasPlace None made = ⊤
+HasPlace (Some most) made = made < most
+
+-- there may be an entry for each of so many calls, or for any number of them
+abbrev pub TakesCalls : Option ℕ → Option ℕ → Type 0
+TakesCalls None most = most ≡ None
+TakesCalls (Some calls) None = ⊤
+TakesCalls (Some calls) (Some most) = calls ≤ most
+
+-- an entry was begun for that call, and nothing was saved since
+abbrev pub IsBegunFor : Notes → Call → Type 0
+IsBegunFor notes call = (one : Asked) × (notes.begun ≡ Some one) × (notes.saved ≡ None) × (one.call ≡ call)
+
+-- for one of that name, which brings these contents
+abbrev pub IsBegunWith : Notes → List ℕ → List ℕ → Type 0
+IsBegunWith notes name contents = (one : Asked) × (notes.begun ≡ Some one) × (notes.saved ≡ None) × (one.call.name ≡ name) × (brought_by one.call.act ≡ Some contents)
+
+-- for one that removes the file of that name
+abbrev pub IsBegunToRemove : Notes → List ℕ → Type 0
+IsBegunToRemove notes name = (one : Asked) × (notes.begun ≡ Some one) × (notes.saved ≡ None) × (one.call.name ≡ name) × (one.call.act ≡ act.Delete)
+
+-- the ruling of a call that the store took part in and that was accepted
+abbrev pub accepted : Option ℕ → Ruling
+accepted version = record (bare 200) { version = version }
+
+-- the version that is told of what was saved
+abbrev pub told_version : Option Brought → Option ℕ
+told_version None = None
+told_version (Some saved) = saved.0
+
+-- where the call that was begun is one that the store takes part in, it is accepted with that ruling
+abbrev pub IsToldAhead : Notes → Ruling → Type 0
+IsToldAhead notes ruling = (one : Asked) → notes.begun ≡ Some one → is_stored one.call.act ≡ true → ruling.status ≡ 200 → ruling ≡ accepted (told_version notes.saved)
 
 -- the files of an opening
 abbrev pub opening_listed : List KeptFile → Opening

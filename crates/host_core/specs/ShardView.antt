@@ -1,8 +1,9 @@
 -- A shard as the definitions see it.
 use Rattle.std.specs.Prelude.{List, map, Some, option_map}
 use Rattle.wopi_model.specs.Begin.{new_life}
-use Rattle.wopi_model.specs.Host.{kept_limits}
+use Rattle.wopi_model.specs.Host.{Limits}
 use Rattle.wopi_model.specs.Shard.{Opening}
+use Rattle.host_core.specs.declared.ledger.Ledger.{Ledger}
 use Rattle.host_core.specs.declared.shard.Shard.TheInside.{Inside}
 use Rattle.host_core.specs.declared.past.Past.TheInside as past
 use Rattle.host_core.specs.declared.kept.Kept.TheInside as store
@@ -11,12 +12,15 @@ use Rattle.host_core.specs.Notes.{Notes}
 use Rattle.host_core.specs.Facts.{dates_of}
 use Rattle.host_core.specs.Value.{Book, Left, InMemory}
 
+abbrev pub limits_of : Ledger → Limits
+limits_of ledger = record { calls = ledger.calls; ids = ledger.ids }
+
 -- the history is what the store noted
 abbrev pub book_of : {F : Type 0} → Notes → Inside F → Book F
 book_of notes s = record {
   only = s.only.value;
   begin = notes.begin;
-  limits = kept_limits s.ledger.capacity;
+  limits = limits_of s.ledger;
   dates = dates_of s.ledger.opening.value.items;
   made = notes.made;
   time = s.ledger.time;
@@ -40,6 +44,7 @@ kept_of k = record {
     made = k.entries.made;
     begun = k.entries.begun;
     saved = option_map (λ one. (Some one.version, one.contents)) k.saved;
-    most = k.entries.most;
+    most = Some k.entries.most;
   };
+  most = k.entries.most;
 }

@@ -11,5 +11,12 @@ pub(crate) fn are_nine_tenths(capacity: u32, entries: u64, bytes: u64) -> bool
     if 9 * u128::from(capacity) <= 10 * u128::from(entries) {
         return true;
     }
+    are_most_kept(bytes)
+}
+
+/// Nine tenths of the bytes that a shard may keep.
+pub(crate) fn are_most_kept(bytes: u64) -> bool
+    ensures { IsTrue result ↔ (9 * most_kept ≤ 10 * bytes) }
+{
     9 * u128::from(MOST_KEPT) <= 10 * u128::from(bytes)
 }

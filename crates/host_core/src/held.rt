@@ -80,6 +80,7 @@ fn exchange(locks: &mut KeptLocks, number: u32, effect: Effect, taken: Option<&L
     ensures latest { locks.new.latest ≤ max locks.old.latest now }
     ensures chains { AreChained locks.new }
     ensures spare { locks.old.spare ≤ locks.new.spare + 1 }
+    ensures room { locks.new.room ≡ locks.old.room }
 {
     let held = lock_of(locks, number);
     let lock = lock_left(effect.change, held, taken);
@@ -98,6 +99,7 @@ fn change_lock(locks: &mut KeptLocks, number: u32, effect: Effect, taken: Option
     ensures latest { locks.new.latest ≤ max locks.old.latest now }
     ensures chains { AreChained locks.new }
     ensures spare { locks.old.spare ≤ locks.new.spare + 1 }
+    ensures room { locks.new.room ≡ locks.old.room }
 {
     match effect.change {
         Change::GoesOn { since, until } if effect.spend.is_none() => {

@@ -210,7 +210,17 @@ impl<F: Folder> Folder for Kept<F> {
 }
 
 impl<F: Folder> Store for Kept<F> {
-    ghost notes = { λ kept. kept.notes };
+    ghost use Rattle.std.specs.Prelude.{false, Some};
+
+    ghost notes = { λ kept. record kept.notes { most = Some kept.most } };
+
+    ghost lost = { λ kept. false };
+
+    ghost endless = { false };
+
+    ghost loses = { false };
+
+    ghost loses_is = { λ kept lost. lost };
 
     fn open(
         &mut self,
@@ -218,8 +228,11 @@ impl<F: Folder> Store for Kept<F> {
         opening: &Vec<KeptFile>,
         opened: u64,
         first: u64,
-        capacity: u32,
+        calls: Option<u32>,
     ) -> Result<(), Memory> {
+        let Some(capacity) = calls else {
+            unreachable!();
+        };
         let copies = match copy_files(alloc, opening) {
             Ok(copies) => copies,
             Err(memory) => return Err(memory),
@@ -281,5 +294,9 @@ impl<F: Folder> Store for Kept<F> {
 
     fn count(&self) -> u64 {
         self.entries.len()
+    }
+
+    fn is_lost(&self) -> bool {
+        false
     }
 }

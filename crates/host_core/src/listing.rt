@@ -35,6 +35,7 @@ pub trait Lister: Caller {
         requires { shard < shard_count }
         ensures listed { IfOk result (Lists (Self.sight self.new) shard) }
         ensures looks { LooksAt (Self.sight self.old) (Self.sight self.new) shard }
+        ensures telling { Self.telling self.new ≡ Self.telling self.old }
         ensures basis { Self.basis self.new ≡ Self.basis self.old }
         ensures references { Self.references self.new ≡ Self.references self.old };
 

@@ -1,10 +1,10 @@
 //! A folder in which a shard's entries are noted.
-ghost use Rattle.std.specs.Prelude.{◌≡◌, ◌≤◌, ◌<◌, ◌++◌, ◌∷◌, [], length, true, None, Some, Err, IfOk, OnOk, OnErr, IsErrOf};
+ghost use Rattle.std.specs.Prelude.{◌≡◌, ◌≤◌, ◌++◌, ◌∷◌, [], length, Bool, not, true, false, None, Some, Err, IfOk, OnOk, OnErr, IsErrOf};
 ghost use Rattle.outside.specs.Faults.{Rose};
 ghost use Rattle.outside.specs.Folder.{Keeps, Replaces, OpensOnly, Removes};
-ghost use Rattle.host_core.specs.Entries.{Asked, asked_as, ruled};
+ghost use Rattle.host_core.specs.Entries.{Asked, asked_as, ruled, ruled_as};
 ghost use Rattle.host_core.specs.Entry.{is_status};
-ghost use Rattle.host_core.specs.Notes.{Notes, IsBegunOn, opening_listed, saved_in, StaysNoted, KeepsOpen};
+ghost use Rattle.host_core.specs.Notes.{Notes, HasPlace, IsBegunToRemove, IsBegunWith, IsToldAhead, TakesCalls, opening_listed, saved_in, StaysNoted, KeepsOpen};
 ghost use Rattle.wopi_model.specs.Begin.{new_life};
 
 use crate::contents::Contents;
@@ -23,26 +23,39 @@ pub trait Store: Folder {
     /// What was noted.
     ghost notes: { Self → Notes };
 
-    /// Begins anew with the files of an opening, and takes the room for so many entries.
+    /// What it has noted last may not be kept, and it takes no more.
+    ghost lost: { Self → Bool };
+
+    /// It takes any number of entries.
+    ghost endless: { Bool };
+
+    /// There are stores of this type that are lost.
+    ghost loses: { Bool };
+
+    ghost loses_is: { (store : Self) → lost store ≡ true → loses ≡ true };
+
+    /// Begins anew with the files of an opening, and takes the room for an entry of each call, where calls are bounded.
     fn open(
         &mut self,
         alloc: Global,
         opening: &Vec<KeptFile>,
         opened: u64,
         first: u64,
-        capacity: u32,
+        calls: Option<u32>,
     ) -> Result<(), Memory>
+        requires bounded { calls ≡ None → endless ≡ true }
         ensures begin { OnOk result ((notes self.new).begin ≡ new_life (opening_listed opening.now.items) opened first) }
         ensures made { OnOk result ((notes self.new).made ≡ []) }
         ensures begun { OnOk result ((notes self.new).begun ≡ None) }
-        ensures most { OnOk result (capacity ≤ (notes self.new).most) }
+        ensures most { OnOk result (TakesCalls calls (notes self.new).most) }
         ensures files { Keeps (Self.files self.old) (Self.files self.new) }
         ensures never_falls { Self.faults self.old ≤ Self.faults self.new };
 
-    /// Begins an entry, for which there is room. It takes no memory.
+    /// Begins an entry, for which there is room, where the store isn't lost. It takes no memory.
     fn begin(&mut self, beginning: &Beginning<'_>)
+        requires going { lost self.old ≡ false }
         requires begun { (notes self.old).begun ≡ None }
-        requires room { length (notes self.old).made < (notes self.old).most }
+        requires room { HasPlace (notes self.old).most (length (notes self.old).made) }
         ensures made { (notes self.new).made ≡ (notes self.old).made }
         ensures begun { (notes self.new).begun ≡ Some (asked_as beginning.now.stamp beginning.now.pass beginning.now.moment beginning.now.time beginning.now.call.now) }
         ensures saved { (notes self.new).saved ≡ None }
@@ -50,7 +63,7 @@ pub trait Store: Folder {
         ensures files { Keeps (Self.files self.old) (Self.files self.new) }
         ensures never_falls { Self.faults self.old ≤ Self.faults self.new };
 
-    /// The name is that of the call that was begun. It then holds the contents, and the call is to be told that version. The contents are taken, and given
+    /// The name and the contents are those of the call that was begun. The name then holds these, and the call is to be told that version. The contents are taken, and given
     /// as they are to stand with their file; `former` stood there before. After a fault only this name is open, and
     /// the contents stay.
     fn save(
@@ -61,7 +74,7 @@ pub trait Store: Folder {
         contents: &mut Bytes,
         former: Option<&Contents>,
     ) -> Result<Contents, OutFault>
-        requires begun { IsBegunOn (notes self.old) name.now }
+        requires begun { IsBegunWith (notes self.old) name.now contents.old }
         ensures live { IfOk result (λ live. live ≡ contents.old) }
         ensures back { OnErr result (contents.new ≡ contents.old) }
         ensures replaced { OnOk result (Replaces (Self.files self.old) (Self.files self.new) name.now contents.old) }
@@ -73,20 +86,22 @@ pub trait Store: Folder {
         ensures unsaved { OnErr result ((notes self.new).saved ≡ (notes self.old).saved) }
         ensures noted { StaysNoted (notes self.old) (notes self.new) };
 
-    /// The name is that of the call that was begun. It is gone then. After a fault only this name is open.
+    /// The call that was begun removes the file of that name. It is gone then. After a fault only this name is open.
     fn clear(&mut self, name: &str) -> Result<(), Failed>
-        requires begun { IsBegunOn (notes self.old) name.now }
+        requires begun { IsBegunToRemove (notes self.old) name.now }
         ensures removed { OnOk result (Removes (Self.files self.old) (Self.files self.new) name.now) }
         ensures torn { OpensOnly (Self.files self.old) (Self.files self.new) name.now }
         ensures never_falls { Self.faults self.old ≤ Self.faults self.new }
         ensures failed { OnErr result (Rose (Self.faults self.old) (Self.faults self.new)) }
         ensures notes { notes self.new ≡ notes self.old };
 
-    /// Gives the entry that was begun its ruling. What was saved is what an accepted call brought. It takes no memory.
+    /// Gives the entry that was begun its ruling. What was saved is what an accepted call brought, and the ruling of one that the store
+    /// took part in was known ahead. It takes no memory. The store may be lost then, and the entry may not be told.
     fn end(&mut self, ruling: &Ruling)
         requires begun { (one : Asked) × ((notes self.old).begun ≡ Some one) × ((notes self.old).saved ≡ saved_in (ruled ruling.now one)) }
         requires status { is_status ruling.now.status ≡ true }
-        ensures made { (one : Asked) → (notes self.old).begun ≡ Some one → (notes self.new).made ≡ (notes self.old).made ++ ruled ruling.now one ∷ [] }
+        requires ahead { IsToldAhead (notes self.old) ruling.now }
+        ensures made { (one : Asked) → (notes self.old).begun ≡ Some one → (notes self.new).made ≡ (notes self.old).made ++ ruled_as (not (lost self.new)) ruling.now one ∷ [] }
         ensures ended { (notes self.new).begun ≡ None }
         ensures rest { KeepsOpen (notes self.old) (notes self.new) }
         ensures files { Keeps (Self.files self.old) (Self.files self.new) }
@@ -103,4 +118,8 @@ pub trait Store: Folder {
     /// How many entries there are.
     fn count(&self) -> u64
         ensures { result ≡ length (notes self.now).made };
+
+    /// Whether it is lost.
+    fn is_lost(&self) -> bool
+        ensures { result ≡ lost self.now };
 }

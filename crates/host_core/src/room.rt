@@ -17,6 +17,7 @@ fn add_files(locks: &mut KeptLocks, files: usize) -> Result<(), Memory>
     ensures as_of { AreAsOf 0 locks.new }
     ensures long { OnOk result (files ≤ length locks.new.files) }
     ensures spare { locks.new.spare ≡ locks.old.spare }
+    ensures room { locks.new.room ≡ locks.old.room }
 {
     let mut count = 0;
     'count: while count < files {
@@ -26,14 +27,15 @@ fn add_files(locks: &mut KeptLocks, files: usize) -> Result<(), Memory>
     Ok(())
 }
 
-/// Takes the room for the locks of so many files, and for so many that begin and end.
-pub fn take_room(alloc: Global, files: usize, capacity: u32) -> Result<KeptLocks, Memory>
+/// Takes the room for the locks of so many files, and for so many locks and ids.
+pub fn take_room(alloc: Global, files: usize, ids: usize) -> Result<KeptLocks, Memory>
     ensures none { IfOk result (λ locks. (number : ℕ) → standing_at locks.files number ≡ unlocked) }
     ensures as_of { IfOk result (λ locks. AreAsOf 0 locks) }
     ensures long { IfOk result (λ locks. files ≤ length locks.files) }
-    ensures spare { IfOk result (λ locks. capacity ≤ locks.spare) }
+    ensures spare { IfOk result (λ locks. ids ≤ locks.spare) }
+    ensures room { IfOk result (λ locks. ids ≤ locks.room) }
 {
-    let mut locks = KeptLocks::with_room(alloc, capacity as usize)?;
+    let mut locks = KeptLocks::with_room(alloc, ids)?;
     add_files(&mut locks, files)?;
     Ok(locks)
 }

@@ -1,10 +1,10 @@
 //! A shard of the host over a folder.
-ghost use Rattle.std.specs.Prelude.{◌≡◌, ◌≢◌, ◌≤◌, ◌<◌, ◌+◌, ◌^◌, ◌++◌, ◌∷◌, [], length, vec_capacity, max, IfOk, IfErr, IfSome, IsSome, OnOk, OnErr, IsTrue, true, false, ◌↔◌, option_map, slice_get, sum_by, List, ℕ, map, None, if◌then◌else◌};
+ghost use Rattle.std.specs.Prelude.{not, ◌≡◌, ◌≢◌, ◌≤◌, ◌<◌, ◌+◌, ◌^◌, ◌++◌, ◌∷◌, [], length, vec_capacity, max, IfOk, IfErr, IfSome, IsSome, OnOk, OnErr, IsTrue, true, false, ◌↔◌, option_map, slice_get, sum_by, List, ℕ, map, None, if◌then◌else◌};
 ghost use Rattle.outside.specs.Folder.{Keeps};
 ghost use Rattle.outside.specs.Faults.{Rose};
 ghost use Rattle.wopi_model.specs.Moment.{IsMoment};
 ghost use Rattle.wopi_model.specs.Begin.{new_life};
-ghost use Rattle.wopi_model.specs.Host.{FullFrom, kept_from, kept_limits};
+ghost use Rattle.wopi_model.specs.Host.{FullFrom, kept_limits};
 ghost use Rattle.wopi_model.specs.Shard.{Opening, last_from, stamps, entries, AreNames};
 ghost use Rattle.host_core.specs.Whole.{standing_at};
 ghost use Rattle.kept_locks.specs.Locks.{unlocked};
@@ -14,10 +14,11 @@ ghost use Rattle.host_core.specs.Effects.{begun};
 ghost use Rattle.host_core.specs.Entries.{history_of, back_of, brought_by};
 ghost use Rattle.host_core.specs.Facts.{dates_of, facts_of, is_info, is_late, look_for, made_for, saved_at};
 ghost use Rattle.host_core.specs.Files.{files_of, torn_in};
-ghost use Rattle.host_core.specs.Ledger.{IsFullFault, handed_back};
-ghost use Rattle.host_core.specs.Fullness.{IsNearlyFull};
+ghost use Rattle.host_core.specs.Ledger.{IsFullFault, IsLostFault, handed_back};
+ghost use Rattle.host_core.specs.Fullness.{AreBytes, IsNearlyFull};
+ghost use Rattle.host_core.specs.Notes.{TakesCalls};
 ghost use Rattle.host_core.specs.LockActs.{is_lock_act};
-ghost use Rattle.host_core.specs.Times.{untimed};
+ghost use Rattle.host_core.specs.Value.{happened};
 ghost use Rattle.host_core.specs.Turns.{AreAsOf};
 ghost use Rattle.host_core.specs.Opening.{AreDatesOf, IsFirstVersion, IsOfShard, IsOpening, Fits, IsTooLarge, IfTooLarge};
 
@@ -27,8 +28,8 @@ use crate::children::{Children, children_of};
 use crate::decide::is_info;
 use crate::facts::{Facts, withhold};
 use crate::files::Rack;
-use crate::fullness::are_nine_tenths;
-use crate::ledger::{Ledger, StepFault, take_step};
+use crate::fullness::{are_most_kept, are_nine_tenths};
+use crate::ledger::{Ledger, StepFault, make_ready, take_step};
 use crate::names::{NameList, names_of};
 use crate::noting::Store;
 use crate::opening::{StartFault, Stock, gather};
@@ -97,7 +98,7 @@ impl<F: Store> Shard<F> {
     ghost use Rattle.host_core.specs.View.{IsViewOf};
 
     /// Opens a shard over a folder: its files whose names are file names, of shard `only` where a number is
-    /// given, each at version `first` and unlocked. Other names are left alone. A refusal hands the folder back.
+    /// given, each at version `first` and unlocked. Other names are left alone. It takes so many calls. A refusal hands the folder back.
     pub fn start(
         alloc: Global,
         folder: F,
@@ -132,20 +133,106 @@ impl<F: Store> Shard<F> {
         ensures handed { IfErr result (λ refused. Keeps (F.files folder) (F.files refused.0)) }
         ensures counts { IfErr result (λ refused. F.faults folder ≤ F.faults refused.0) }
     {
+        match Shard::open(alloc, folder, only, Some(capacity), capacity, opened, first) {
+            Ok(shard) => return Ok(shard),
+            Err(refused) => return Err(refused),
+        }
+    }
+
+    /// The same over a store that takes any number of entries. So does the shard of calls, and it has places for so many held locks
+    /// and ids that are refused.
+    pub fn start_endless(
+        alloc: Global,
+        folder: F,
+        only: Option<u8>,
+        ids: u32,
+        opened: u64,
+        first: u64,
+    ) -> Result<Shard<F>, (F, StartFault)>
+        requires endless { F.endless ≡ true }
+        requires ids { (1 ≤ ids) × (ids ≤ 32768) }
+        requires only { IfSome only (λ number. number < 16) }
+        requires opened { IsMoment opened }
+        requires first { IsFirstVersion first }
+        ensures opened { IfOk result (λ shard. shard ≡ record {
+          only = only;
+          begin = shard.begin;
+          limits = record { calls = None; ids = ids };
+          dates = shard.dates;
+          made = [];
+          time = opened;
+          ticked = false;
+          start = folder;
+          folder = shard.folder;
+        }) }
+        ensures opening { IfOk result (λ shard. (opening : Opening) × (shard.begin ≡ new_life opening opened first) × IsOpening only (F.files folder) opening × Fits opening) }
+        ensures dates { IfOk result (λ shard. map (λ one. one.0) shard.dates ≡ map (λ one. one.0) shard.begin.files) }
+        ensures told { IfOk result (λ shard. AreDatesOf (F.times folder) shard.dates) }
+        ensures same { IfOk result (λ shard. Keeps (F.files folder) (F.files shard.folder)) }
+        ensures never_falls { IfOk result (λ shard. F.faults folder ≤ F.faults shard.folder) }
+        ensures lawful { IfOk result (λ shard. IsLawful shard (F.files shard.start) (F.files shard.folder) (F.faults shard.start) (F.faults shard.folder)) }
+        ensures too_large { IfErr result (λ refused. IfTooLarge refused.1 (IsTooLarge only (F.files folder))) }
+        ensures failed { IfErr result (λ refused. refused.1 ≡ StartFault.FolderFault → Rose (F.faults folder) (F.faults refused.0)) }
+        ensures handed { IfErr result (λ refused. Keeps (F.files folder) (F.files refused.0)) }
+        ensures counts { IfErr result (λ refused. F.faults folder ≤ F.faults refused.0) }
+    {
+        match Shard::open(alloc, folder, only, None, ids, opened, first) {
+            Ok(shard) => return Ok(shard),
+            Err(refused) => return Err(refused),
+        }
+    }
+
+    /// Both: with places for so many locks and ids, and for the entries of so many calls where these are bounded.
+    fn open(
+        alloc: Global,
+        folder: F,
+        only: Option<u8>,
+        calls: Option<u32>,
+        ids: u32,
+        opened: u64,
+        first: u64,
+    ) -> Result<Shard<F>, (F, StartFault)>
+        requires bounded { calls ≡ None → F.endless ≡ true }
+        requires calls { IfSome calls (λ most. most ≡ ids) }
+        requires only { IfSome only (λ number. number < 16) }
+        requires opened { IsMoment opened }
+        requires first { IsFirstVersion first }
+        ensures opened { IfOk result (λ shard. shard ≡ record {
+          only = only;
+          begin = shard.begin;
+          limits = record { calls = calls; ids = ids };
+          dates = shard.dates;
+          made = [];
+          time = opened;
+          ticked = false;
+          start = folder;
+          folder = shard.folder;
+        }) }
+        ensures opening { IfOk result (λ shard. (opening : Opening) × (shard.begin ≡ new_life opening opened first) × IsOpening only (F.files folder) opening × Fits opening) }
+        ensures dates { IfOk result (λ shard. map (λ one. one.0) shard.dates ≡ map (λ one. one.0) shard.begin.files) }
+        ensures told { IfOk result (λ shard. AreDatesOf (F.times folder) shard.dates) }
+        ensures same { IfOk result (λ shard. Keeps (F.files folder) (F.files shard.folder)) }
+        ensures never_falls { IfOk result (λ shard. F.faults folder ≤ F.faults shard.folder) }
+        ensures lawful { IfOk result (λ shard. IsLawful shard (F.files shard.start) (F.files shard.folder) (F.faults shard.start) (F.faults shard.folder)) }
+        ensures too_large { IfErr result (λ refused. IfTooLarge refused.1 (IsTooLarge only (F.files folder))) }
+        ensures failed { IfErr result (λ refused. refused.1 ≡ StartFault.FolderFault → Rose (F.faults folder) (F.faults refused.0)) }
+        ensures handed { IfErr result (λ refused. Keeps (F.files folder) (F.files refused.0)) }
+        ensures counts { IfErr result (λ refused. F.faults folder ≤ F.faults refused.0) }
+    {
         let mut folder = folder;
         let start = Snapshot::of(&folder);
         let stock = match gather(alloc, &mut folder, only, first) {
             Ok(stock) => stock,
             Err(fault) => return Err((folder, fault)),
         };
-        match folder.open(alloc, &stock.files, opened, first, capacity) {
+        match folder.open(alloc, &stock.files, opened, first, calls) {
             Ok(()) => {}
             Err(_) => return Err((folder, StartFault::Memory)),
         }
-        match take_room(alloc, stock.files.len(), capacity) {
+        match take_room(alloc, stock.files.len(), ids as usize + 1) {
             Ok(locks) => {
                 let shard = Shard::assemble(
-                    alloc, folder, only, start, stock, locks, capacity, opened, first,
+                    alloc, folder, only, start, stock, locks, calls, ids, opened, first,
                 );
                 return Ok(shard);
             }
@@ -162,7 +249,8 @@ impl<F: Store> Shard<F> {
     }
 
     /// One act on one file at a moment, in milliseconds: the call is judged, stored and recorded. It gives the
-    /// entry's stamp, the ruling, and the contents of a Put or Create that weren't accepted.
+    /// entry's stamp, the ruling, and the contents of a Put or Create that weren't accepted. Where the store is lost then, the
+    /// ruling is not to be told.
     #[inline(always)]
     pub fn step(
         &mut self,
@@ -177,6 +265,7 @@ impl<F: Store> Shard<F> {
           made = self.old.made ++ record {
             time = max self.old.time moment;
             step = record { stamp = step.0; pass = pass; moment = moment; call = call; ruling = step.1 };
+            told = not (F.lost self.new.folder);
           } ∷ [];
           time = max self.old.time moment;
           folder = self.new.folder;
@@ -188,12 +277,18 @@ impl<F: Store> Shard<F> {
             → FullFrom self.old.limits self.old.begin (history_of self.old.made self.old.time) floor call moment) }
         ensures err { OnErr result (self.new ≡ record self.old { folder = self.new.folder }) }
         ensures call { IfErr result (λ fault. handed_back fault ≡ call) }
-        ensures light { IfErr result (λ fault. is_lock_act call.act ≡ true → IsFullFault fault) }
+        ensures light { IfErr result (λ fault. is_lock_act call.act ≡ true → F.lost self.old.folder ≡ false → IsFullFault fault) }
+        ensures going { OnOk result (F.lost self.old.folder ≡ false) }
+        ensures lost { IfErr result (λ fault. IsLostFault fault ↔ (F.lost self.old.folder ≡ true)) }
+        ensures still { IfErr result (λ fault. IsLostFault fault → self.new ≡ self.old) }
         ensures keeps { OnErr result (Keeps (F.files self.old.folder) (F.files self.new.folder)) }
         ensures never_falls { F.faults self.old.folder ≤ F.faults self.new.folder }
         ensures fault { IfOk result (λ step. step.1.status ≡ 500 → Rose (F.faults self.old.folder) (F.faults self.new.folder)) }
         ensures lawful { IsLawful self.new (F.files self.new.start) (F.files self.new.folder) (F.faults self.new.start) (F.faults self.new.folder) }
     {
+        if self.is_lost() {
+            return Err(StepFault::Lost(call));
+        }
         let mut call = call;
         let mut carried = begin();
         match self.make(&mut call, pass, floor, moment, &mut carried) {
@@ -215,10 +310,12 @@ impl<F: Store> Shard<F> {
         requires moment { IsMoment moment }
         requires only { IsOfShard self.old.only call.old.name }
         requires begun { carried.old ≡ begun }
+        requires going { F.lost self.old.folder ≡ false }
         ensures entry { IfOk result (λ stamp. self.new ≡ record self.old {
           made = self.old.made ++ record {
             time = max self.old.time moment;
             step = record { stamp = stamp; pass = pass; moment = moment; call = call.old; ruling = carried.new.ruling };
+            told = not (F.lost self.new.folder);
           } ∷ [];
           time = max self.old.time moment;
           folder = self.new.folder;
@@ -237,6 +334,7 @@ impl<F: Store> Shard<F> {
         ensures lawful { IsLawful self.new (F.files self.new.start) (F.files self.new.folder) (F.faults self.new.start) (F.faults self.new.folder) }
     {
         let _name = call.name.as_slice();
+        make_ready(&mut self.ledger);
         match take_step(
             &mut self.ledger,
             &mut self.folder,
@@ -287,6 +385,7 @@ impl<F: Store> Shard<F> {
         requires moment { IsMoment moment }
         requires only { IsOfShard self.old.only call.old.name }
         requires begun { carried.old ≡ begun }
+        requires going { F.lost self.old.folder ≡ false }
         ensures entry { IfOk result (λ step. self.new ≡ record self.old {
           made = self.old.made ++ record {
             time = max self.old.time moment;
@@ -297,6 +396,7 @@ impl<F: Store> Shard<F> {
               call = made_for (is_late self.old.begin self.old.dates (history_of self.old.made self.old.time) call.old known moment) call.old;
               ruling = carried.new.ruling;
             };
+            told = not (F.lost self.new.folder);
           } ∷ [];
           time = max self.old.time moment;
           folder = self.new.folder;
@@ -337,10 +437,12 @@ impl<F: Store> Shard<F> {
         requires moment { IsMoment moment }
         requires only { IsOfShard self.old.only call.old.name }
         requires begun { carried.old ≡ begun }
+        requires going { F.lost self.old.folder ≡ false }
         ensures entry { IfOk result (λ step. self.new ≡ record self.old {
           made = self.old.made ++ record {
             time = max self.old.time moment;
             step = record { stamp = step.0; pass = pass; moment = moment; call = look_for call.old; ruling = carried.new.ruling };
+            told = not (F.lost self.new.folder);
           } ∷ [];
           time = max self.old.time moment;
           folder = self.new.folder;
@@ -392,6 +494,7 @@ impl<F: Store> Shard<F> {
               call = made_for (is_late self.old.begin self.old.dates (history_of self.old.made self.old.time) call known moment) call;
               ruling = step.ruling;
             };
+            told = not (F.lost self.new.folder);
           } ∷ [];
           time = max self.old.time moment;
           folder = self.new.folder;
@@ -407,12 +510,19 @@ impl<F: Store> Shard<F> {
             → FullFrom self.old.limits self.old.begin (history_of self.old.made self.old.time) floor call moment) }
         ensures err { OnErr result (self.new ≡ record self.old { folder = self.new.folder }) }
         ensures call { IfErr result (λ fault. handed_back fault ≡ call) }
-        ensures light { IfErr result (λ fault. is_lock_act call.act ≡ true → IsFullFault fault) }
+        ensures light { IfErr result (λ fault. is_lock_act call.act ≡ true → F.lost self.old.folder ≡ false → IsFullFault fault) }
+        ensures going { OnOk result (F.lost self.old.folder ≡ false) }
+        ensures lost { IfErr result (λ fault. IsLostFault fault ↔ (F.lost self.old.folder ≡ true)) }
+        ensures still { IfErr result (λ fault. IsLostFault fault → self.new ≡ self.old) }
         ensures keeps { OnErr result (Keeps (F.files self.old.folder) (F.files self.new.folder)) }
         ensures never_falls { F.faults self.old.folder ≤ F.faults self.new.folder }
         ensures fault { IfOk result (λ step. step.ruling.status ≡ 500 → Rose (F.faults self.old.folder) (F.faults self.new.folder)) }
         ensures lawful { IsLawful self.new (F.files self.new.start) (F.files self.new.folder) (F.faults self.new.start) (F.faults self.new.folder) }
     {
+        let lost = self.is_lost();
+        if lost {
+            return Err(StepFault::Lost(call));
+        }
         let name = call.name.copy();
         let digest = is_info(&call.act);
         let mut call = call;
@@ -447,11 +557,21 @@ impl<F: Store> Shard<F> {
         self.ledger.time
     }
 
-    /// The store.
+    /// The store. It has noted what the shard began with, and its entries.
     pub fn store(&self) -> &F
-        ensures { result.now ≡ self.now.folder }
+        ensures same { result.now ≡ self.now.folder }
+        ensures begin { (F.notes self.now.folder).begin ≡ self.now.begin }
+        ensures made { (F.notes self.now.folder).made ≡ self.now.made }
     {
         &self.folder
+    }
+
+    /// Whether the store is lost: its last entry may not be kept, and it takes no more.
+    pub fn is_lost(&self) -> bool
+        ensures lost { result ≡ F.lost self.now.folder }
+        ensures lawful { IsLawful self.now (F.files self.now.start) (F.files self.now.folder) (F.faults self.now.start) (F.faults self.now.folder) }
+    {
+        self.folder.is_lost()
     }
 
     /// How many entries there are.
@@ -462,19 +582,25 @@ impl<F: Store> Shard<F> {
         self.folder.count()
     }
 
-    /// How many bytes the files had at the beginning, and all contents that were accepted since.
+    /// How many bytes the files had at the beginning, and all contents that were accepted since; or how many the files have, where
+    /// it takes any number of calls.
     pub fn bytes(&self) -> u64
-        ensures { result ≡ kept_from self.now.begin (untimed self.now.made) }
+        ensures { AreBytes self.now.limits.calls self.now.begin (happened self.now) result }
     {
         self.ledger.bytes
     }
 
     /// Whether it has used nine tenths of its room: of its entries, or of its bytes.
     pub fn is_nearly_full(&self) -> bool
-        ensures value { IsTrue result ↔ IsNearlyFull self.now.limits.calls self.now.begin (untimed self.now.made) }
+        ensures value { IsTrue result ↔ IsNearlyFull self.now.limits.calls self.now.begin (happened self.now) }
         ensures lawful { IsLawful self.now (F.files self.now.start) (F.files self.now.folder) (F.faults self.now.start) (F.faults self.now.folder) }
     {
-        are_nine_tenths(self.ledger.capacity, self.len(), self.bytes())
+        let entries = self.len();
+        let bytes = self.bytes();
+        match self.ledger.calls {
+            Some(calls) => return are_nine_tenths(calls, entries, bytes),
+            None => return are_most_kept(bytes),
+        }
     }
 
     /// A file as it stands, where its name was met: where it has a version from `first` on.
@@ -533,19 +659,21 @@ impl<F: Store> Shard<F> {
         start: Snapshot<F>,
         stock: Stock,
         locks: KeptLocks,
-        capacity: u32,
+        calls: Option<u32>,
+        ids: u32,
         opened: u64,
         first: u64,
     ) -> Shard<F>
         requires moment { IsMoment opened }
         requires first { IsFirstVersion first }
-        requires capacity { capacity ≤ 32768 }
+        requires calls { IfSome calls (λ most. most ≡ ids) }
         requires stock { IsStock first stock }
         requires none { (number : ℕ) → standing_at locks.files number ≡ unlocked }
         requires as_of { AreAsOf 0 locks }
         requires long { length stock.files.items ≤ length locks.files }
-        requires spare { capacity ≤ locks.spare }
-        requires slots { capacity ≤ (F.notes folder).most }
+        requires spare { ids ≤ locks.spare }
+        requires room { ids < locks.room }
+        requires slots { TakesCalls calls (F.notes folder).most }
         requires made { (F.notes folder).made ≡ [] }
         requires ended { (F.notes folder).begun ≡ None }
         requires listed { (F.notes folder).begin ≡ new_life (opening_listed stock.files.items) opened first }
@@ -555,7 +683,7 @@ impl<F: Store> Shard<F> {
         ensures value { result ≡ record {
           only = only;
           begin = new_life (opening_listed stock.files.items) opened first;
-          limits = kept_limits capacity;
+          limits = record { calls = calls; ids = ids };
           dates = dates_of stock.files.items;
           made = [];
           time = opened;
@@ -572,7 +700,8 @@ impl<F: Store> Shard<F> {
                 alloc,
                 opened,
                 first,
-                capacity,
+                calls,
+                ids,
                 time: opened,
                 last: 0,
                 bytes: stock.bytes,
@@ -603,6 +732,7 @@ impl<F: Store> Shard<F> {
         ensures start { result.1.value ≡ self.start }
         ensures begin { (F.notes result.0).begin ≡ self.begin }
         ensures made { (F.notes result.0).made ≡ self.made }
+        ensures most { TakesCalls self.limits.calls (F.notes result.0).most }
         ensures lawful { IsLawful self (F.files self.start) (F.files self.folder) (F.faults self.start) (F.faults self.folder) }
     {
         let Shard {

@@ -3,7 +3,7 @@ ghost use Rattle.std.specs.Prelude.{◌≡◌, ◌≤◌, ◌<◌, ◌+◌, ◌�
 ghost use Rattle.outside.specs.Faults.{Rose};
 ghost use Rattle.outside.specs.Folder.{Keeps, OpensOnly};
 ghost use Rattle.wopi_model.specs.Host.{most_kept};
-ghost use Rattle.host_core.specs.Notes.{IsBegunOn, StaysNoted};
+ghost use Rattle.host_core.specs.Notes.{IsBegunWith, StaysNoted};
 ghost use Rattle.host_core.specs.Store.{Holds, MatchStored};
 
 use crate::contents::Contents;
@@ -56,7 +56,7 @@ pub fn put_away<F: Store>(
     contents: &mut Bytes,
     former: Option<&Contents>,
 ) -> Result<Stored, StoreRefusal>
-    requires begun { IsBegunOn (F.notes folder.old) name.now }
+    requires begun { IsBegunWith (F.notes folder.old) name.now contents.old }
     ensures stored { IfOk result (λ stored. MatchStored stored
         (λ live. (live ≡ contents.old) × (Holds (F.files folder.new) name.now (Some contents.old) × ((F.notes folder.new).saved ≡ Some (Some version, contents.old))))
         ((contents.new ≡ contents.old) × (((F.notes folder.new).saved ≡ (F.notes folder.old).saved) × Rose (F.faults folder.old) (F.faults folder.new)))) }

@@ -147,6 +147,7 @@ fn step(rt: &impl Abort, single: &mut Single<Kept<MemFolder>>, call: Call, momen
         Ok(receipt) => tell(&receipt.ruling),
         Err(CallFault::Full(_call)) => panic!(rt; "a step"),
         Err(CallFault::Memory(_call)) => panic!(rt; "a step"),
+        Err(CallFault::Lost(_call)) => panic!(rt; "a step"),
     }
 }
 

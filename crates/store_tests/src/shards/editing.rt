@@ -18,6 +18,7 @@ fn edit(
         Ok(receipt) => receipt,
         Err(CallFault::Full(_call)) => panic!(rt; "a step"),
         Err(CallFault::Memory(_call)) => panic!(rt; "a step"),
+        Err(CallFault::Lost(_call)) => panic!(rt; "a step"),
     }
 }
 

@@ -22,6 +22,7 @@ loop-shard-preserved g c =
           (listed_more (sight c.loop-shard.lister) (sight c.list.new.self) 0 c.loop-shard.shard so_far one (omega (arith, before.count)) c.list.ensures.looks.rest
           before.each c.in_ok-list.ensures.listed);
       looks = LooksOn-more _ _ _ _ before.looks c.list.ensures.looks;
+      telling = c.list.ensures.telling ∙ before.telling;
       basis = c.list.ensures.basis ∙ before.basis;
       references = c.list.ensures.references ∙ before.references;
     }

@@ -9,6 +9,7 @@ invariant-loop-shard g l =
       count : length l.listings.items ≡ l.shard;
       each : AreListed (sight l.lister) 0 l.listings.items;
       looks : LooksOn (sight l.fn.lister) (sight l.lister);
+      telling : g.L.Caller.telling l.lister ≡ g.L.Caller.telling l.fn.lister;
       basis : g.L.Caller.basis l.lister ≡ g.L.Caller.basis l.fn.lister;
       references : g.L.Caller.references l.lister ≡ g.L.Caller.references l.fn.lister;
     }

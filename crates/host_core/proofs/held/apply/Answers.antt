@@ -67,5 +67,6 @@ returns c =
         stand = subst (AllStand c.args.now) (sym is) (stand_set mid number lock spend c.args.now lt'
             (follower_stands (standing_at old number).lock lock c.args.now c.requires.ends) (stand_ended old c.args.now));
         spare = omega (arith, settled, set);
+        room = c.change_lock.ensures.room ∙ c.settle.ensures.room;
       };
     }

@@ -10,6 +10,7 @@ invariant-count l =
     × AreAsOf 0 l.locks
     × (l.count ≤ length l.locks.files)
     × (l.locks.spare ≡ l.initial.locks.spare)
+    × (l.locks.room ≡ l.initial.locks.room)
 
 abbrev pub decreases-count : goal.decreases-count
 decreases-count l = l.files - l.count

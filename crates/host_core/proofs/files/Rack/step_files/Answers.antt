@@ -1,7 +1,9 @@
-use Rattle.std.proofs.Common.{ℕ, List, ap, sym, subst, ◌∙◌, arith}
+use Rattle.std.proofs.Common.{◌≡◌, ℕ, List, length, ap, sym, subst, ◌∙◌, arith}
+use Rattle.std.proofs.lemmas.List.{length-map}
 use Rattle.name_index.specs.Index.{number_of}
-use Rattle.host_core.specs.Names.{place_in}
-use Rattle.kept_locks.specs.Locks.{all_ended}
+use Rattle.host_core.specs.declared.file.KeptFile.{KeptFile}
+use Rattle.host_core.specs.Names.{AreOnce, place_in}
+use Rattle.host_core.specs.Numbers.{named}
 use Rattle.host_core.specs.Files.{BeganAtMoment}
 use Rattle.host_core.proofs.Joining.{long_joined}
 use Rattle.host_core.proofs.Results.{onok_map, iferr_map, iferr_onerr}
@@ -22,11 +24,14 @@ pub step_unmet-requires-clause-place : goal.step_unmet-requires-clause-place
 step_unmet-requires-clause-place g c =
     found_none c.args.self.now.files.items c.args.self.now.locks.files c.args.self.now.index c.args.call.now.name c.requires.numbered c.in-None.ensures
 
+-- the names are as many as the files
+long_named : (files files' : List KeptFile) → named files' ≡ named files → length files' ≡ length files
+long_named files files' same = sym (length-map files' (λ kept. kept.name)) ∙ ap (λ (names : List (List ℕ)). length names) same ∙ length-map files (λ kept. kept.name)
+
 pub returns-in-Some-clause-few : goal.returns-in-Some-clause-few
 returns-in-Some-clause-few g c =
-    onok_map c.step_met.result _ _
-    (λ kept. let few = (kept c.args.terms.first).steps.few in let was = long_joined c.args.self.now.files.items (all_ended c.args.terms.time c.args.self.now.locks.files) in let is = long_joined c.step_met.new.self.files.items c.step_met.new.self.locks.files in omega (arith, few, was, is))
-    c.step_met.ensures.ok
+    let long = long_named c.args.self.now.files.items c.step_met.new.self.files.items c.step_met.ensures.names in
+    onok_map c.step_met.result _ _ (λ kept. omega (arith, long, c.requires.ready.few)) c.step_met.ensures.ok
 
 pub returns-in-Some-clause-long : goal.returns-in-Some-clause-long
 returns-in-Some-clause-long g c =
@@ -39,12 +44,6 @@ returns-in-Some-clause-room g c =
     onok_map c.step_met.result _ _
     (λ kept. room_raw c.args.terms.first c.args.self.now.files.items c.args.self.now.locks.files c.args.call.now.name c.args.terms.kept c.args.call.now c.args.terms.opened c.args.terms.time (kept c.args.terms.first).steps.room)
     c.step_met.ensures.ok
-
-pub returns-in-None-clause-few : goal.returns-in-None-clause-few
-returns-in-None-clause-few g c =
-    onok_map c.step_unmet.result _ _
-    (λ kept. let few = kept.steps.few in let was = long_joined c.args.self.now.files.items (all_ended c.args.terms.time c.args.self.now.locks.files) in let is = long_joined c.step_unmet.new.self.files.items c.step_unmet.new.self.locks.files in omega (arith, few, was, is))
-    c.step_unmet.ensures.ok
 
 pub returns-in-None-clause-long : goal.returns-in-None-clause-long
 returns-in-None-clause-long g c =
@@ -67,3 +66,6 @@ returns-in-Some-clause-err g c = iferr_map c.step_met.result _ _ (λ why kept. k
 pub returns-in-Some-clause-numbered : goal.returns-in-Some-clause-numbered
 returns-in-Some-clause-numbered g c = λ name.
     ap (λ (index : List (List ℕ × ℕ)). number_of index name) c.step_met.ensures.index ∙ c.requires.numbered name ∙ sym (ap (λ (names : List (List ℕ)). place_in names name) c.step_met.ensures.names)
+
+pub returns-in-Some-clause-once : goal.returns-in-Some-clause-once
+returns-in-Some-clause-once g c = λ once. subst AreOnce (sym c.step_met.ensures.names) once

@@ -1,4 +1,4 @@
-use Rattle.std.proofs.Common.{◌≡◌, ◌≤◌, ◌^◌, ◌∙◌, ℕ, List, sym, ap, arith}
+use Rattle.std.proofs.Common.{◌≡◌, ◌≤◌, ◌^◌, ◌∙◌, ℕ, List, sym, ap, arith, ◌-◌}
 use Rattle.std.proofs.lemmas.List.{length-set}
 use Rattle.kept_locks.specs.Locks.{Locks}
 use Rattle.host_core.specs.Whole.{seen, standing_at, joined}
@@ -41,6 +41,7 @@ returns-in-Ok-clause-ok g c = λ first.
           (place_below c.args.self.now.files.items c.args.self.now.locks.files c.args.call.now.name c.args.number c.requires.place) (length-set c.args.self.now.files.items c.args.number _) turns;
       stand = turns.stand;
       spare = turns.spare;
+      room = turns.room;
     }
 
 pub returns-in-Err-clause-err : goal.returns-in-Err-clause-err
@@ -54,6 +55,7 @@ returns-in-Err-clause-err g c = λ first.
       locked = λ time locked. locked_same c.args.self.now.files.items _ c.args.self.now.locks c.step_file.new.locks time (length-set c.args.self.now.files.items c.args.number _) same locked;
       stand = λ n. ap (λ (l : Locks). standing_at l.files n) same;
       spare = omega (arith, spare);
+      room = ap (λ (l : Locks). l.room) same;
       light = c.in-Err.ensures.light;
     }
 
@@ -76,7 +78,7 @@ step_file-requires-clause-version g c =
     let ss = c.args.self.now.locks.files in
     let lt = place_below files ss c.args.call.now.name c.args.number c.requires.place in
     let long = long_joined files ss in
-    let le : c.index_mut-file.result.now.version ≤ 2 ^ 63 =
-    within_at (2 ^ 63) (joined files ss) c.args.number (seen c.index_mut-file.result.now c.args.self.now.locks c.args.number) c.requires.within
+    let le : c.index_mut-file.result.now.version ≤ 2 ^ 64 - 2 =
+    within_at (2 ^ 64 - 2) (joined files ss) c.args.number (seen c.index_mut-file.result.now c.args.self.now.locks c.args.number) c.requires.within
     (get_joined files c.args.number c.index_mut-file.result.now ss c.index_mut-file.ensures.value) (omega (arith, lt, long)) in
     omega (arith, le)

@@ -1,16 +1,18 @@
-use Rattle.std.proofs.Common.{◌≡◌, ◌==◌, ◌-◌, ℕ, List, [], ◌∷◌, ◌++◌, length, sym, ap, subst, ◌∙◌, arith}
-use Rattle.std.proofs.lemmas.List.{length-map}
+use Rattle.std.proofs.Common.{◌≡◌, ◌==◌, ◌-◌, ℕ, List, [], ◌∷◌, ◌++◌, length, sym, ap, subst, ◌∙◌, arith, ◌+◌}
+use Rattle.std.proofs.lemmas.List.{length-map, length-append}
 use Rattle.wopi_model.specs.File.{File}
 use Rattle.kept_locks.specs.Locks.{Standing, Locks, all_ended}
 use Rattle.host_core.specs.declared.file.KeptFile.{KeptFile}
 use Rattle.host_core.specs.Facts.{MarksAll}
 use Rattle.host_core.specs.Files.{BeganAtMoment}
+use Rattle.host_core.specs.Names.{AreOnce}
 use Rattle.host_core.specs.Numbers.{named, IsNumbered, AreLocked}
 use Rattle.host_core.specs.Steps.{StepsAll}
 use Rattle.host_core.specs.Turns.{Turns}
 use Rattle.host_core.specs.Whole.{seen, standing_at, joined}
 use Rattle.wopi_text.proofs.Disjunctions.{or_none}
 use Rattle.host_core.proofs.Dating.{marks_push, marks_skip, saves_refused, unmet_number}
+use Rattle.host_core.proofs.Counts.{once_push}
 use Rattle.host_core.proofs.Light.{create_takes}
 use Rattle.host_core.proofs.Meeting.{push_all, skip_all, skip_bare, still_all, stopped_new, bare_seen, fresh_name, joined_more, locked_more, locked_push, locked_skip}
 use Rattle.host_core.proofs.Numbering.{numbered_push, numbered_back, named_push}
@@ -79,6 +81,7 @@ returns-in-Err-clause-err g c =
       locked = λ time locked. locked_more kept c.make_place.new.files.items first c.make_place.new.locks time placed.files placed.stands placed.as_of placed.longer locked;
       stand = placed.stands;
       spare = omega (arith, same);
+      room = placed.kept;
       light = create_takes c.args.call.now.act c.requires.create;
     }
 
@@ -119,6 +122,7 @@ returns-then-is_met_by-clause-ok g c =
           (locked_push kept k' mid new c.args.terms.time (λ n le. stands n ∙ beyond n le) c.in-Ok.ensures.room (subst (λ (n : ℕ). Turns mid new n c.args.terms.time) at turns));
       stand = turns.stand;
       spare = omega (arith, same, more);
+      room = turns.room ∙ c.make_place.ensures.kept;
     }
 
 pub returns-then-is_met_by-clause-numbered : goal.returns-then-is_met_by-clause-numbered
@@ -133,6 +137,38 @@ returns-then-is_met_by-clause-numbered g c =
     let fresh = fresh_name kept c.args.self.now.locks.files c.args.self.now.index c.args.call.now.name c.copy-name.result c.requires.numbered c.requires.place c.copy-name.ensures in
     subst (IsNumbered c.make_place.new.index) (sym names)
     (numbered_push c.args.self.now.index c.make_place.new.index (named kept) c.copy-name.result number c.requires.numbered fresh (at ∙ sym (length-map kept (λ (f : KeptFile). f.name))) c.in-Ok.ensures.index)
+
+pub returns-then-is_met_by-clause-few : goal.returns-then-is_met_by-clause-few
+returns-then-is_met_by-clause-few g c =
+    let kept = c.args.self.now.files.items in
+    let k' = c.step_file.new.file in
+    let met : c.meet.new.files.items ≡ kept ++ k' ∷ [] = c.meet.ensures ∙ ap (λ (f : List KeptFile). f ++ k' ∷ []) c.make_place.ensures.files in
+    let long : length c.meet.new.files.items ≡ length kept + 1 = ap (λ (f : List KeptFile). length f) met ∙ length-append kept (k' ∷ []) in
+    omega (arith, long, c.in-Ok.ensures.few)
+
+pub returns-then-is_met_by-clause-once : goal.returns-then-is_met_by-clause-once
+returns-then-is_met_by-clause-once g c = λ once.
+    let kept = c.args.self.now.files.items in
+    let k' = c.step_file.new.file in
+    let met : c.meet.new.files.items ≡ kept ++ k' ∷ [] = c.meet.ensures ∙ ap (λ (f : List KeptFile). f ++ k' ∷ []) c.make_place.ensures.files in
+    let name_is : k'.name ≡ c.copy-name.result = c.in-Ok-step_file.ensures.ok.steps.name ∙ c.unmet-file.ensures.name in
+    let names : named c.meet.new.files.items ≡ named kept ++ c.copy-name.result ∷ [] = ap named met ∙ named_push kept k' ∙ ap (λ (n : List ℕ). named kept ++ n ∷ []) name_is in
+    let fresh = fresh_name kept c.args.self.now.locks.files c.args.self.now.index c.args.call.now.name c.copy-name.result c.requires.numbered c.requires.place c.copy-name.ensures in
+    subst AreOnce (sym names) (once_push (named kept) c.copy-name.result (sym (c.requires.numbered c.copy-name.result) ∙ fresh) once)
+
+pub returns-in-Ok-step_file-clause-few : goal.returns-in-Ok-step_file-clause-few
+returns-in-Ok-step_file-clause-few g c =
+    let long : length c.make_place.new.files.items ≡ length c.args.self.now.files.items = ap (λ (f : List KeptFile). length f) c.make_place.ensures.files in
+    omega (arith, long, c.requires.ready.few)
+
+pub returns-in-Ok-step_file-clause-once : goal.returns-in-Ok-step_file-clause-once
+returns-in-Ok-step_file-clause-once g c = λ once. subst (λ (f : List KeptFile). AreOnce (named f)) (sym c.make_place.ensures.files) once
+
+pub returns-in-Err-step_file-clause-once : goal.returns-in-Err-step_file-clause-once
+returns-in-Err-step_file-clause-once g c = λ once. subst (λ (f : List KeptFile). AreOnce (named f)) (sym c.make_place.ensures.files) once
+
+pub returns-in-Err-clause-once : goal.returns-in-Err-clause-once
+returns-in-Err-clause-once g c = λ once. subst (λ (f : List KeptFile). AreOnce (named f)) (sym c.make_place.ensures.files) once
 
 pub returns-in-Ok-step_file-clause-ok : goal.returns-in-Ok-step_file-clause-ok
 returns-in-Ok-step_file-clause-ok g c =
@@ -167,6 +203,7 @@ returns-in-Ok-step_file-clause-ok g c =
           (locked_skip kept mid new number c.args.terms.time (λ n le. stands n ∙ beyond n le) c.in-Ok.ensures.room at after turns);
       stand = turns.stand;
       spare = omega (arith, same, more);
+      room = turns.room ∙ c.make_place.ensures.kept;
     }
 
 pub returns-in-Ok-step_file-clause-numbered : goal.returns-in-Ok-step_file-clause-numbered
@@ -199,6 +236,7 @@ returns-in-Err-step_file-clause-err g c =
           (locked_more kept c.make_place.new.files.items first mid time placed.files placed.stands placed.as_of placed.longer locked);
       stand = stand;
       spare = omega (arith, one, two);
+      room = ap (λ (l : Locks). l.room) stopped.same ∙ placed.kept;
       light = stopped.light;
     }
 

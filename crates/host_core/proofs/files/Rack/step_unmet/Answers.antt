@@ -32,6 +32,7 @@ returns-clause-ok g c =
       locked = locked_ended kept c.args.self.now.locks c.step_absent.new.locks c.args.terms.time c.args.terms.time c.requires.ready.locked (omega arith) is c.step_absent.ensures.latest c.step_absent.ensures.chains;
       stand = subst (AllStand c.args.terms.time) (sym is) (stand_ended old c.args.terms.time);
       spare = omega (arith, spare);
+      room = c.step_absent.ensures.room;
     }
 
 pub returns-clause-marks : goal.returns-clause-marks

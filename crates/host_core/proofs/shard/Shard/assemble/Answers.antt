@@ -1,17 +1,16 @@
-use Rattle.std.proofs.Common.{◌≡◌, ◌+◌, ℕ, List, [], Option, length, refl, sym, ap, subst, ◌∙◌, arith}
+use Rattle.std.proofs.Common.{◌≡◌, ◌+◌, ◌<◌, ◌^◌, ℕ, List, [], map, Option, length, refl, sym, ap, subst, ◌∙◌, arith}
 use Rattle.outside.specs.Faults.{RoseBy}
 use Rattle.wopi_model.specs.Begin.{Begin, new_life}
-use Rattle.wopi_model.specs.Host.{kept_limits}
-use Rattle.wopi_model.specs.Lives.{live_ids}
-use Rattle.wopi_model.proofs.Fullness.{opening-ids}
+use Rattle.wopi_model.specs.Host.{kept_from}
+use Rattle.wopi_model.proofs.Fullness.{opening-bytes}
 use Rattle.host_core.specs.Opening.{IsFirstVersion}
-use Rattle.host_core.specs.Names.{AreWithin}
-use Rattle.host_core.specs.Entries.{Made}
+use Rattle.host_core.specs.Names.{AreWithin, AreOnce}
+use Rattle.host_core.specs.Entries.{Made, items_of}
 use Rattle.host_core.specs.Facts.{dates_of}
 use Rattle.host_core.specs.Files.{files_of, torn_in}
 use Rattle.host_core.specs.Notes.{opening_listed}
 use Rattle.host_core.specs.declared.ledger.Ledger.{Ledger}
-use Rattle.host_core.specs.Value.{Book, Reflects, Agrees, Stands, faults_in}
+use Rattle.host_core.specs.Value.{Book, KeepsWithin, Reflects, Agrees, Stands, faults_in}
 use Rattle.kept_locks.specs.Locks.{Standing}
 use Rattle.wopi_model.specs.Settle.{standing}
 use Rattle.host_core.specs.Whole.{Whole, joined}
@@ -21,7 +20,7 @@ use Rattle.host_core.proofs.Chaining.{with_chains}
 use Rattle.host_core.proofs.Dating.{dated_start}
 use Rattle.host_core.proofs.History.{keeps-start}
 use Rattle.host_core.proofs.Standing.{rose-begin, lawful}
-use Rattle.host_core.proofs.Starting.{agrees_start, free_joined, free_locked}
+use Rattle.host_core.proofs.Starting.{agrees_start, begun_spare, begun_within, free_joined, free_locked, sorted_once}
 use Rattle.host_core.proofs.shard.Shard.assemble.Goals as goal
 
 pub invariant_of-result : goal.invariant_of-result
@@ -35,13 +34,13 @@ invariant_of-result g c =
     let start = c.args.start.value in
     let none : length notes.made ≡ 0 = ap (λ (m : List Made). length m) c.requires.made in
     let few = c.requires.stock.few in
-    let most = c.requires.capacity in
     let size = long_joined stock.files.items [] in
     let after : Ledger = record {
       alloc = c.args.alloc;
       opened = c.args.opened;
       first = c.args.first;
-      capacity = c.args.capacity;
+      calls = c.args.calls;
+      ids = c.args.ids;
       time = c.args.opened;
       last = 0;
       bytes = stock.bytes;
@@ -51,7 +50,7 @@ invariant_of-result g c =
     let book : Book _ = record {
       only = c.of.result.value;
       begin = notes.begin;
-      limits = kept_limits c.args.capacity;
+      limits = record { calls = c.args.calls; ids = c.args.ids };
       dates = dates_of c.of-opening.result.value.items;
       made = notes.made;
       time = c.args.opened;
@@ -61,10 +60,15 @@ invariant_of-result g c =
     } in
     let same : c.args.first ≡ c.args.first + length notes.made = omega (arith, none) in
     let begin = new_life opening c.args.opened c.args.first in
-    let started : Reflects notes.begin notes.made c.args.opened 0 stock.bytes kept =
-    subst (λ (b : Begin). Reflects b notes.made c.args.opened 0 stock.bytes kept) (sym c.requires.listed)
-    (subst (λ (m : List Made). Reflects begin m c.args.opened 0 stock.bytes kept) (sym c.requires.made)
-    (keeps-start opening c.args.opened c.args.first stock.bytes kept c.requires.moment c.requires.stock.files c.requires.stock.torn c.requires.stock.kept)) in
+    let started : Reflects notes.begin notes.made c.args.opened 0 (kept_from notes.begin (items_of notes.made)) kept =
+    subst (λ (b : Begin). Reflects b notes.made c.args.opened 0 (kept_from b (items_of notes.made)) kept) (sym c.requires.listed)
+    (subst (λ (m : List Made). Reflects begin m c.args.opened 0 (kept_from begin (items_of m)) kept) (sym c.requires.made)
+    (keeps-start opening c.args.opened c.args.first (kept_from begin []) kept c.requires.moment c.requires.stock.files c.requires.stock.torn (let live = opening-bytes opening c.args.first in omega (arith, live)))) in
+    let small : c.args.ids < 2 ^ 32 = search in
+    let limits : KeepsWithin c.args.calls c.args.ids notes.begin notes.made c.args.opened 0 stock.bytes =
+    subst (λ (b : Begin). KeepsWithin c.args.calls c.args.ids b notes.made c.args.opened 0 stock.bytes) (sym c.requires.listed)
+    (subst (λ (m : List Made). KeepsWithin c.args.calls c.args.ids begin m c.args.opened 0 stock.bytes) (sym c.requires.made)
+    (begun_within c.args.calls c.args.ids opening c.args.opened c.args.first stock.bytes c.requires.calls small c.requires.opening.ordered c.requires.stock.kept)) in
     let agrees : Agrees c.of.result.value (files start) (files c.args.folder) (files_of c.args.first kept) (torn_in kept) =
     subst (λ (only : Option ℕ). Agrees only (files start) (files c.args.folder) (files_of c.args.first kept) (torn_in kept)) (sym c.of.ensures)
     (agrees_start c.args.first c.args.only (files start) (files c.args.folder) opening kept c.requires.opening c.requires.same c.requires.stock.files) in
@@ -82,15 +86,15 @@ invariant_of-result g c =
       timely = λ _. subst (λ (b : Begin). GoesByEntries b.now notes.made c.args.opened) (sym c.requires.listed) goes;
       within = subst (λ (n : ℕ). AreWithin (n + length notes.made) kept) first_is within;
       number = subst IsFirstVersion first_is c.requires.first;
-      few = omega (arith, none, few, most, size);
-      places = omega (arith, none);
-      free = ap (λ (b : Begin). live_ids b.files) c.requires.listed ∙ opening-ids opening c.args.first;
+      few = omega (arith, few, size);
+      limits = limits;
     })
     ) (record {
       numbered = c.requires.stock.numbered;
+      once = subst AreOnce (sym c.requires.stock.names) (sorted_once (map (λ (file : List ℕ × List ℕ). file.0) opening) c.requires.opening.ordered);
       locked = free_locked stock.files.items c.args.locks c.args.opened c.requires.none c.requires.as_of c.requires.long;
       stand = λ number. ap (λ (s : Standing). standing s.lock c.args.opened) (c.requires.none number) ∙ sym (ap (λ (s : Standing). s.lock) (c.requires.none number));
-      spare = let spare = c.requires.spare in omega (arith, spare);
+      spare = begun_spare c.args.calls c.args.ids c.args.locks (length notes.made) c.requires.calls c.requires.spare c.requires.room;
       slots = c.requires.slots;
       opened = sym (ap (λ (b : Begin). b.opened) c.requires.listed);
       first = first_is;

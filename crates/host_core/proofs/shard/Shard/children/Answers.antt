@@ -15,6 +15,6 @@ returns-in-Ok g c =
     let book = book_of (g.F.Store.notes inside.folder) inside in
     let ledger = inside.ledger in
     subst (λ (b : Book _). AreChildren (state_of b.begin b.made b.time).files c.in-Ok.children) c.self.view_is
-    (children_shown book.begin book.made book.time ledger.last ledger.bytes (files_in ledger) c.in-Ok.children
+    (children_shown book.begin book.made book.time ledger.last _ (files_in ledger) c.in-Ok.children
     c.self.invariant.0.keeps
     (subst (λ (files : List KeptFile). AreChildren (files_of book.begin.first (joined files ledger.rack.locks.files)) c.in-Ok.children) c.deref.ensures.value (c.in-Ok.ensures book.begin.first ledger.rack.locks.files)))

@@ -1,7 +1,8 @@
 use Rattle.std.proofs.Common.{◌≡◌, List, Option, IfSome, refl, sym, subst, ◌∙◌}
 use Rattle.wopi_model.specs.Moment.{IsMoment}
 use Rattle.host_core.specs.declared.ledger.Ledger.{Ledger}
-use Rattle.host_core.specs.Entries.{history_of}
+use Rattle.wopi_model.specs.Host.{kept_from}
+use Rattle.host_core.specs.Entries.{history_of, items_of}
 use Rattle.host_core.specs.declared.facts.Facts.{Facts}
 use Rattle.host_core.specs.Facts.{date_in, facts_of, saved_at}
 use Rattle.host_core.specs.Files.{files_of}
@@ -45,4 +46,4 @@ returns-clause-facts g c =
     let book = book_of notes inside in
     let name = c.args.name.now in
     subst (λ (b : Book _). c.facts.result ≡ facts_of c.args.digest (saved_at b.begin b.dates (history_of b.made b.time) name) ((state_of b.begin b.made b.time).files name).contents) c.self.view_is
-    (c.facts.ensures.facts book.begin.first ledger.rack.locks.files ∙ facts_told book ledger notes refl refl refl c.self.invariant.0.keeps c.self.invariant.1 c.args.digest name)
+    (c.facts.ensures.facts book.begin.first ledger.rack.locks.files ∙ facts_told book ledger notes refl refl refl (kept_from book.begin (items_of book.made)) c.self.invariant.0.keeps c.self.invariant.1 c.args.digest name)

@@ -60,7 +60,7 @@ returns-in-None-clause-met g c =
     let book = book_of (g.F.Store.notes inside.folder) inside in
     let none = found_none ledger.rack.files.items ledger.rack.locks.files ledger.rack.index name c.self.invariant.1.numbered c.in-None.ensures in
     let here : files_of book.begin.first kept name ≡ never_met book.begin.first = ap (λ (o : Option Whole). unwrap_or (option_map file_of o) (never_met book.begin.first)) none in
-    let shown = shown-file book.begin book.made book.time ledger.last ledger.bytes kept c.self.invariant.0.keeps name in
+    let shown = shown-file book.begin book.made book.time ledger.last _ kept c.self.invariant.0.keeps name in
     let unmet : ((state_of c.args.self.now.begin c.args.self.now.made c.args.self.now.time).files name).version ≡ c.args.self.now.begin.first - 1 =
     subst (λ (b : Book _). ((state_of b.begin b.made b.time).files name).version ≡ b.begin.first - 1) c.self.view_is
     (sym (ap (λ (f : File). f.version) shown) ∙ ap (λ (f : File). f.version) here) in
@@ -79,7 +79,7 @@ returns-else-is_met-clause-met g c =
     let at : k ≡ get_or kept number k = get_joined ledger.rack.files.items number c.index-file.result.now ledger.rack.locks.files c.index-file.ensures in
     let book = book_of (g.F.Store.notes inside.folder) inside in
     let here : files_of book.begin.first kept name ≡ file_of k = file_at file_of (never_met book.begin.first) kept name number k first at in
-    let shown = shown-file book.begin book.made book.time ledger.last ledger.bytes kept c.self.invariant.0.keeps name in
+    let shown = shown-file book.begin book.made book.time ledger.last _ kept c.self.invariant.0.keeps name in
     let below : c.index-file.result.now.version < book.begin.first = let is_met = c.if-is_met.false in let same = c.self.invariant.1.first in omega (arith, is_met, same) in
     let unmet : ((state_of c.args.self.now.begin c.args.self.now.made c.args.self.now.time).files name).version < c.args.self.now.begin.first =
     subst (λ (b : Book _). ((state_of b.begin b.made b.time).files name).version < b.begin.first) c.self.view_is
@@ -98,7 +98,7 @@ returns-then-is_met-clause-met g c =
     let at : k ≡ get_or kept number k = get_joined ledger.rack.files.items number c.index-file.result.now ledger.rack.locks.files c.index-file.ensures in
     let book = book_of (g.F.Store.notes inside.folder) inside in
     let here : files_of book.begin.first kept name ≡ file_of k = file_at file_of (never_met book.begin.first) kept name number k first at in
-    let shown = shown-file book.begin book.made book.time ledger.last ledger.bytes kept c.self.invariant.0.keeps name in
+    let shown = shown-file book.begin book.made book.time ledger.last _ kept c.self.invariant.0.keeps name in
     let same : ((state_of c.args.self.now.begin c.args.self.now.made c.args.self.now.time).files name).version ≡ c.index-file.result.now.version =
     subst (λ (b : Book _). ((state_of b.begin b.made b.time).files name).version ≡ c.index-file.result.now.version) c.self.view_is
     (sym (ap (λ (f : File). f.version) shown) ∙ ap (λ (f : File). f.version) here) in
@@ -119,7 +119,7 @@ returns-then-is_met-clause-view g c =
     let at : k ≡ get_or kept number k = get_joined ledger.rack.files.items number c.index-file.result.now ledger.rack.locks.files c.index-file.ensures in
     let book = book_of (g.F.Store.notes inside.folder) inside in
     let here : files_of book.begin.first kept name ≡ file_of k = file_at file_of (never_met book.begin.first) kept name number k first at in
-    let shown = shown-file book.begin book.made book.time ledger.last ledger.bytes kept c.self.invariant.0.keeps name in
+    let shown = shown-file book.begin book.made book.time ledger.last _ kept c.self.invariant.0.keeps name in
     let torn : torn_in kept name ≡ c.index-file.result.now.torn = file_at (λ (f : Whole). f.torn) false kept name number k first at in
     subst (λ (b : Book _). IsViewOf c.view_of.result ((state_of b.begin b.made b.time).files name) (is_torn b.made name)) c.self.view_is
     (subst (λ (t : Bool). IsViewOf c.view_of.result ((state_of book.begin book.made book.time).files name) t) (sym torn ∙ c.self.invariant.0.keeps.torn name)

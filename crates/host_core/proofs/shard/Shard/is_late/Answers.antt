@@ -1,5 +1,6 @@
 use Rattle.std.proofs.Common.{◌≡◌, sym, subst, ◌∙◌, refl}
-use Rattle.host_core.specs.Entries.{history_of}
+use Rattle.wopi_model.specs.Host.{kept_from}
+use Rattle.host_core.specs.Entries.{history_of, items_of}
 use Rattle.host_core.specs.Facts.{is_late}
 use Rattle.host_core.specs.ShardView.{book_of}
 use Rattle.host_core.specs.Value.{Book}
@@ -13,4 +14,4 @@ returns g c =
     let notes = g.F.Store.notes inside.folder in
     let book = book_of notes inside in
     subst (λ (b : Book _). c.is_late.result ≡ is_late b.begin b.dates (history_of b.made b.time) c.args.call.now c.args.known c.args.moment) c.self.view_is
-    (c.is_late.ensures book.begin.first ∙ late_told book ledger notes refl refl refl c.self.invariant.0.keeps c.self.invariant.1 c.args.call.now c.args.known c.args.moment ledger.opened c.max-now.result c.self.invariant.1.opened c.max-now.ensures)
+    (c.is_late.ensures book.begin.first ∙ late_told book ledger notes refl refl refl (kept_from book.begin (items_of book.made)) c.self.invariant.0.keeps c.self.invariant.1 c.args.call.now c.args.known c.args.moment ledger.opened c.max-now.result c.self.invariant.1.opened c.max-now.ensures)

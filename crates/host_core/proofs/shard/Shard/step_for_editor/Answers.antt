@@ -1,4 +1,4 @@
-use Rattle.std.proofs.Common.{◌≡◌, ◌≤◌, max, [], ◌∷◌, ◌++◌, List, ℕ, Bool, sym, ap, subst, ◌∙◌}
+use Rattle.std.proofs.Common.{◌≡◌, ◌≤◌, max, [], ◌∷◌, ◌++◌, List, ℕ, Bool, not, sym, ap, subst, ◌∙◌}
 use Rattle.outside.specs.Faults.{Rose}
 use Rattle.host_core.specs.Entries.{history_of}
 use Rattle.host_core.specs.Facts.{facts_of, is_info, is_late, made_for, saved_at}
@@ -9,7 +9,7 @@ pub returns-in-Ok-clause-entry : goal.returns-in-Ok-clause-entry
 returns-in-Ok-clause-entry g c =
     let old = c.args.self.now in
     let call = made_for (is_late old.begin old.dates (history_of old.made old.time) c.args.call c.args.known c.args.moment) c.args.call in
-    subst (λ (b : Book _). b ≡ record old { made = old.made ++ record { time = max old.time c.args.moment; step = record { stamp = c.in-Ok.step.0; pass = c.args.pass; moment = c.args.moment; call = call; ruling = c.make_for_editor.new.carried.ruling } } ∷ []; time = max old.time c.args.moment; folder = b.folder }) (sym c.facts-facts.ensures.same) c.in-Ok.ensures.entry
+    subst (λ (b : Book _). b ≡ record old { made = old.made ++ record { time = max old.time c.args.moment; step = record { stamp = c.in-Ok.step.0; pass = c.args.pass; moment = c.args.moment; call = call; ruling = c.make_for_editor.new.carried.ruling }; told = not (g.F.Store.lost b.folder) } ∷ []; time = max old.time c.args.moment; folder = b.folder }) (sym c.facts-facts.ensures.same) c.in-Ok.ensures.entry
 
 pub returns-in-Ok-clause-facts : goal.returns-in-Ok-clause-facts
 returns-in-Ok-clause-facts g c =

@@ -6,7 +6,7 @@ use Rattle.wopi_model.specs.File.{File}
 use Rattle.host_core.specs.Value.{Book}
 use Rattle.host_core.proofs.Dating.{names_dated}
 use Rattle.host_core.proofs.Gathering.{keeps_both}
-use Rattle.host_core.proofs.shard.Shard.start.Goals as goal
+use Rattle.host_core.proofs.shard.Shard.open.Goals as goal
 
 pub returns-in-Ok-take_room-clause-told : goal.returns-in-Ok-take_room-clause-told
 returns-in-Ok-take_room-clause-told g c =
