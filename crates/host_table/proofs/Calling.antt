@@ -1,6 +1,6 @@
 -- A pass after a call of one of its seats.
 use Rattle.std.proofs.Common.{◌≡◌, ◌↔◌, ℕ, zero, suc, ◌+◌, ◌<◌, max, Bool, IsTrue, Option, Some, Result, IfOk, IfErr, OnErr, List, [], ◌∷◌, ◌++◌, map, length, set, get_or, slice_get, refl, ap, sym, ◌∙◌, subst, arith, length-set, append_assoc}
-use mathlib.Core.List.{IsPrefix, map-append}
+use mathlib.Core.List.{IsPrefix, append-nil, map-append}
 use Rattle.std.specs.List.{AllByRecursion}
 use Rattle.std.specs.Prelude as Prelude
 use Rattle.wopi_text.specs.FileName.{shard_of}
@@ -12,7 +12,8 @@ use Rattle.wopi_model.specs.Shard.{Item, Step, Entry, LegalFrom, RisesFrom, entr
 use Rattle.wopi_model.specs.Host.{FullFrom, Limits}
 use Rattle.host_core.specs.declared.caller.Receipt.{Receipt}
 use Rattle.host_core.specs.declared.caller.CallFault.{CallFault}
-use Rattle.host_core.specs.Entries.{Made}
+use Rattle.host_core.specs.Entries.{Made, told_by}
+use Rattle.host_core.specs.Notes.{Notes}
 use Rattle.host_core.specs.declared.listing.Listing.{Listing}
 use Rattle.host_core.specs.Opening.{MayKeep}
 use Rattle.host_core.specs.Caller.{entry_of, next_stamp, Extends, Makes, Refuses, Frames, FramesAt, IsFullCall}
@@ -21,8 +22,8 @@ use Rattle.host_core.specs.Listing.{IsListing, Lists, LooksAt}
 use Rattle.host_core.specs.Value.{Book}
 use Rattle.host_core.specs.Times.{steps_of, untimed}
 use Rattle.host_table.specs.Histories.{IsSeen}
-use Rattle.host_table.specs.Passes.{Place, PassView, Own, stamp_of, own_of, lock_of, base_of, begin_seen, dates_seen, last_seen, top, seen_at, beginning_at, dates_at, sight_of, IsBase, Owns, HasOwn, IsSeat, IsPass, HasSeen, IsSamePass}
-use Rattle.host_table.specs.Calls.{Calls, Glances, Looks}
+use Rattle.host_table.specs.Passes.{Place, PassView, Own, told_own, stamp_of, own_of, lock_of, base_of, begin_seen, dates_seen, last_seen, top, seen_at, beginning_at, dates_at, sight_of, IsBase, Owns, HasOwn, IsSeat, IsPass, HasSeen, IsSamePass}
+use Rattle.host_table.specs.Calls.{Calls, Glances, Looks, AreNotesOf, AreSeenAt}
 use Rattle.host_table.specs.Sights.{seen_alone}
 use Rattle.host_core.proofs.Timing.{entries-untimed}
 use Rattle.host_table.proofs.Stamps.{steps-append, steps-long, get_last}
@@ -35,6 +36,13 @@ use Rattle.host_table.proofs.Seats.{get_there, get_set, get_other, map_set, last
 -- the pass, with a seat changed
 abbrev pub with_seat : {F : Type 0} → PassView F → ℕ → Place F → ℕ → PassView F
 with_seat p k w last = record { number = p.number; last = last; weight = p.weight; opened = p.opened; first = p.first; limits = p.limits; seats = set p.seats k w }
+
+-- what may be told of the pass's own entries and of one more
+told_own-push : (own : List Own) (one : Own) → told_own (own ++ one ∷ []) ≡ told_own own ++ told_by one.told one.entry
+told_own-push [] one = append-nil (told_by one.told one.entry)
+told_own-push (first ∷ own) one =
+    ap (λ (l : List Entry). told_by first.told first.entry ++ l) (told_own-push own one)
+    ∙ sym (append_assoc (told_by first.told first.entry) (told_own own) (told_by one.told one.entry))
 
 some_same : {A : Type 0} (x y : A) (o : Option A) → o ≡ Some x → o ≡ Some y → x ≡ y
 some_same x y o a b = cc (a, b)
@@ -172,7 +180,7 @@ module _ {F : Type 0} (p : PassView F) (k : ℕ) (v w : Place F) (inside : IsPas
         )
 
     pub looks_glanced : LooksAt (sight_of p) (sight_of after_glance) k
-    looks_glanced = record { own = ap (map (λ (one : Own). one.entry)) own_glanced; begins = begins_glanced; rest = frames_glanced }
+    looks_glanced = record { own = ap (map (λ (one : Own). one.entry)) own_glanced; told = ap told_own own_glanced; begins = begins_glanced; rest = frames_glanced }
 
     -- what a listing shows after the history that the seat has seen, it shows after what the pass has seen
     pub lists_glanced : (listing : Listing) → Prelude.IsSomeAnd v.base (λ base. IsListing k base.begin (untimed w.seen) listing) → Lists (sight_of after_glance) k listing
@@ -230,7 +238,7 @@ module _ {F : Type 0} (p : PassView F) (k : ℕ) (v w : Place F) (inside : IsPas
       made = v.seen ++ calls.between
 
       abbrev one : Made
-      one = record { time = calls.time; step = entry_of p.number call moment receipt }
+      one = record { time = calls.time; step = entry_of p.number call moment receipt; told = receipt.told }
 
       lock_same : w.lock ≡ v.lock
       lock_same = ap (λ (z : Place F). z.lock) calls.same
@@ -261,10 +269,10 @@ module _ {F : Type 0} (p : PassView F) (k : ℕ) (v w : Place F) (inside : IsPas
       top_below : top p.seats < receipt.stamp
       top_below = let stamp : receipt.stamp ≡ max p.last (last_from calls.base.begin.last (stamps (entries (untimed (v.seen ++ calls.between))))) + 1 = calls.stamp in let last_was = inside.last_is in omega arith
 
-      pub own_call : own_of q ≡ own_of p ++ record { shard = receipt.shard; place = receipt.place; entry = entry_of p.number call moment receipt } ∷ []
+      pub own_call : own_of q ≡ own_of p ++ record { shard = receipt.shard; place = receipt.place; entry = entry_of p.number call moment receipt; told = receipt.told } ∷ []
       own_call =
           own_after p.number p.seats k v w (v.seen ++ calls.between) one own_are here at (calls.between, refl) calls.seen (own_more ∙ ap (λ (n : ℕ). v.own ++ n ∷ []) calls.place) (seat_is).owns top_below
-          ∙ (λ i. own_of p ++ record { shard = sym shard_same i; place = sym calls.place i; entry = entry_of p.number call moment receipt } ∷ [])
+          ∙ (λ i. own_of p ++ record { shard = sym shard_same i; place = sym calls.place i; entry = entry_of p.number call moment receipt; told = receipt.told } ∷ [])
 
       rises_then : RisesFrom 0 (map stamp_of (own_of q))
       rises_then =
@@ -307,6 +315,7 @@ module _ {F : Type 0} (p : PassView F) (k : ℕ) (v w : Place F) (inside : IsPas
             later = [];
             seen = subst Seen home seen;
             own = ap (map (λ (one : Own). one.entry)) own_call ∙ map-append (λ (one : Own). one.entry) (own_of p) _;
+            told = ap told_own own_call ∙ told_own-push (own_of p) _;
             last = subst Last home (now ∙ ap (λ (es : List Entry). es ++ entry ∷ []) (sym found));
             shard = shard_same ∙ home;
             place = calls.place ∙ sym (ap (λ (es : List Entry). length es) found ∙ steps-long made);
@@ -350,11 +359,21 @@ module _ {F : Type 0} (p : PassView F) (k : ℕ) (v w : Place F) (inside : IsPas
           let Begins : ℕ → Type 0 = λ n. Extends (entries (seen_at (slice_get p.seats n))) (entries (seen_at (slice_get (set p.seats k w) n))) in
           record {
             own = ap (map (λ (one : Own). one.entry)) own_looked;
+            told = ap told_own own_looked;
             begins = subst Begins home (begins_glanced last seen_all last_is glance);
             full = subst Full home (subst P terms looks.full);
             handed = looks.handed;
             light = looks.light;
           }
+
+    -- what the store has noted, as the pass has seen it
+    pub noted_then : (notes : Notes) → AreSeenAt notes w → AreNotesOf (sight_of q) (shard_of call.name) notes
+    noted_then notes are =
+        let P : ℕ → Type 0 = λ n. AreNotesOf (sight_of q) n notes in
+        subst P home (record {
+          begin = are.begin ∙ sym (ap beginning_at (get_set p.seats k w here));
+          made = ap untimed are.made ∙ sym (ap seen_at (get_set p.seats k w here));
+        })
 
     -- whatever was answered
     module _ (answer : Result Receipt CallFault) (called : IfOk answer (λ receipt. Calls v call p.number p.last moment receipt w)) (looked : IfErr answer (λ refusal. Looks v call p.last moment refusal w)) where
@@ -376,7 +395,7 @@ module _ {F : Type 0} (p : PassView F) (k : ℕ) (v w : Place F) (inside : IsPas
       pub refuses_then : IfErr answer (Refuses (sight_of p) (sight_of q) call moment)
       refuses_then = err_map answer _ _ refuses looked
 
-      pub own_then : IfOk answer (λ receipt. own_of q ≡ own_of p ++ record { shard = receipt.shard; place = receipt.place; entry = entry_of p.number call moment receipt } ∷ [])
+      pub own_then : IfOk answer (λ receipt. own_of q ≡ own_of p ++ record { shard = receipt.shard; place = receipt.place; entry = entry_of p.number call moment receipt; told = receipt.told } ∷ [])
       own_then = ifok_map answer _ _ own_call called
 
       pub own_stays_then : OnErr answer (own_of q ≡ own_of p)

@@ -73,10 +73,10 @@ module _ {F : Type 0} (p : PassView F) (k : ℕ) (v w : Place F) (inside : IsPas
         let base = calls.calls.base in
         ap is_some calls.tells.held ∙ late_brought calls.late call.act known (would_accept base.begin found call moment) (saved_at base.begin base.dates found call.name) calls.tells.exactly
 
-    own_edited : own_of q ≡ own_of p ++ record { shard = answer.receipt.shard; place = answer.receipt.place; entry = entry_of p.number (made_for (is_some answer.late) call) moment answer.receipt } ∷ []
+    own_edited : own_of q ≡ own_of p ++ record { shard = answer.receipt.shard; place = answer.receipt.place; entry = entry_of p.number (made_for (is_some answer.late) call) moment answer.receipt; told = answer.receipt.told } ∷ []
     own_edited =
         own_call p k v w inside below at last made moment home_made seen_all last_is answer.receipt calls.calls
-        ∙ (λ i. own_of p ++ record { shard = answer.receipt.shard; place = answer.receipt.place; entry = entry_of p.number (made_for (sym late_is i) call) moment answer.receipt } ∷ [])
+        ∙ (λ i. own_of p ++ record { shard = answer.receipt.shard; place = answer.receipt.place; entry = entry_of p.number (made_for (sym late_is i) call) moment answer.receipt; told = answer.receipt.told } ∷ [])
 
     -- what is told by the history that the seat has seen, is told by what the pass has seen
     tells_home : TellsEditor (beginning_at (slice_get p.seats (shard_of call.name))) (dates_at (slice_get p.seats (shard_of call.name))) found (seen_at (slice_get (set p.seats k w) (shard_of call.name)))
@@ -126,7 +126,7 @@ module _ {F : Type 0} (p : PassView F) (k : ℕ) (v w : Place F) (inside : IsPas
     pub refuses_told : IfErr answer (Refuses (sight_of p) (sight_of q) call moment)
     refuses_told = err_map answer _ _ (refuses p k v w inside below at last call moment home seen_all last_is) looked
 
-    pub own_told : IfOk answer (λ told. own_of q ≡ own_of p ++ record { shard = told.receipt.shard; place = told.receipt.place; entry = entry_of p.number (made_for (is_some told.late) call) moment told.receipt } ∷ [])
+    pub own_told : IfOk answer (λ told. own_of q ≡ own_of p ++ record { shard = told.receipt.shard; place = told.receipt.place; entry = entry_of p.number (made_for (is_some told.late) call) moment told.receipt; told = told.receipt.told } ∷ [])
     own_told = ifok_map answer _ _ own_edited called
 
     pub own_stays_told : OnErr answer (own_of q ≡ own_of p)

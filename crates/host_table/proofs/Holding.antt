@@ -13,7 +13,7 @@ use Rattle.host_core.specs.declared.caller.Receipt.{Receipt}
 use Rattle.host_core.specs.declared.caller.CallFault.{CallFault}
 use Rattle.host_core.specs.declared.caller.EditorReceipt.{EditorReceipt}
 use Rattle.host_core.specs.Opening.{IsOfShard}
-use Rattle.host_core.specs.Caller.{entry_of, called_back, IsFullCall}
+use Rattle.host_core.specs.Caller.{entry_of, called_back, IsFullCall, IsLostCall}
 use Rattle.host_core.specs.Entries.{Made, back_of, brought_by, history_of}
 use Rattle.host_core.specs.Facts.{Dates, facts_of, is_info, is_late, made_for, saved_at}
 use Rattle.host_core.specs.LockActs.{is_lock_act}
@@ -63,16 +63,16 @@ pub seen_of : {F : Type 0} (book : Book F) (start now : Option Files) (began cou
     → (book.ticked ≡ false → LegalFrom book.begin (untimed book.made)) → IsSeen (as_opened book) book.made
 seen_of book start now began count h alone = record { legal = alone h.unticked; named = h.named }
 
-pub held_adds : {F : Type 0} (old new : Book F) (call : Call) (pass floor moment : ℕ) (receipt : Receipt) → GoesByEntries old.begin.now old.made old.time
-    → new ≡ record old { made = old.made ++ record { time = max old.time moment; step = entry_of pass call moment receipt } ∷ []; time = max old.time moment; folder = new.folder }
+pub held_adds : {F : Type 0} (told : Bool) (old new : Book F) (call : Call) (pass floor moment : ℕ) (receipt : Receipt) → told ≡ receipt.told → GoesByEntries old.begin.now old.made old.time
+    → new ≡ record old { made = old.made ++ record { time = max old.time moment; step = entry_of pass call moment receipt; told = told } ∷ []; time = max old.time moment; folder = new.folder }
     → old.only ≡ Some receipt.shard → receipt.place ≡ length old.made
     → receipt.stamp ≡ max (last_from old.begin.last (stamps (entries (history_of old.made old.time)))) floor + 1
     → (FullFrom old.limits old.begin (history_of old.made old.time) floor call moment → ⊥)
     → receipt.back ≡ back_of call.act receipt.ruling
     → Adds old new call pass floor moment receipt
-held_adds old new call pass floor moment receipt goes is shard place stamp room back = record {
+held_adds told old new call pass floor moment receipt same goes is shard place stamp room back = record {
   time = max old.time moment;
-  made = ap (λ (b : Book _). b.made) is;
+  made = ap (λ (b : Book _). b.made) is ∙ ap (λ (b : Bool). old.made ++ record { time = max old.time moment; step = entry_of pass call moment receipt; told = b } ∷ []) same;
   shard = shard;
   place = place;
   stamp = stamp ∙ (ap (λ (es : List Entry). max (last_from old.begin.last (stamps es)) floor + 1) (entries-history old.made old.time ∙ sym (entries-untimed old.made))
@@ -110,10 +110,10 @@ told_untimed old new call known moment late answer goes goes' begin dates is hel
       timed = timed;
     }
 
-pub held_edits : {F : Type 0} (old new : Book F) (call : Call) (known : Option ℕ) (pass floor moment : ℕ) (answer : EditorReceipt) (late : Bool)
-    → GoesByEntries old.begin.now old.made old.time → GoesByEntries new.begin.now new.made new.time
+pub held_edits : {F : Type 0} (told : Bool) (old new : Book F) (call : Call) (known : Option ℕ) (pass floor moment : ℕ) (answer : EditorReceipt) (late : Bool)
+    → told ≡ answer.receipt.told → GoesByEntries old.begin.now old.made old.time → GoesByEntries new.begin.now new.made new.time
     → late ≡ is_late old.begin old.dates (history_of old.made old.time) call known moment
-    → new ≡ record old { made = old.made ++ record { time = max old.time moment; step = entry_of pass (made_for late call) moment answer.receipt } ∷ []; time = max old.time moment; folder = new.folder }
+    → new ≡ record old { made = old.made ++ record { time = max old.time moment; step = entry_of pass (made_for late call) moment answer.receipt; told = told } ∷ []; time = max old.time moment; folder = new.folder }
     → old.only ≡ Some answer.receipt.shard → answer.receipt.place ≡ length old.made
     → answer.receipt.stamp ≡ max (last_from old.begin.last (stamps (entries (history_of old.made old.time)))) floor + 1
     → (FullFrom old.limits old.begin (history_of old.made old.time) floor (made_for late call) moment → ⊥)
@@ -122,16 +122,16 @@ pub held_edits : {F : Type 0} (old new : Book F) (call : Call) (known : Option �
     → answer.facts ≡ facts_of (is_info call.act) (saved_at new.begin new.dates (history_of new.made new.time) call.name) ((state_of new.begin new.made new.time).files call.name).contents
     → IfSome answer.facts (λ facts. IsMoment facts.saved)
     → AddsForEditor old new call known pass floor moment answer
-held_edits old new call known pass floor moment answer late goes goes' exactly is shard place stamp room back held facts timed = record {
+held_edits told old new call known pass floor moment answer late as_told goes goes' exactly is shard place stamp room back held facts timed = record {
   late = late;
-  adds = held_adds old new (made_for late call) pass floor moment answer.receipt goes is shard place stamp room back;
+  adds = held_adds told old new (made_for late call) pass floor moment answer.receipt as_told goes is shard place stamp room back;
   tells = told_untimed old new call known moment late answer goes goes' (ap (λ (b : Book _). b.begin) is) (ap (λ (b : Book _). b.dates) is) exactly held facts timed;
 }
 
 pub held_declines : {F : Type 0} (old new : Book F) (call : Call) (floor moment : ℕ) (refusal : CallFault) → GoesByEntries old.begin.now old.made old.time
     → new ≡ record old { folder = new.folder }
     → (IsFullCall refusal → FullFrom old.limits old.begin (history_of old.made old.time) floor call moment) → called_back refusal ≡ call
-    → (is_lock_act call.act ≡ true → IsFullCall refusal) → Declines old new call floor moment refusal
+    → (is_lock_act call.act ≡ true → (IsLostCall refusal → ⊥) → IsFullCall refusal) → Declines old new call floor moment refusal
 held_declines old new call floor moment refusal goes is full handed light = record {
   made = ap (λ (b : Book _). b.made) is;
   full = λ f. full-untimed old.limits old.begin old.made old.time floor call moment goes.timely goes.time_is (full f);
@@ -145,3 +145,8 @@ seen_stays old new start now began count h is alone = record {
   legal = alone (ap (λ (b : Book _). b.ticked) is ∙ h.unticked);
   named = subst (λ (b : Book _). AreNamed b.only b.made) (sym is) h.named;
 }
+
+-- a Bool that is neither
+pub neither : (b : Bool) → (b ≡ true → ⊥) → (b ≡ false → ⊥) → ⊥
+neither true h k = h refl
+neither false h k = k refl

@@ -326,7 +326,7 @@ module _ {F : Type 0} (files : F → Option Files) (faults : F → ℕ) (opened 
       let w = where_is one h in let t = made_of w.0 w.2 w.3 in
       let made : slice_get t.0.made w.1 ≡ Some one = ap (λ (z : Left F). slice_get z.made w.1) (sym t.3.left_is) ∙ w.4 in
       let own = owner_of passes seats books w.0 t.0 w.1 one joined ends t.2 made in
-      (own.0, record { shard = w.0; place = w.1; entry = one.step }, own.1, own.2, own.3, refl)
+      (own.0, record { shard = w.0; place = w.1; entry = one.step; told = one.told }, own.1, own.2, own.3, refl)
 
   once : (n : ℕ) → times n (map number_of passes) ≤ 1
   once n = let is = whole.numbers n in grind (arith, nat_tests)

@@ -34,10 +34,10 @@ owned-later number shard xs ys (place ∷ places) p o =
     let rest = owned-later number shard xs ys places p o.1 in
     λ i. owned_at shard place (same i) ++ rest i
 
-owned-push : (shard : ℕ) (ys : List Made) (places : List ℕ) (place : ℕ) (one : Made) → slice_get ys place ≡ Some one → owned shard ys (places ++ place ∷ []) ≡ owned shard ys places ++ record { shard = shard; place = place; entry = one.step } ∷ []
+owned-push : (shard : ℕ) (ys : List Made) (places : List ℕ) (place : ℕ) (one : Made) → slice_get ys place ≡ Some one → owned shard ys (places ++ place ∷ []) ≡ owned shard ys places ++ record { shard = shard; place = place; entry = one.step; told = one.told } ∷ []
 owned-push shard ys [] place one e = ap (λ (o : Option Made). owned_at shard place o ++ []) e
 owned-push shard ys (first ∷ places) place one e =
-    let x : Own = record { shard = shard; place = place; entry = one.step } in let a = owned_at shard first (slice_get ys first) in
+    let x : Own = record { shard = shard; place = place; entry = one.step; told = one.told } in let a = owned_at shard first (slice_get ys first) in
     ap (λ (z : List Own). a ++ z) (owned-push shard ys places place one e) ∙ sym (append_assoc a (owned shard ys places) (x ∷ []))
 
 abbrev AllBelow : ℕ → List Own → Type 0
@@ -83,7 +83,7 @@ owned_below number shard low n xs [] r o l = tt
 owned_below number shard low n xs (place ∷ places) r o l =
     let one = has_own number (slice_get xs place) o.0 in
     let most = last_stamp-most low place xs one.0 one.1 r in
-    let here : stamp_of (record { shard = shard; place = place; entry = one.0.step }) < n = omega arith in
+    let here : stamp_of (record { shard = shard; place = place; entry = one.0.step; told = one.0.told }) < n = omega arith in
     let P : Option Made → Type 0 = λ (z : Option Made). AllBelow n (owned_at shard place z ++ owned shard xs places) in
     subst P (sym one.1) (here, owned_below number shard low n xs places r o.1 l)
 
@@ -131,9 +131,9 @@ module _ {F : Type 0} where
   -- an entry of the pass's own at the end of a seat's history goes to the end of all that are its own
   pub own_after : (number : ℕ) (ss : List (Place F)) (k : ℕ) (v w : Place F) (made : List Made) (one : Made) → AreOwn number ss → k < length ss → v ≡ get_or ss k v
       → IsPrefix v.seen made → w.seen ≡ made ++ one ∷ [] → w.own ≡ v.own ++ length made ∷ [] → Owns number v.seen v.own → top ss < one.step.stamp
-      → by_stamp (owned_from 0 (set ss k w)) ≡ by_stamp (owned_from 0 ss) ++ record { shard = k; place = length made; entry = one.step } ∷ []
+      → by_stamp (owned_from 0 (set ss k w)) ≡ by_stamp (owned_from 0 ss) ++ record { shard = k; place = length made; entry = one.step; told = one.told } ∷ []
   own_after number ss k v w made one o h at begins seen own mine above =
-      let x : Own = record { shard = k; place = length made; entry = one.step } in
+      let x : Own = record { shard = k; place = length made; entry = one.step; told = one.told } in
       let later : IsPrefix v.seen w.seen = (begins.0 ++ one ∷ [], sym (append_assoc v.seen begins.0 (one ∷ [])) ∙ (ap (λ (z : List Made). z ++ one ∷ []) begins.1 ∙ sym seen)) in
       let here : slice_get w.seen (length made) ≡ Some one = ap (λ (z : List Made). slice_get z (length made)) seen ∙ get_last made one in
       let maps : owned k w.seen w.own ≡ owned k v.seen v.own ++ x ∷ [] =

@@ -40,49 +40,49 @@ pub record IsOwned {F : Type 0} (j : ℕ) (seats : List (Place F)) (o : Own) : T
   pub there : slice_get seats shard ≡ Some seat
   pub own : Has seat.own place
   pub seen : slice_get seat.seen place ≡ Some one
-  pub is : o ≡ record { shard = j + shard; place = place; entry = one.step }
+  pub is : o ≡ record { shard = j + shard; place = place; entry = one.step; told = one.told }
 
-owned_have : (j : ℕ) (seen : List Made) (places : List ℕ) (place : ℕ) (one : Made) → Has places place → slice_get seen place ≡ Some one → Has (owned j seen places) (record { shard = j; place = place; entry = one.step })
+owned_have : (j : ℕ) (seen : List Made) (places : List ℕ) (place : ℕ) (one : Made) → Has places place → slice_get seen place ≡ Some one → Has (owned j seen places) (record { shard = j; place = place; entry = one.step; told = one.told })
 owned_have j seen [] place one h e = absurd h
-owned_have j seen (p ∷ places) place one h e = elim h as (λ _. Has (owned_at j p (slice_get seen p) ++ owned j seen places) (record { shard = j; place = place; entry = one.step })) [
+owned_have j seen (p ∷ places) place one h e = elim h as (λ _. Has (owned_at j p (slice_get seen p) ++ owned j seen places) (record { shard = j; place = place; entry = one.step; told = one.told })) [
   | inl same ↦
       let here : slice_get seen p ≡ Some one = ap (slice_get seen) same ∙ e in
-      let P : Option Made → Type 0 = λ o. Has (owned_at j p o ++ owned j seen places) (record { shard = j; place = place; entry = one.step }) in
-      subst P (sym here) (inl (ap (λ (n : ℕ). record { shard = j; place = n; entry = one.step }) same))
+      let P : Option Made → Type 0 = λ o. Has (owned_at j p o ++ owned j seen places) (record { shard = j; place = place; entry = one.step; told = one.told }) in
+      subst P (sym here) (inl (ap (λ (n : ℕ). record { shard = j; place = n; entry = one.step; told = one.told }) same))
   | inr k ↦ has_right (owned_at j p (slice_get seen p)) (owned j seen places) _ (owned_have j seen places place one k e)
 ]
 
-in_owned : (j : ℕ) (seen : List Made) (places : List ℕ) (o : Own) → Has (owned j seen places) o → (place : ℕ) × (one : Made) × Has places place × (slice_get seen place ≡ Some one) × (o ≡ record { shard = j; place = place; entry = one.step })
+in_owned : (j : ℕ) (seen : List Made) (places : List ℕ) (o : Own) → Has (owned j seen places) o → (place : ℕ) × (one : Made) × Has places place × (slice_get seen place ≡ Some one) × (o ≡ record { shard = j; place = place; entry = one.step; told = one.told })
 in_owned j seen [] o h = absurd h
-in_owned j seen (p ∷ places) o h = elim (has_either (owned_at j p (slice_get seen p)) (owned j seen places) o h) as (λ _. (place : ℕ) × (one : Made) × Has (p ∷ places) place × (slice_get seen place ≡ Some one) × (o ≡ record { shard = j; place = place; entry = one.step })) [
+in_owned j seen (p ∷ places) o h = elim (has_either (owned_at j p (slice_get seen p)) (owned j seen places) o h) as (λ _. (place : ℕ) × (one : Made) × Has (p ∷ places) place × (slice_get seen place ≡ Some one) × (o ≡ record { shard = j; place = place; entry = one.step; told = one.told })) [
   | inl l ↦ go (slice_get seen p) refl l
   | inr r ↦ let k = in_owned j seen places o r in (k.0, k.1, inr k.2, k.3, k.4)
 ] where
-  go : (m : Option Made) → slice_get seen p ≡ m → Has (owned_at j p m) o → (place : ℕ) × (one : Made) × Has (p ∷ places) place × (slice_get seen place ≡ Some one) × (o ≡ record { shard = j; place = place; entry = one.step })
+  go : (m : Option Made) → slice_get seen p ≡ m → Has (owned_at j p m) o → (place : ℕ) × (one : Made) × Has (p ∷ places) place × (slice_get seen place ≡ Some one) × (o ≡ record { shard = j; place = place; entry = one.step; told = one.told })
   go None e k = absurd k
-  go (Some one) e k = (p, one, inl refl, e, elim k as (λ _. o ≡ record { shard = j; place = p; entry = one.step }) [ inl same ↦ sym same | inr none ↦ absurd none ])
+  go (Some one) e k = (p, one, inl refl, e, elim k as (λ _. o ≡ record { shard = j; place = p; entry = one.step; told = one.told }) [ inl same ↦ sym same | inr none ↦ absurd none ])
 
 module _ {F : Type 0} where
   pub from_have : (j : ℕ) (seats : List (Place F)) (i : ℕ) (seat : Place F) (place : ℕ) (one : Made) → slice_get seats i ≡ Some seat → Has seat.own place → slice_get seat.seen place ≡ Some one
-      → Has (owned_from j seats) (record { shard = j + i; place = place; entry = one.step })
+      → Has (owned_from j seats) (record { shard = j + i; place = place; entry = one.step; told = one.told })
   from_have j [] i seat place one at h e = absurd (cc at)
   from_have j (s ∷ seats) zero seat place one at h e =
       let same : seat ≡ s = cc at in let z : j ≡ j + 0 = omega arith in
-      let P : Place F → Type 0 = λ t. Has (owned j t.seen t.own) (record { shard = j; place = place; entry = one.step }) in
-      let Q : ℕ → Type 0 = λ n. Has (owned j s.seen s.own) (record { shard = n; place = place; entry = one.step }) in
+      let P : Place F → Type 0 = λ t. Has (owned j t.seen t.own) (record { shard = j; place = place; entry = one.step; told = one.told }) in
+      let Q : ℕ → Type 0 = λ n. Has (owned j s.seen s.own) (record { shard = n; place = place; entry = one.step; told = one.told }) in
       has_left (owned j s.seen s.own) (owned_from (j + 1) seats) _ (subst Q z (subst P same (owned_have j seat.seen seat.own place one h e)))
   from_have j (s ∷ seats) (suc i) seat place one at h e =
       let n : (j + 1) + i ≡ j + suc i = omega arith in
-      let Q : ℕ → Type 0 = λ m. Has (owned_from (j + 1) seats) (record { shard = m; place = place; entry = one.step }) in
+      let Q : ℕ → Type 0 = λ m. Has (owned_from (j + 1) seats) (record { shard = m; place = place; entry = one.step; told = one.told }) in
       has_right (owned j s.seen s.own) (owned_from (j + 1) seats) _ (subst Q n (from_have (j + 1) seats i seat place one at h e))
 
   pub in_from : (j : ℕ) (seats : List (Place F)) (o : Own) → Has (owned_from j seats) o → IsOwned j seats o
   in_from j [] o h = absurd h
   in_from j (s ∷ seats) o h = elim (has_either (owned j s.seen s.own) (owned_from (j + 1) seats) o h) as (λ _. IsOwned j (s ∷ seats) o) [
     | inl l ↦ let k = in_owned j s.seen s.own o l in let z : j ≡ j + 0 = omega arith in
-        record { shard = 0; seat = s; place = k.0; one = k.1; there = refl; own = k.2; seen = k.3; is = k.4 ∙ ap (λ (n : ℕ). record { shard = n; place = k.0; entry = k.1.step }) z }
+        record { shard = 0; seat = s; place = k.0; one = k.1; there = refl; own = k.2; seen = k.3; is = k.4 ∙ ap (λ (n : ℕ). record { shard = n; place = k.0; entry = k.1.step; told = k.1.told }) z }
     | inr r ↦ let k = in_from (j + 1) seats o r in let n : (j + 1) + k.shard ≡ j + suc k.shard = omega arith in
-        record { shard = suc k.shard; seat = k.seat; place = k.place; one = k.one; there = k.there; own = k.own; seen = k.seen; is = k.is ∙ ap (λ (m : ℕ). record { shard = m; place = k.place; entry = k.one.step }) n }
+        record { shard = suc k.shard; seat = k.seat; place = k.place; one = k.one; there = k.there; own = k.own; seen = k.seen; is = k.is ∙ ap (λ (m : ℕ). record { shard = m; place = k.place; entry = k.one.step; told = k.one.told }) n }
   ]
 
 put_have : (x : Own) (ys : List Own) (o : Own) → Has (x ∷ ys) o → Has (put_in x ys) o
@@ -182,7 +182,7 @@ module _ {F : Type 0} where
 
   -- each entry of a shard at its end is one pass's own
   pub owner_of : (passes : List (PassView F)) (seats : List (Place F)) (books : List (Book F)) (i : ℕ) (h : Book F) (k : ℕ) (one : Made) → IsJoinOf passes seats → AreEnds seats books → slice_get books i ≡ Some h → slice_get h.made k ≡ Some one
-      → (q : PassView F) × Has passes q × (one.step.pass ≡ q.number) × Has (own_of q) (record { shard = i; place = k; entry = one.step })
+      → (q : PassView F) × Has passes q × (one.step.pass ≡ q.number) × Has (own_of q) (record { shard = i; place = k; entry = one.step; told = one.told })
   owner_of passes seats books i h k one joined ends at e =
       let end = end_at seats books i h ends at in let final = end.0 in
       let inside = get_inside h.made k one e in
@@ -198,7 +198,7 @@ module _ {F : Type 0} where
       let same : mine.0 ≡ one = cc (prefix_get s.seen h.made k mine.0 begins mine.1, e) in
       let there : slice_get s.seen k ≡ Some one = mine.1 ∙ ap Some same in
       let z : 0 + i ≡ i = omega arith in
-      let P : ℕ → Type 0 = λ n. Has (own_of q.0) (record { shard = n; place = k; entry = one.step }) in
+      let P : ℕ → Type 0 = λ n. Has (own_of q.0) (record { shard = n; place = k; entry = one.step; told = one.told }) in
       (q.0, q.1, ap (λ (m : Made). m.step.pass) (sym same) ∙ mine.2, subst P z (sorted_have (owned_from 0 q.0.seats) _ (from_have 0 q.0.seats i s k one q.2 own.2 there)))
 
   -- what a pass has seen of a shard begins the shard's history at its end

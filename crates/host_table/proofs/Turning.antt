@@ -1,5 +1,5 @@
 -- A call in its turn, as the seat sees it.
-use Rattle.std.proofs.Common.{◌≡◌, ◌↔◌, ℕ, ◌-◌, Bool, IsTrue, Option, None, Some, IsSomeAnd, Result, Ok, Err, IfOk, IfErr, OnErr, List, [], ◌∷◌, ◌++◌, length, sym, ap, subst, ◌∙◌, arith, length-append}
+use Rattle.std.proofs.Common.{◌≡◌, ◌↔◌, ℕ, ◌-◌, Bool, true, false, not, refl, IsTrue, Option, None, Some, IsSomeAnd, Result, Ok, Err, IfOk, IfErr, OnErr, List, [], ◌∷◌, ◌++◌, length, sym, ap, subst, ◌∙◌, arith, length-append}
 use Rattle.std.proofs.lemmas.List.{append-nil}
 use mathlib.Core.List.{IsPrefix}
 use Rattle.turn_lock.specs.Places.{places_from, places_behind}
@@ -15,13 +15,14 @@ use Rattle.host_core.specs.Fullness.{IsNearlyFull}
 use Rattle.host_core.specs.Listing.{IsListing}
 use Rattle.host_core.specs.Entries.{Made}
 use Rattle.host_core.specs.Facts.{made_for}
+use Rattle.host_core.specs.Notes.{Notes}
 use Rattle.host_core.specs.Value.{Book}
 use Rattle.host_core.specs.Times.{untimed}
 use Rattle.host_table.specs.Editors.{TellsEditor}
 use Rattle.host_table.specs.Histories.{last_stamp, as_opened, IsSeen}
 use Rattle.host_table.specs.Held.{Adds, AddsForEditor, Declines}
 use Rattle.host_table.specs.Passes.{Place, begin_seen, last_seen}
-use Rattle.host_table.specs.Calls.{Calls, CallsForEditor, Glances, Looks}
+use Rattle.host_table.specs.Calls.{Calls, CallsForEditor, Glances, Looks, AreSeenAt}
 
 places_one : (made : List Made) (one : Made) → places_behind made (made ++ one ∷ []) ≡ length made ∷ []
 places_one made one = let n : length (made ++ one ∷ []) - length made ≡ 1 = omega (arith, length-append made (one ∷ [])) in ap (places_from (length made)) n
@@ -31,13 +32,13 @@ places_none made = let n : length made - length made ≡ 0 = omega arith in ap (
 
 -- a call adds at most an entry
 pub grown : {F : Type 0} (old new : Book F) (call : Call) (pass floor moment : ℕ) (answer : Result Receipt CallFault) → IfOk answer (Adds old new call pass floor moment) → IfErr answer (Declines old new call floor moment) → IsPrefix old.made new.made
-grown old new call pass floor moment (Ok receipt) adds declines = (record { time = adds.time; step = entry_of pass call moment receipt } ∷ [], sym adds.made)
+grown old new call pass floor moment (Ok receipt) adds declines = (record { time = adds.time; step = entry_of pass call moment receipt; told = receipt.told } ∷ [], sym adds.made)
 grown old new call pass floor moment (Err refusal) adds declines = ([], append-nil old.made ∙ sym declines.made)
 
 -- and so does an editor's
 pub grown_for_editor : {F : Type 0} (old new : Book F) (call : Call) (known : Option ℕ) (pass floor moment : ℕ) (answer : Result EditorReceipt CallFault) → IfOk answer (AddsForEditor old new call known pass floor moment) → IfErr answer (Declines old new call floor moment)
     → IsPrefix old.made new.made
-grown_for_editor old new call known pass floor moment (Ok told) edits declines = (record { time = edits.adds.time; step = entry_of pass (made_for edits.late call) moment told.receipt } ∷ [], sym edits.adds.made)
+grown_for_editor old new call known pass floor moment (Ok told) edits declines = (record { time = edits.adds.time; step = entry_of pass (made_for edits.late call) moment told.receipt; told = told.receipt.told } ∷ [], sym edits.adds.made)
 grown_for_editor old new call known pass floor moment (Err refusal) edits declines = ([], append-nil old.made ∙ sym declines.made)
 
 -- the seat after the turn, by what it was before
@@ -65,11 +66,23 @@ last_given v w old new based same is =
     let seen : w.seen ≡ new.made = ap (λ (p : Place _). p.seen) is in
     λ i. last_stamp (begin_seen (sym base i)).last (sym seen i)
 
+-- what the shard's store has noted is what the seat has seen
+pub noted_given : {F : Type 0} (v w : Place F) (old new : Book F) (notes : Notes) → v.base ≡ Some (as_opened old) → as_opened new ≡ as_opened old
+    → w ≡ record { lock = v.lock; seen = new.made; own = v.own ++ added_places (Some old.made) new.made; weight = v.weight; base = v.base; taken = None }
+    → notes.begin ≡ new.begin → notes.made ≡ new.made → AreSeenAt notes w
+noted_given v w old new notes based same is begin made =
+    let base : w.base ≡ Some (as_opened new) = ap (λ (p : Place _). p.base) is ∙ (based ∙ ap Some (sym same)) in
+    let seen : w.seen ≡ new.made = ap (λ (p : Place _). p.seen) is in
+    record {
+      begin = begin ∙ sym (ap begin_seen base);
+      made = made ∙ sym seen;
+    }
+
 pub made_call : {F : Type 0} (v w : Place F) (old new : Book F) (call : Call) (pass floor moment : ℕ) (receipt : Receipt) → v.taken ≡ None → v.base ≡ Some (as_opened old) → IsPrefix v.seen old.made
     → w ≡ record { lock = v.lock; seen = new.made; own = v.own ++ added_places (Some old.made) new.made; weight = v.weight; base = v.base; taken = None }
     → Adds old new call pass floor moment receipt → Calls v call pass floor moment receipt w
 made_call v w old new call pass floor moment receipt free based begins is adds =
-    let one : Made = record { time = adds.time; step = entry_of pass call moment receipt } in
+    let one : Made = record { time = adds.time; step = entry_of pass call moment receipt; told = receipt.told } in
     let seen : w.seen ≡ new.made = ap (λ (p : Place _). p.seen) is in
     let own : v.own ++ added_places (Some old.made) new.made ≡ v.own ++ receipt.place ∷ [] =
     ap (λ (places : List ℕ). v.own ++ places) (ap (places_behind old.made) adds.made ∙ (places_one old.made one ∙ ap (λ (place : ℕ). place ∷ []) (sym adds.place))) in
@@ -165,3 +178,8 @@ either_case (Err e) P Q R f g h k = g e k
 pub on_err : {A E : Type 0} (r : Result A E) (P : E → Type 0) (Q : Type 0) → ((e : E) → P e → Q) → IfErr r P → OnErr r Q
 on_err (Ok x) P Q f h = tt
 on_err (Err e) P Q f h = f e h
+
+-- what is no false is true
+pub lost_of : (b : Bool) → not b ≡ false → b ≡ true
+lost_of true is = refl
+lost_of false is = absurd (cc is)

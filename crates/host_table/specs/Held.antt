@@ -7,7 +7,7 @@ use Rattle.wopi_model.specs.Host.{FullFrom}
 use Rattle.host_core.specs.declared.caller.Receipt.{Receipt}
 use Rattle.host_core.specs.declared.caller.CallFault.{CallFault}
 use Rattle.host_core.specs.declared.caller.EditorReceipt.{EditorReceipt}
-use Rattle.host_core.specs.Caller.{entry_of, called_back, IsFullCall, next_stamp}
+use Rattle.host_core.specs.Caller.{entry_of, called_back, IsFullCall, next_stamp, IsLostCall}
 use Rattle.host_core.specs.Entries.{back_of}
 use Rattle.host_core.specs.Facts.{made_for}
 use Rattle.host_core.specs.LockActs.{is_lock_act}
@@ -32,7 +32,7 @@ pub record IsHeld {F : Type 0} (book : Book F) (start now : Option Files) (began
 -- a call that made an entry
 pub record Adds {F : Type 0} (old new : Book F) (call : Call) (pass floor moment : ℕ) (receipt : Receipt) : Type 0 where
   pub time : ℕ
-  pub made : new.made ≡ old.made ++ record { time = time; step = entry_of pass call moment receipt } ∷ []
+  pub made : new.made ≡ old.made ++ record { time = time; step = entry_of pass call moment receipt; told = receipt.told } ∷ []
   pub shard : old.only ≡ Some receipt.shard
   pub place : receipt.place ≡ length old.made
   pub stamp : receipt.stamp ≡ next_stamp old.begin floor (untimed old.made)
@@ -50,7 +50,7 @@ pub record Declines {F : Type 0} (old new : Book F) (call : Call) (floor moment 
   pub made : new.made ≡ old.made
   pub full : IsFullCall refusal → FullFrom old.limits old.begin (untimed old.made) floor call moment
   pub handed : called_back refusal ≡ call
-  pub light : is_lock_act call.act ≡ true → IsFullCall refusal
+  pub light : is_lock_act call.act ≡ true → (IsLostCall refusal → ⊥) → IsFullCall refusal
 
 -- what a shard leaves, and its folder as the last step left it
 pub record IsTakenApart {F : Type 0} (files : F → Option Files) (faults : F → ℕ) (book : Book (InMemory F)) (left : Left F) (folder : F) : Type 0 where

@@ -1,5 +1,5 @@
 -- A host and its passes, as contracts see them. (Own.)
-use Rattle.std.specs.Prelude.{◌≤◌, ◌≡◌, ⊤, ℕ, ◌+◌, ◌-◌, ◌/◌, max, ltb, false, List, [], ◌∷◌, ◌++◌, length, map, Option, None, Some, IfSome, slice_get, if◌then◌else◌}
+use Rattle.std.specs.Prelude.{◌≤◌, ◌≡◌, ⊤, ℕ, ◌+◌, ◌-◌, ◌/◌, max, ltb, Bool, false, List, [], ◌∷◌, ◌++◌, length, map, Option, None, Some, IfSome, slice_get, if◌then◌else◌}
 use Rattle.std.specs.List.{AllByRecursion, Contains}
 use Rattle.atomic_table.specs.Seated.{TableId}
 use Rattle.turn_lock.specs.Seats.{SeatValue}
@@ -13,7 +13,7 @@ use Rattle.wopi_model.specs.Begin.{Begin, new_life}
 use Rattle.wopi_model.specs.Host.{Limits}
 use Rattle.wopi_model.specs.Shard.{Item, Entry, RisesFrom, entries, stamps}
 use Rattle.host_core.specs.Opening.{IsFirstVersion, MayKeep}
-use Rattle.host_core.specs.Entries.{Made}
+use Rattle.host_core.specs.Entries.{Made, told_by}
 use Rattle.host_core.specs.Caller.{Sight}
 use Rattle.host_core.specs.Facts.{Dates}
 use Rattle.host_core.specs.Value.{Book}
@@ -45,20 +45,26 @@ pub record HostView (F : Type 0) : Type 0 where
   pub limits : Limits
   pub made : ℕ
 
--- an entry of the pass's own, with its shard and its place
+-- an entry of the pass's own, with its shard and its place, and whether it may be told
 pub record Own : Type 0 where
   pub shard : ℕ
   pub place : ℕ
   pub entry : Entry
+  pub told : Bool
 
 abbrev pub owned_at : ℕ → ℕ → Option Made → List Own
 owned_at shard place None = []
-owned_at shard place (Some one) = record { shard = shard; place = place; entry = one.step } ∷ []
+owned_at shard place (Some one) = record { shard = shard; place = place; entry = one.step; told = one.told } ∷ []
 
 -- those of one shard
 abbrev pub owned : ℕ → List Made → List ℕ → List Own
 owned shard seen [] = []
 owned shard seen (place ∷ places) = owned_at shard place (slice_get seen place) ++ owned shard seen places
+
+-- those that may be told
+abbrev pub told_own : List Own → List Entry
+told_own [] = []
+told_own (one ∷ own) = told_by one.told one.entry ++ told_own own
 
 abbrev pub stamp_of : Own → ℕ
 stamp_of one = one.entry.stamp
@@ -143,6 +149,7 @@ module _ {F : Type 0} where
   abbrev pub sight_of : PassView F → Sight
   sight_of pass = record {
     own = map (λ one. one.entry) (own_of pass);
+    told = told_own (own_of pass);
     pass = pass.number;
     floor = pass.last;
     limits = pass.limits;

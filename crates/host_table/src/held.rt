@@ -1,11 +1,12 @@
 //! A shard as it lies under its lock.
-ghost use Rattle.std.specs.Prelude.{◌≡◌, ◌≤◌, ◌<◌, Some, [], false, true, ◌↔◌, map, IfOk, IfErr, IsTrue};
+ghost use Rattle.std.specs.Prelude.{◌≡◌, ◌≤◌, ◌<◌, Some, [], false, true, ◌↔◌, map, IfOk, IfErr, IsTrue, not};
 ghost use Rattle.outside.specs.Faults.{Rose};
 ghost use Rattle.outside.specs.Folder.{Keeps};
 ghost use Rattle.wopi_model.specs.Begin.{new_life};
 ghost use Rattle.wopi_model.specs.Host.{kept_limits};
 ghost use Rattle.wopi_model.specs.Moment.{IsMoment};
 ghost use Rattle.wopi_model.specs.Shard.{Opening};
+ghost use Rattle.host_core.specs.Caller.{IsLostCall};
 ghost use Rattle.host_core.specs.Fullness.{IsNearlyFull};
 ghost use Rattle.host_core.specs.Listing.{IsListing};
 ghost use Rattle.host_core.specs.Opening.{AreDatesOf, IsFirstVersion, IsOpening, Fits, IsTooLarge, IfTooLarge};
@@ -99,7 +100,7 @@ impl<F: Store> Held<F> {
         }
     }
 
-    /// One step of the shard.
+    /// One step of the shard. It tells whether the answer may be told: the store is not lost at it.
     pub fn call(
         &mut self,
         call: Call,
@@ -113,21 +114,26 @@ impl<F: Store> Held<F> {
         ensures seen { IsSeen (as_opened self.new) self.new.made }
         ensures made { IfOk result (λ receipt. Adds self.old self.new call pass floor moment receipt) }
         ensures refused { IfErr result (λ refusal. Declines self.old self.new call floor moment refusal) }
+        ensures told { IfOk result (λ receipt. receipt.told ≡ not (F.lost self.new.folder)) }
+        ensures lost { IfErr result (λ refusal. IsLostCall refusal → F.lost self.new.folder ≡ true) }
     {
         let shard = call.name.shard();
         let place = self.shard.len();
         match self.shard.step(call, pass, floor, moment) {
             Ok((stamp, ruling, back)) => {
+                let told = !self.shard.is_lost();
                 return Ok(Receipt {
                     stamp,
                     shard,
                     place,
                     ruling,
                     back,
+                    told,
                 });
             }
             Err(StepFault::Full(call)) => return Err(CallFault::Full(call)),
             Err(StepFault::Memory(call)) => return Err(CallFault::Memory(call)),
+            Err(StepFault::Lost(call)) => return Err(CallFault::Lost(call)),
         }
     }
 
@@ -147,11 +153,14 @@ impl<F: Store> Held<F> {
         ensures seen { IsSeen (as_opened self.new) self.new.made }
         ensures made { IfOk result (λ answer. AddsForEditor self.old self.new call known pass floor moment answer) }
         ensures refused { IfErr result (λ refusal. Declines self.old self.new call floor moment refusal) }
+        ensures told { IfOk result (λ answer. answer.receipt.told ≡ not (F.lost self.new.folder)) }
+        ensures lost { IfErr result (λ refusal. IsLostCall refusal → F.lost self.new.folder ≡ true) }
     {
         let shard = call.name.shard();
         let place = self.shard.len();
         match self.shard.step_for_editor(call, known, pass, floor, moment) {
             Ok(step) => {
+                let is_told = !self.shard.is_lost();
                 return Ok(EditorReceipt {
                     receipt: Receipt {
                         stamp: step.stamp,
@@ -159,6 +168,7 @@ impl<F: Store> Held<F> {
                         place,
                         ruling: step.ruling,
                         back: step.back,
+                        told: is_told,
                     },
                     late: step.late,
                     facts: step.facts,
@@ -166,6 +176,7 @@ impl<F: Store> Held<F> {
             }
             Err(StepFault::Full(call)) => return Err(CallFault::Full(call)),
             Err(StepFault::Memory(call)) => return Err(CallFault::Memory(call)),
+            Err(StepFault::Lost(call)) => return Err(CallFault::Lost(call)),
         }
     }
 
@@ -193,6 +204,15 @@ impl<F: Store> Held<F> {
         ensures value { IsTrue result ↔ IsNearlyFull self.now.limits.calls self.now.begin (untimed self.now.made) }
     {
         self.shard.is_nearly_full()
+    }
+
+    /// The shard's store. It has noted what the shard began with, and its entries.
+    pub fn store(&self) -> &F
+        ensures same { result.now ≡ self.now.folder }
+        ensures begin { (F.notes self.now.folder).begin ≡ self.now.begin }
+        ensures made { (F.notes self.now.folder).made ≡ self.now.made }
+    {
+        self.shard.store()
     }
 
     /// The last stamp, or the last one before the beginning.

@@ -1,11 +1,11 @@
 //! The host.
-ghost use Rattle.std.specs.Prelude.{◌≡◌, ◌+◌, ◌<◌, ◌≤◌, ◌∷◌, [], ◌++◌, length, map, is_some, IfOk, IfErr, OnOk, OnErr, None, Some, IsSomeAnd, IsTrue, max, ◌↔◌};
+ghost use Rattle.std.specs.Prelude.{◌≡◌, ◌+◌, ◌<◌, ◌≤◌, ◌∷◌, [], ◌++◌, length, map, is_some, IfOk, IfErr, OnOk, OnErr, None, Some, IsSomeAnd, IsTrue, max, ◌↔◌, false, true, not};
 ghost use Rattle.std.specs.List.{AllByRecursion};
 ghost use Rattle.wopi_model.specs.Host.{kept_limits};
 ghost use Rattle.wopi_model.specs.Moment.{IsMoment};
 ghost use Rattle.host_core.specs.Opening.{IsFirstVersion};
 ghost use Rattle.wopi_text.specs.FileName.{shard_of};
-ghost use Rattle.host_core.specs.Caller.{Makes, MakesForEditor, Refuses, Frames, entry_of};
+ghost use Rattle.host_core.specs.Caller.{Makes, MakesForEditor, Refuses, Frames, entry_of, IsLostCall};
 ghost use Rattle.host_core.specs.Facts.{made_for};
 ghost use Rattle.host_core.specs.Fullness.{IsNearlyFull, IsNearlyFullAt};
 ghost use Rattle.host_core.specs.Listing.{IsListing, Lists, LooksAt};
@@ -14,7 +14,7 @@ ghost use Rattle.host_table.specs.Histories.{as_opened, IsSeen};
 ghost use Rattle.host_table.specs.Passes.{locks_of, own_of, last_seen, top, sight_of, kept_pass, given_pass, IsPassOf, IsSamePass, HasSeen, AreBases};
 ghost use Rattle.host_table.specs.Start.{first_seats, first_pass, AreHanded, IsBlamed, Starts, StartsKept};
 ghost use Rattle.host_table.specs.Close.{IsWhole, Ends};
-ghost use Rattle.host_table.specs.Calls.{Calls, CallsForEditor, Glances, Looks};
+ghost use Rattle.host_table.specs.Calls.{Calls, CallsForEditor, Glances, Looks, AreNotesOf, AreSeenAt};
 
 use crate::closing::end_host;
 use crate::held::Held;
@@ -72,7 +72,7 @@ pub enum CloseFault<F: Store> {
     Memory(Host<F>, Vec<Pass<F>>),
 }
 
-/// One call in the shard's turn. `last` is the pass's last stamp.
+/// One call in the shard's turn. `last` is the pass's last stamp. Contracts see the shard's store, as the turn left it.
 fn turn<F: Store, R: Wait>(
     rt: &R,
     lock: &TurnLock<Held<F>>,
@@ -81,24 +81,28 @@ fn turn<F: Store, R: Wait>(
     number: u32,
     last: &mut u64,
     moment: u64,
-) -> Result<Receipt, CallFault>
+) -> (Result<Receipt, CallFault>, Snapshot<F>)
     requires lock { seat.old.lock ≡ lock.now }
     requires free { seat.old.taken ≡ None }
     requires based { IsSomeAnd seat.old.base (λ base. base.only ≡ Some (shard_of call.name)) }
     requires moment { IsMoment moment }
     ensures last { last.new ≡ max last.old (last_seen seat.new) }
     ensures seen { IsSomeAnd seat.old.base (λ base. IsSeen base seat.new.seen) }
-    ensures made { IfOk result (λ receipt. Calls seat.old call number last.old moment receipt seat.new) }
-    ensures refused { IfErr result (λ refusal. Looks seat.old call last.old moment refusal seat.new) }
+    ensures made { IfOk result.0 (λ receipt. Calls seat.old call number last.old moment receipt seat.new) }
+    ensures refused { IfErr result.0 (λ refusal. Looks seat.old call last.old moment refusal seat.new) }
+    ensures noted { AreSeenAt (F.notes result.1.value) seat.new }
+    ensures told { IfOk result.0 (λ receipt. receipt.told ≡ not (F.lost result.1.value)) }
+    ensures lost { IfErr result.0 (λ refusal. IsLostCall refusal → F.lost result.1.value ≡ true) }
 {
     let mut held = lock.take(rt, seat);
     let answer = held.call(call, number, *last, moment);
     *last = (*last).max(held.last());
+    let store = Snapshot::of(held.store());
     lock.give_back(seat, held);
-    answer
+    (answer, store)
 }
 
-/// One call of an editor in the shard's turn. `last` is the pass's last stamp.
+/// One call of an editor in the shard's turn. `last` is the pass's last stamp. Contracts see the shard's store, as the turn left it.
 fn turn_for_editor<F: Store, R: Wait>(
     rt: &R,
     lock: &TurnLock<Held<F>>,
@@ -108,21 +112,25 @@ fn turn_for_editor<F: Store, R: Wait>(
     number: u32,
     last: &mut u64,
     moment: u64,
-) -> Result<EditorReceipt, CallFault>
+) -> (Result<EditorReceipt, CallFault>, Snapshot<F>)
     requires lock { seat.old.lock ≡ lock.now }
     requires free { seat.old.taken ≡ None }
     requires based { IsSomeAnd seat.old.base (λ base. base.only ≡ Some (shard_of call.name)) }
     requires moment { IsMoment moment }
     ensures last { last.new ≡ max last.old (last_seen seat.new) }
     ensures seen { IsSomeAnd seat.old.base (λ base. IsSeen base seat.new.seen) }
-    ensures made { IfOk result (λ answer. CallsForEditor seat.old call known number last.old moment answer seat.new) }
-    ensures refused { IfErr result (λ refusal. Looks seat.old call last.old moment refusal seat.new) }
+    ensures made { IfOk result.0 (λ answer. CallsForEditor seat.old call known number last.old moment answer seat.new) }
+    ensures refused { IfErr result.0 (λ refusal. Looks seat.old call last.old moment refusal seat.new) }
+    ensures noted { AreSeenAt (F.notes result.1.value) seat.new }
+    ensures told { IfOk result.0 (λ answer. answer.receipt.told ≡ not (F.lost result.1.value)) }
+    ensures lost { IfErr result.0 (λ refusal. IsLostCall refusal → F.lost result.1.value ≡ true) }
 {
     let mut held = lock.take(rt, seat);
     let answer = held.call_for_editor(call, known, number, *last, moment);
     *last = (*last).max(held.last());
+    let store = Snapshot::of(held.store());
     lock.give_back(seat, held);
-    answer
+    (answer, store)
 }
 
 /// A listing in the shard's turn. `last` is the pass's last stamp.
@@ -303,7 +311,8 @@ impl<F: Store> Host<F> {
     }
 
     /// One step of the call's shard at a moment, in milliseconds, in a turn that the pass waits for. The entry's
-    /// stamp passes the pass's last stamp, and so all that the pass had seen in any shard.
+    /// stamp passes the pass's last stamp, and so all that the pass had seen in any shard. The answer may be told where the
+    /// shard's store, which has noted the entry, is not lost; a call is refused as lost where it is.
     pub fn call<R: Wait>(
         &self,
         rt: &R,
@@ -316,9 +325,39 @@ impl<F: Store> Host<F> {
         ensures made { IfOk result (Makes (sight_of pass.old) (sight_of pass.new) call moment) }
         ensures refused { IfErr result (Refuses (sight_of pass.old) (sight_of pass.new) call moment) }
         ensures frame { Frames (sight_of pass.old) (sight_of pass.new) call.name }
+        ensures told { IfOk result (λ receipt. (store : F) × AreNotesOf (sight_of pass.new) (shard_of call.name) (F.notes store) × (receipt.told ≡ not (F.lost store))) }
+        ensures loses { IfOk result (λ receipt. receipt.told ≡ false → F.loses ≡ true) }
+        ensures lost { IfErr result (λ refusal. IsLostCall refusal → (store : F) × AreNotesOf (sight_of pass.new) (shard_of call.name) (F.notes store) × (F.lost store ≡ true)) }
+        ensures may_lose { IfErr result (λ refusal. IsLostCall refusal → F.loses ≡ true) }
         ensures own { IfOk result (λ receipt. own_of pass.new ≡ own_of pass.old
-            ++ record { shard = receipt.shard; place = receipt.place; entry = entry_of pass.old.number call moment receipt } ∷ []) }
+            ++ record { shard = receipt.shard; place = receipt.place; entry = entry_of pass.old.number call moment receipt; told = receipt.told } ∷ []) }
         ensures none { OnErr result (own_of pass.new ≡ own_of pass.old) }
+        ensures same { IsSamePass pass.old pass.new }
+        ensures seen { HasSeen pass.new }
+    {
+        let (answer, _store) = self.call_at_store(rt, pass, call, moment);
+        answer
+    }
+
+    /// The same, where contracts see the store of the call's shard, as the turn left it.
+    pub(crate) fn call_at_store<R: Wait>(
+        &self,
+        rt: &R,
+        pass: &mut Pass<F>,
+        call: Call,
+        moment: u64,
+    ) -> (Result<Receipt, CallFault>, Snapshot<F>)
+        requires host { locks_of pass.old ≡ self.now.locks }
+        requires moment { IsMoment moment }
+        ensures made { IfOk result.0 (Makes (sight_of pass.old) (sight_of pass.new) call moment) }
+        ensures refused { IfErr result.0 (Refuses (sight_of pass.old) (sight_of pass.new) call moment) }
+        ensures frame { Frames (sight_of pass.old) (sight_of pass.new) call.name }
+        ensures noted { AreNotesOf (sight_of pass.new) (shard_of call.name) (F.notes result.1.value) }
+        ensures told { IfOk result.0 (λ receipt. receipt.told ≡ not (F.lost result.1.value)) }
+        ensures lost { IfErr result.0 (λ refusal. IsLostCall refusal → F.lost result.1.value ≡ true) }
+        ensures own { IfOk result.0 (λ receipt. own_of pass.new ≡ own_of pass.old
+            ++ record { shard = receipt.shard; place = receipt.place; entry = entry_of pass.old.number call moment receipt; told = receipt.told } ∷ []) }
+        ensures none { OnErr result.0 (own_of pass.new ≡ own_of pass.old) }
         ensures same { IsSamePass pass.old pass.new }
         ensures seen { HasSeen pass.new }
     {
@@ -345,13 +384,50 @@ impl<F: Store> Host<F> {
         ensures made { IfOk result (MakesForEditor (sight_of pass.old) (sight_of pass.new) call known moment) }
         ensures refused { IfErr result (Refuses (sight_of pass.old) (sight_of pass.new) call moment) }
         ensures frame { Frames (sight_of pass.old) (sight_of pass.new) call.name }
+        ensures told { IfOk result (λ answer. (store : F) × AreNotesOf (sight_of pass.new) (shard_of call.name) (F.notes store) × (answer.receipt.told ≡ not (F.lost store))) }
+        ensures loses { IfOk result (λ answer. answer.receipt.told ≡ false → F.loses ≡ true) }
+        ensures lost { IfErr result (λ refusal. IsLostCall refusal → (store : F) × AreNotesOf (sight_of pass.new) (shard_of call.name) (F.notes store) × (F.lost store ≡ true)) }
+        ensures may_lose { IfErr result (λ refusal. IsLostCall refusal → F.loses ≡ true) }
         ensures own { IfOk result (λ answer. own_of pass.new ≡ own_of pass.old
             ++ record {
               shard = answer.receipt.shard;
               place = answer.receipt.place;
               entry = entry_of pass.old.number (made_for (is_some answer.late) call) moment answer.receipt;
+              told = answer.receipt.told;
             } ∷ []) }
         ensures none { OnErr result (own_of pass.new ≡ own_of pass.old) }
+        ensures same { IsSamePass pass.old pass.new }
+        ensures seen { HasSeen pass.new }
+    {
+        let (answer, _store) = self.call_for_editor_at_store(rt, pass, call, known, moment);
+        answer
+    }
+
+    /// The same, where contracts see the store of the call's shard, as the turn left it.
+    pub(crate) fn call_for_editor_at_store<R: Wait>(
+        &self,
+        rt: &R,
+        pass: &mut Pass<F>,
+        call: Call,
+        known: Option<u64>,
+        moment: u64,
+    ) -> (Result<EditorReceipt, CallFault>, Snapshot<F>)
+        requires host { locks_of pass.old ≡ self.now.locks }
+        requires moment { IsMoment moment }
+        ensures made { IfOk result.0 (MakesForEditor (sight_of pass.old) (sight_of pass.new) call known moment) }
+        ensures refused { IfErr result.0 (Refuses (sight_of pass.old) (sight_of pass.new) call moment) }
+        ensures frame { Frames (sight_of pass.old) (sight_of pass.new) call.name }
+        ensures noted { AreNotesOf (sight_of pass.new) (shard_of call.name) (F.notes result.1.value) }
+        ensures told { IfOk result.0 (λ answer. answer.receipt.told ≡ not (F.lost result.1.value)) }
+        ensures lost { IfErr result.0 (λ refusal. IsLostCall refusal → F.lost result.1.value ≡ true) }
+        ensures own { IfOk result.0 (λ answer. own_of pass.new ≡ own_of pass.old
+            ++ record {
+              shard = answer.receipt.shard;
+              place = answer.receipt.place;
+              entry = entry_of pass.old.number (made_for (is_some answer.late) call) moment answer.receipt;
+              told = answer.receipt.told;
+            } ∷ []) }
+        ensures none { OnErr result.0 (own_of pass.new ≡ own_of pass.old) }
         ensures same { IsSamePass pass.old pass.new }
         ensures seen { HasSeen pass.new }
     {

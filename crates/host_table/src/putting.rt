@@ -15,6 +15,7 @@ use outside::{Failed, Sink, write_whole};
 pub fn send<K: Sink>(sink: &mut K, room: &mut WriteRoom) -> Result<(), Failed>
     ensures bytes { Gathers (K.held sink.old) (K.held sink.new) room.old.bytes.items room.new.bytes.items result [] }
     ensures none { OnOk result (room.new.bytes.items ≡ []) }
+    ensures beside { K.beside_writes sink.new ≡ K.beside_writes sink.old }
     ensures never_falls { K.write_faults sink.old ≤ K.write_faults sink.new }
     ensures failed { OnErr result (Rose (K.write_faults sink.old) (K.write_faults sink.new)) }
 {
@@ -30,6 +31,7 @@ pub fn send<K: Sink>(sink: &mut K, room: &mut WriteRoom) -> Result<(), Failed>
 /// Writes a text behind what was gathered.
 fn send_behind<K: Sink>(sink: &mut K, room: &mut WriteRoom, text: &[u8]) -> Result<(), Failed>
     ensures bytes { Gathers (K.held sink.old) (K.held sink.new) room.old.bytes.items room.new.bytes.items result text.now }
+    ensures beside { K.beside_writes sink.new ≡ K.beside_writes sink.old }
     ensures never_falls { K.write_faults sink.old ≤ K.write_faults sink.new }
     ensures failed { OnErr result (Rose (K.write_faults sink.old) (K.write_faults sink.new)) }
 {
@@ -65,6 +67,7 @@ fn gather(room: &mut WriteRoom, text: &[u8])
 /// Gathers a text, or writes it where there is no room for it.
 fn put<K: Sink>(sink: &mut K, room: &mut WriteRoom, text: &[u8]) -> Result<(), Failed>
     ensures bytes { Gathers (K.held sink.old) (K.held sink.new) room.old.bytes.items room.new.bytes.items result text.now }
+    ensures beside { K.beside_writes sink.new ≡ K.beside_writes sink.old }
     ensures never_falls { K.write_faults sink.old ≤ K.write_faults sink.new }
     ensures failed { OnErr result (Rose (K.write_faults sink.old) (K.write_faults sink.new)) }
 {
@@ -78,6 +81,7 @@ fn put<K: Sink>(sink: &mut K, room: &mut WriteRoom, text: &[u8]) -> Result<(), F
 /// Puts a number in decimal.
 fn put_number<K: Sink>(sink: &mut K, room: &mut WriteRoom, number: u64) -> Result<(), Failed>
     ensures bytes { Gathers (K.held sink.old) (K.held sink.new) room.old.bytes.items room.new.bytes.items result (decimal number) }
+    ensures beside { K.beside_writes sink.new ≡ K.beside_writes sink.old }
     ensures never_falls { K.write_faults sink.old ≤ K.write_faults sink.new }
     ensures failed { OnErr result (Rose (K.write_faults sink.old) (K.write_faults sink.new)) }
 {
@@ -92,6 +96,7 @@ const STEP: usize = 2_048;
 fn put_step<K: Sink>(sink: &mut K, room: &mut WriteRoom, bytes: &[u8]) -> Result<(), Failed>
     requires { length bytes.now ≤ 2048 }
     ensures bytes { Gathers (K.held sink.old) (K.held sink.new) room.old.bytes.items room.new.bytes.items result (encode_lower bytes.now) }
+    ensures beside { K.beside_writes sink.new ≡ K.beside_writes sink.old }
     ensures never_falls { K.write_faults sink.old ≤ K.write_faults sink.new }
     ensures failed { OnErr result (Rose (K.write_faults sink.old) (K.write_faults sink.new)) }
 {
@@ -106,6 +111,7 @@ fn put_step<K: Sink>(sink: &mut K, room: &mut WriteRoom, bytes: &[u8]) -> Result
 /// Puts bytes in hex.
 fn put_hex<K: Sink>(sink: &mut K, room: &mut WriteRoom, bytes: &[u8]) -> Result<(), Failed>
     ensures bytes { Gathers (K.held sink.old) (K.held sink.new) room.old.bytes.items room.new.bytes.items result (encode_lower bytes.now) }
+    ensures beside { K.beside_writes sink.new ≡ K.beside_writes sink.old }
     ensures never_falls { K.write_faults sink.old ≤ K.write_faults sink.new }
     ensures failed { OnErr result (Rose (K.write_faults sink.old) (K.write_faults sink.new)) }
 {
@@ -124,6 +130,7 @@ fn put_hex<K: Sink>(sink: &mut K, room: &mut WriteRoom, bytes: &[u8]) -> Result<
 /// Puts a piece of a line.
 fn put_piece<K: Sink>(sink: &mut K, room: &mut WriteRoom, piece: Piece<'_>) -> Result<(), Failed>
     ensures bytes { Gathers (K.held sink.old) (K.held sink.new) room.old.bytes.items room.new.bytes.items result (piece_text piece.entry) }
+    ensures beside { K.beside_writes sink.new ≡ K.beside_writes sink.old }
     ensures never_falls { K.write_faults sink.old ≤ K.write_faults sink.new }
     ensures failed { OnErr result (Rose (K.write_faults sink.old) (K.write_faults sink.new)) }
 {
@@ -146,6 +153,7 @@ pub fn put_pieces<K: Sink>(
     pieces: &[Piece<'_>],
 ) -> Result<(), Failed>
     ensures bytes { Gathers (K.held sink.old) (K.held sink.new) room.old.bytes.items room.new.bytes.items result (flat_map piece_text pieces.now) }
+    ensures beside { K.beside_writes sink.new ≡ K.beside_writes sink.old }
     ensures never_falls { K.write_faults sink.old ≤ K.write_faults sink.new }
     ensures failed { OnErr result (Rose (K.write_faults sink.old) (K.write_faults sink.new)) }
 {

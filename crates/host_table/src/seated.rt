@@ -1,5 +1,5 @@
 //! A pass at its host, as a caller.
-ghost use Rattle.std.specs.Prelude.{◌≡◌, [], ◌∷◌, false};
+ghost use Rattle.std.specs.Prelude.{◌≡◌, ◌&&◌, not, [], ◌∷◌, true, false};
 ghost use Rattle.host_table.specs.Passes.{locks_of, top, AreBelow, IsPassOf, AreInShards};
 ghost use Rattle.host_table.specs.Seated.{AreInShards-prop};
 
@@ -18,6 +18,11 @@ pub struct Seated<'a, R: Wait, F: Store> {
     rt: &'a R,
     host: &'a Host<F>,
     pass: &'a mut Pass<F>,
+    /// The shard of the last call, and whether that found or left its store lost.
+    shard: u8,
+    lost: bool,
+    /// No call did.
+    telling: bool,
     ghost of_host: { locks_of pass.now ≡ host.now.locks },
     ghost last_is: { pass.now.last ≡ top pass.now.seats },
     ghost below: { AreBelow pass.now.last pass.now.seats },
@@ -46,16 +51,39 @@ impl<'a, R: Wait, F: Store> Seated<'a, R, F> {
         ensures pass { result.pass.now ≡ pass.old }
         ensures host { result.host.now ≡ host.now }
         ensures reference { result.pass.ghost_name ≡ pass.entry.ghost_name }
+        ensures telling { result.telling ≡ true }
     {
         pass.look();
-        Seated { rt, host, pass }
+        Seated {
+            rt,
+            host,
+            pass,
+            shard: 0,
+            lost: false,
+            telling: true,
+        }
+    }
+}
+
+impl<R: Wait, F: Store> Seated<'_, R, F> {
+    /// Notes whether the last call, on that shard, may be told.
+    fn note(&mut self, shard: u8, told: bool)
+        ensures shard { self.new.shard ≡ shard }
+        ensures lost { self.new.lost ≡ not told }
+        ensures telling { self.new.telling ≡ (self.old.telling && told) }
+        ensures pass { self.new.pass ≡ self.old.pass }
+        ensures host { self.new.host ≡ self.old.host }
+    {
+        self.shard = shard;
+        self.lost = !told;
+        self.telling = self.telling && told;
     }
 }
 
 impl<R: Wait, F: Store> Caller for Seated<'_, R, F> {
     ghost use Rattle.std.specs.Prelude.{[], ◌∷◌};
     ghost use Rattle.host_table.specs.Passes.{sight_of};
-    ghost use Rattle.host_table.specs.Seated.{basis_of, SeesShards};
+    ghost use Rattle.host_table.specs.Seated.{basis_of, is_lost_at, loses_at, SeesShards};
     ghost use Rattle.host_table.specs.Sights.{has_its_floor, sees_its_shards};
 
     type Basis = Footing<F>;
@@ -68,12 +96,32 @@ impl<R: Wait, F: Store> Caller for Seated<'_, R, F> {
 
     ghost references = { λ seated. seated.pass.ghost_name ∷ [] };
 
+    ghost lost = { λ seated name. is_lost_at F.loses seated.shard seated.lost name };
+
+    ghost telling = { λ seated. seated.telling };
+
+    ghost loses = { F.loses };
+
+    ghost loses_is = { λ seated name. loses_at F.loses seated.shard seated.lost name };
+
     ghost has_floor = { λ seated. has_its_floor seated.pass.now seated.last_is };
 
     ghost is_always = { λ seated. sees_its_shards seated.pass.now seated.named seated.below };
 
     fn call(&mut self, call: Call, moment: u64) -> Result<Receipt, CallFault> {
-        self.host.call(self.rt, self.pass, call, moment)
+        let shard = call.name.shard();
+        match self.host.call(self.rt, self.pass, call, moment) {
+            Ok(receipt) => {
+                self.note(shard, receipt.told);
+                return Ok(receipt);
+            }
+            Err(CallFault::Lost(call)) => {
+                self.note(shard, false);
+                return Err(CallFault::Lost(call));
+            }
+            Err(CallFault::Full(call)) => return Err(CallFault::Full(call)),
+            Err(CallFault::Memory(call)) => return Err(CallFault::Memory(call)),
+        }
     }
 
     fn call_for_editor(
@@ -82,8 +130,26 @@ impl<R: Wait, F: Store> Caller for Seated<'_, R, F> {
         known: Option<u64>,
         moment: u64,
     ) -> Result<EditorReceipt, CallFault> {
-        self.host
+        let shard = call.name.shard();
+        match self
+            .host
             .call_for_editor(self.rt, self.pass, call, known, moment)
+        {
+            Ok(answer) => {
+                self.note(shard, answer.receipt.told);
+                return Ok(answer);
+            }
+            Err(CallFault::Lost(call)) => {
+                self.note(shard, false);
+                return Err(CallFault::Lost(call));
+            }
+            Err(CallFault::Full(call)) => return Err(CallFault::Full(call)),
+            Err(CallFault::Memory(call)) => return Err(CallFault::Memory(call)),
+        }
+    }
+
+    fn is_telling(&self) -> bool {
+        self.telling
     }
 }
 

@@ -1,9 +1,9 @@
-use Rattle.std.proofs.Common.{sym, ap, subst, Option, List, IsSomeAnd}
+use Rattle.std.proofs.Common.{◌∙◌, sym, ap, subst, Option, List, IsSomeAnd}
 use mathlib.Core.List.{IsPrefix}
 use Rattle.host_core.specs.Entries.{Made}
 use Rattle.host_table.specs.Passes.{Place}
-use Rattle.host_table.specs.Calls.{CallsForEditor, Looks}
-use Rattle.host_table.proofs.Turning.{grown_for_editor, given_back, seen_call, edited_call, refused_call, err_map}
+use Rattle.host_table.specs.Calls.{AreSeenAt, CallsForEditor, Looks}
+use Rattle.host_table.proofs.Turning.{grown_for_editor, given_back, seen_call, noted_given, edited_call, refused_call, err_map}
 use Rattle.host_core.proofs.Results.{ifok_map}
 use Rattle.host_table.proofs.host.turn_for_editor.Goals as goal
 
@@ -31,3 +31,11 @@ returns-clause-refused g c =
     let after = given_back v c.take-held.new.seat w old new c.take-held.ensures.seat c.give_back.ensures in
     err_map c.call_for_editor-answer.result _ (λ refusal. Looks v c.args.call c.args.last.now c.args.moment refusal w)
     (λ refusal declines. refused_call v w old new c.args.call c.args.last.now c.args.moment refusal c.requires.free c.take-held.ensures.base c.take-held.ensures.prefix after declines) c.call_for_editor-answer.ensures.refused
+
+pub returns-clause-noted : goal.returns-clause-noted
+returns-clause-noted g c =
+    let v = c.args.seat.now in let w = c.give_back.new.seat in let old = c.take-held.result in let new = c.call_for_editor-answer.new.self in
+    let after = given_back v c.take-held.new.seat w old new c.take-held.ensures.seat c.give_back.ensures in
+    let notes = g.F.Store.notes in
+    subst (λ (s : g.row.F.Denot). AreSeenAt (notes s) w) (sym (c.of-store.ensures ∙ c.store.ensures.same))
+    (noted_given v w old new (notes new.folder) c.take-held.ensures.base c.call_for_editor-answer.ensures.base after c.store.ensures.begin c.store.ensures.made)

@@ -1,15 +1,16 @@
 use Rattle.std.proofs.Common.{max, Some, sym, ◌∙◌, subst, ap}
+use Rattle.std.specs.Prelude.{not}
 use Rattle.host_core.specs.declared.caller.CallFault.TheVariants as fault
 use Rattle.host_core.specs.Entries.{Made}
 use Rattle.host_core.specs.Value.{Book}
 use Rattle.host_table.specs.Held.{IsHeld}
-use Rattle.host_table.proofs.Holding.{held_push, seen_of, seen_stays, held_adds, held_declines}
+use Rattle.host_table.proofs.Holding.{held_push, seen_of, seen_stays, neither, held_adds, held_declines}
 use Rattle.host_table.proofs.held.Held.call.Goals as goal
 
 pub invariant_of-self : goal.invariant_of-self
 invariant_of-self g c =
     let F = g.row.F.Denot in let f = g.F.Folder in let old : Book F = c.self.inside.shard in
-    let one : Made = record { time = max old.time c.args.moment; step = record { stamp = c.in-Ok.stamp; pass = c.args.pass; moment = c.args.moment; call = c.args.call; ruling = c.in-Ok.ruling } } in
+    let one : Made = record { time = max old.time c.args.moment; step = record { stamp = c.in-Ok.stamp; pass = c.args.pass; moment = c.args.moment; call = c.args.call; ruling = c.in-Ok.ruling }; told = not (g.F.Store.lost c.step.new.self.folder) } in
     let P : Book F → Type 0 = λ b. IsHeld b (f.files b.start) (f.files b.folder) (f.faults b.start) (f.faults b.folder) in
     subst P (sym c.in-Ok.ensures.entry)
     (held_push old c.step.new.self.folder one (f.files old.start) (f.files old.folder) (f.files c.step.new.self.folder) (f.faults old.start) (f.faults old.folder) (f.faults c.step.new.self.folder) c.args.floor c.args.call
@@ -20,7 +21,7 @@ returns-in-Ok-clause-seen g c = seen_of c.step.new.self _ _ _ _ (invariant_of-se
 
 pub returns-in-Ok-clause-made : goal.returns-in-Ok-clause-made
 returns-in-Ok-clause-made g c =
-    rw (← c.self.view_is) (held_adds c.self.inside.shard c.step.new.self c.args.call c.args.pass c.args.floor c.args.moment _ (c.len-place.ensures.lawful.timely c.self.invariant.unticked) c.in-Ok.ensures.entry
+    rw (← c.self.view_is) (held_adds _ c.self.inside.shard c.step.new.self c.args.call c.args.pass c.args.floor c.args.moment _ (ap not (sym c.is_lost-told.ensures.lost)) (c.len-place.ensures.lawful.timely c.self.invariant.unticked) c.in-Ok.ensures.entry
     (rw c.self.view_is (c.requires.only ∙ ap Some (sym c.shard-shard.ensures))) c.len-place.ensures.count c.in-Ok.ensures.stamp c.in-Ok.ensures.room c.in-Ok.ensures.back)
 
 pub returns-in-Err-Full-clause-seen : goal.returns-in-Err-Full-clause-seen
@@ -32,9 +33,17 @@ returns-in-Err-Memory-clause-seen g c = seen_stays c.self.inside.shard c.step.ne
 pub returns-in-Err-Full-clause-refused : goal.returns-in-Err-Full-clause-refused
 returns-in-Err-Full-clause-refused g c =
     let h = rw c.in-Err-Full.field-0-is at c.in-Err-Full.ensures in
-    rw (← c.self.view_is) (held_declines c.self.inside.shard c.step.new.self c.args.call c.args.floor c.args.moment (fault.Full c.in-Err-Full.call) (c.len-place.ensures.lawful.timely c.self.invariant.unticked) h.err h.full h.call (λ light. tt))
+    rw (← c.self.view_is) (held_declines c.self.inside.shard c.step.new.self c.args.call c.args.floor c.args.moment (fault.Full c.in-Err-Full.call) (c.len-place.ensures.lawful.timely c.self.invariant.unticked) h.err h.full h.call (λ light going. tt))
 
 pub returns-in-Err-Memory-clause-refused : goal.returns-in-Err-Memory-clause-refused
 returns-in-Err-Memory-clause-refused g c =
     let h = rw c.in-Err-Memory.field-0-is at c.in-Err-Memory.ensures in
-    rw (← c.self.view_is) (held_declines c.self.inside.shard c.step.new.self c.args.call c.args.floor c.args.moment (fault.Memory c.in-Err-Memory.call) (c.len-place.ensures.lawful.timely c.self.invariant.unticked) h.err h.full h.call h.light)
+    rw (← c.self.view_is) (held_declines c.self.inside.shard c.step.new.self c.args.call c.args.floor c.args.moment (fault.Memory c.in-Err-Memory.call) (c.len-place.ensures.lawful.timely c.self.invariant.unticked) h.err h.full h.call (λ light going. neither (g.F.Store.lost c.self.inside.shard.folder) (h.lost.1) (λ stays. h.light light stays)))
+
+pub returns-in-Err-Lost-clause-seen : goal.returns-in-Err-Lost-clause-seen
+returns-in-Err-Lost-clause-seen g c = seen_stays c.self.inside.shard c.step.new.self _ _ _ _ c.self.invariant c.in-Err-Lost.ensures.err c.step.ensures.lawful.alone
+
+pub returns-in-Err-Lost-clause-refused : goal.returns-in-Err-Lost-clause-refused
+returns-in-Err-Lost-clause-refused g c =
+    let h = rw c.in-Err-Lost.field-0-is at c.in-Err-Lost.ensures in
+    rw (← c.self.view_is) (held_declines c.self.inside.shard c.step.new.self c.args.call c.args.floor c.args.moment (fault.Lost c.in-Err-Lost.call) (c.len-place.ensures.lawful.timely c.self.invariant.unticked) h.err h.full h.call (λ light going. absurd (going tt)))

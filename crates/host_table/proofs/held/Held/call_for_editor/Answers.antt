@@ -1,19 +1,18 @@
-use Rattle.std.proofs.Common.{◌≡◌, max, Bool, Some, refl, sym, ◌∙◌, subst, ap}
+use Rattle.std.proofs.Common.{◌≡◌, max, Bool, not, Some, refl, sym, ◌∙◌, subst, ap}
 use Rattle.wopi_text.specs.FileName.{shard_of}
 use Rattle.host_core.specs.declared.caller.CallFault.TheVariants as fault
-use Rattle.host_core.specs.declared.caller.EditorReceipt.{EditorReceipt}
 use Rattle.host_core.specs.Entries.{Made, history_of}
 use Rattle.host_core.specs.Facts.{is_late, made_for}
 use Rattle.host_core.specs.Value.{Book}
 use Rattle.host_table.specs.Held.{IsHeld}
-use Rattle.host_table.proofs.Holding.{held_push, seen_of, seen_stays, held_edits, held_declines, name_made}
+use Rattle.host_table.proofs.Holding.{held_push, seen_of, seen_stays, neither, held_edits, held_declines, name_made}
 use Rattle.host_table.proofs.held.Held.call_for_editor.Goals as goal
 
 pub invariant_of-self : goal.invariant_of-self
 invariant_of-self g c =
     let F = g.row.F.Denot in let f = g.F.Folder in let old : Book F = c.self.inside.shard in
     let late : Bool = is_late old.begin old.dates (history_of old.made old.time) c.args.call c.args.known c.args.moment in
-    let one : Made = record { time = max old.time c.args.moment; step = record { stamp = c.in-Ok.step.stamp; pass = c.args.pass; moment = c.args.moment; call = made_for late c.args.call; ruling = c.in-Ok.step.ruling } } in
+    let one : Made = record { time = max old.time c.args.moment; step = record { stamp = c.in-Ok.step.stamp; pass = c.args.pass; moment = c.args.moment; call = made_for late c.args.call; ruling = c.in-Ok.step.ruling }; told = not (g.F.Store.lost c.step_for_editor.new.self.folder) } in
     let P : Book F → Type 0 = λ b. IsHeld b (f.files b.start) (f.files b.folder) (f.faults b.start) (f.faults b.folder) in
     let only : old.only ≡ Some (shard_of c.args.call.name) = rw c.self.view_is c.requires.only in
     subst P (sym c.in-Ok.ensures.entry)
@@ -26,15 +25,9 @@ returns-in-Ok-clause-seen g c = seen_of c.step_for_editor.new.self _ _ _ _ (inva
 pub returns-in-Ok-clause-made : goal.returns-in-Ok-clause-made
 returns-in-Ok-clause-made g c =
     let F = g.row.F.Denot in let old : Book F = c.self.inside.shard in let new = c.step_for_editor.new.self in
-    let step = c.in-Ok.step in
-    let answer : EditorReceipt = record {
-      receipt = record { stamp = step.stamp; shard = c.shard-shard.result; place = c.len-place.result; ruling = step.ruling; back = step.back };
-      late = step.late;
-      facts = step.facts;
-    } in
     let late : Bool = is_late old.begin old.dates (history_of old.made old.time) c.args.call c.args.known c.args.moment in
     let still = ap (λ (b : Book F). b.ticked) c.in-Ok.ensures.entry ∙ c.self.invariant.unticked in
-    rw (← c.self.view_is) (held_edits old new c.args.call c.args.known c.args.pass c.args.floor c.args.moment answer late (c.len-place.ensures.lawful.timely c.self.invariant.unticked) (c.step_for_editor.ensures.lawful.timely still) refl c.in-Ok.ensures.entry
+    rw (← c.self.view_is) (held_edits _ old new c.args.call c.args.known c.args.pass c.args.floor c.args.moment _ late (ap not (sym c.is_lost-is_told.ensures.lost)) (c.len-place.ensures.lawful.timely c.self.invariant.unticked) (c.step_for_editor.ensures.lawful.timely still) refl c.in-Ok.ensures.entry
     (rw c.self.view_is (c.requires.only ∙ ap Some (sym c.shard-shard.ensures))) c.len-place.ensures.count c.in-Ok.ensures.stamp c.in-Ok.ensures.room c.in-Ok.ensures.back c.in-Ok.ensures.late c.in-Ok.ensures.facts c.in-Ok.ensures.moment)
 
 pub returns-in-Err-Full-clause-seen : goal.returns-in-Err-Full-clause-seen
@@ -46,9 +39,17 @@ returns-in-Err-Memory-clause-seen g c = seen_stays c.self.inside.shard c.step_fo
 pub returns-in-Err-Full-clause-refused : goal.returns-in-Err-Full-clause-refused
 returns-in-Err-Full-clause-refused g c =
     let h = rw c.in-Err-Full.field-0-is at c.in-Err-Full.ensures in
-    rw (← c.self.view_is) (held_declines c.self.inside.shard c.step_for_editor.new.self c.args.call c.args.floor c.args.moment (fault.Full c.in-Err-Full.call) (c.len-place.ensures.lawful.timely c.self.invariant.unticked) h.err h.full h.call (λ light. tt))
+    rw (← c.self.view_is) (held_declines c.self.inside.shard c.step_for_editor.new.self c.args.call c.args.floor c.args.moment (fault.Full c.in-Err-Full.call) (c.len-place.ensures.lawful.timely c.self.invariant.unticked) h.err h.full h.call (λ light going. tt))
 
 pub returns-in-Err-Memory-clause-refused : goal.returns-in-Err-Memory-clause-refused
 returns-in-Err-Memory-clause-refused g c =
     let h = rw c.in-Err-Memory.field-0-is at c.in-Err-Memory.ensures in
-    rw (← c.self.view_is) (held_declines c.self.inside.shard c.step_for_editor.new.self c.args.call c.args.floor c.args.moment (fault.Memory c.in-Err-Memory.call) (c.len-place.ensures.lawful.timely c.self.invariant.unticked) h.err h.full h.call h.light)
+    rw (← c.self.view_is) (held_declines c.self.inside.shard c.step_for_editor.new.self c.args.call c.args.floor c.args.moment (fault.Memory c.in-Err-Memory.call) (c.len-place.ensures.lawful.timely c.self.invariant.unticked) h.err h.full h.call (λ light going. neither (g.F.Store.lost c.self.inside.shard.folder) (h.lost.1) (λ stays. h.light light stays)))
+
+pub returns-in-Err-Lost-clause-seen : goal.returns-in-Err-Lost-clause-seen
+returns-in-Err-Lost-clause-seen g c = seen_stays c.self.inside.shard c.step_for_editor.new.self _ _ _ _ c.self.invariant c.in-Err-Lost.ensures.err c.step_for_editor.ensures.lawful.alone
+
+pub returns-in-Err-Lost-clause-refused : goal.returns-in-Err-Lost-clause-refused
+returns-in-Err-Lost-clause-refused g c =
+    let h = rw c.in-Err-Lost.field-0-is at c.in-Err-Lost.ensures in
+    rw (← c.self.view_is) (held_declines c.self.inside.shard c.step_for_editor.new.self c.args.call c.args.floor c.args.moment (fault.Lost c.in-Err-Lost.call) (c.len-place.ensures.lawful.timely c.self.invariant.unticked) h.err h.full h.call (λ light going. absurd (going tt)))

@@ -1,73 +1,20 @@
-use Rattle.std.proofs.Common.{◌≡◌, ◌∙◌, arith}
-use Rattle.wopi_text.specs.FileName.{shard_of}
-use Rattle.host_table.specs.Views.{pass_of}
-use Rattle.host_table.proofs.Calling.{seat_is, based_call}
-use Rattle.host_table.proofs.Editing.{pass_told, frames_told, same_told, seen_told, edits_told, refuses_told, own_told, own_stays_told}
+use Rattle.std.proofs.Common.{sym, ◌∙◌}
+use Rattle.host_core.proofs.Results.{ifok_map}
+use Rattle.host_table.proofs.Turning.{err_map, lost_of}
 use Rattle.host_table.proofs.host.Host.call_for_editor.Goals as goal
 
-pub turn_for_editor-requires-clause-free : goal.turn_for_editor-requires-clause-free
-turn_for_editor-requires-clause-free g c =
-    let home : c.from-shard.result ≡ shard_of c.args.call.name = c.from-shard.ensures ∙ c.shard.ensures in
-    let seat = seat_is (pass_of c.pass.inside) c.from-shard.result c.index_mut-seat.result.now c.index_mut-seat.result.now c.pass.invariant (omega arith) c.index_mut-seat.ensures.value in seat.free
+pub returns-clause-told : goal.returns-clause-told
+returns-clause-told g c =
+    ifok_map c.call_for_editor_at_store-answer.result.0 _ _ (λ answer told. (c.call_for_editor_at_store-answer.result.1.value, c.call_for_editor_at_store-answer.ensures.noted, told)) c.call_for_editor_at_store-answer.ensures.told
 
-pub turn_for_editor-requires-clause-based : goal.turn_for_editor-requires-clause-based
-turn_for_editor-requires-clause-based g c =
-    let home : c.from-shard.result ≡ shard_of c.args.call.name = c.from-shard.ensures ∙ c.shard.ensures in
-    let seat = seat_is (pass_of c.pass.inside) c.from-shard.result c.index_mut-seat.result.now c.index_mut-seat.result.now c.pass.invariant (omega arith) c.index_mut-seat.ensures.value in
-    based_call (pass_of c.pass.inside) c.from-shard.result c.index_mut-seat.result.now c.args.call.name seat home
+pub returns-clause-lost : goal.returns-clause-lost
+returns-clause-lost g c =
+    err_map c.call_for_editor_at_store-answer.result.0 _ _ (λ refusal lost is. (c.call_for_editor_at_store-answer.result.1.value, c.call_for_editor_at_store-answer.ensures.noted, lost is)) c.call_for_editor_at_store-answer.ensures.lost
 
-pub invariant_of-pass : goal.invariant_of-pass
-invariant_of-pass g c =
-    let home : c.from-shard.result ≡ shard_of c.args.call.name = c.from-shard.ensures ∙ c.shard.ensures in
-    pass_told (pass_of c.pass.inside) c.from-shard.result c.index_mut-seat.result.now c.turn_for_editor.new.seat c.pass.invariant (omega arith) c.index_mut-seat.ensures.value
-    c.turn_for_editor.new.last c.args.call c.args.known c.args.moment home c.turn_for_editor.ensures.seen c.turn_for_editor.ensures.last
-    c.turn_for_editor.result c.turn_for_editor.ensures.made c.turn_for_editor.ensures.refused
+pub returns-clause-loses : goal.returns-clause-loses
+returns-clause-loses g c =
+    ifok_map c.call_for_editor_at_store-answer.result.0 _ _ (λ answer told untold. g.F.Store.loses_is c.call_for_editor_at_store-answer.result.1.value (lost_of (g.F.Store.lost c.call_for_editor_at_store-answer.result.1.value) (sym told ∙ untold))) c.call_for_editor_at_store-answer.ensures.told
 
-pub returns-clause-made : goal.returns-clause-made
-returns-clause-made g c =
-    let home : c.from-shard.result ≡ shard_of c.args.call.name = c.from-shard.ensures ∙ c.shard.ensures in
-    rw (← c.pass.view_is) (edits_told (pass_of c.pass.inside) c.from-shard.result c.index_mut-seat.result.now c.turn_for_editor.new.seat c.pass.invariant (omega arith) c.index_mut-seat.ensures.value
-    c.turn_for_editor.new.last c.args.call c.args.known c.args.moment home c.turn_for_editor.ensures.seen c.turn_for_editor.ensures.last
-    c.turn_for_editor.result c.turn_for_editor.ensures.made c.turn_for_editor.ensures.refused)
-
-pub returns-clause-refused : goal.returns-clause-refused
-returns-clause-refused g c =
-    let home : c.from-shard.result ≡ shard_of c.args.call.name = c.from-shard.ensures ∙ c.shard.ensures in
-    rw (← c.pass.view_is) (refuses_told (pass_of c.pass.inside) c.from-shard.result c.index_mut-seat.result.now c.turn_for_editor.new.seat c.pass.invariant (omega arith) c.index_mut-seat.ensures.value
-    c.turn_for_editor.new.last c.args.call c.args.known c.args.moment home c.turn_for_editor.ensures.seen c.turn_for_editor.ensures.last
-    c.turn_for_editor.result c.turn_for_editor.ensures.made c.turn_for_editor.ensures.refused)
-
-pub returns-clause-frame : goal.returns-clause-frame
-returns-clause-frame g c =
-    let home : c.from-shard.result ≡ shard_of c.args.call.name = c.from-shard.ensures ∙ c.shard.ensures in
-    rw (← c.pass.view_is) (frames_told (pass_of c.pass.inside) c.from-shard.result c.index_mut-seat.result.now c.turn_for_editor.new.seat c.pass.invariant (omega arith) c.index_mut-seat.ensures.value
-    c.turn_for_editor.new.last c.args.call c.args.known c.args.moment home c.turn_for_editor.ensures.seen c.turn_for_editor.ensures.last
-    c.turn_for_editor.result c.turn_for_editor.ensures.made c.turn_for_editor.ensures.refused)
-
-pub returns-clause-own : goal.returns-clause-own
-returns-clause-own g c =
-    let home : c.from-shard.result ≡ shard_of c.args.call.name = c.from-shard.ensures ∙ c.shard.ensures in
-    rw (← c.pass.view_is) (own_told (pass_of c.pass.inside) c.from-shard.result c.index_mut-seat.result.now c.turn_for_editor.new.seat c.pass.invariant (omega arith) c.index_mut-seat.ensures.value
-    c.turn_for_editor.new.last c.args.call c.args.known c.args.moment home c.turn_for_editor.ensures.seen c.turn_for_editor.ensures.last
-    c.turn_for_editor.result c.turn_for_editor.ensures.made c.turn_for_editor.ensures.refused)
-
-pub returns-clause-none : goal.returns-clause-none
-returns-clause-none g c =
-    let home : c.from-shard.result ≡ shard_of c.args.call.name = c.from-shard.ensures ∙ c.shard.ensures in
-    rw (← c.pass.view_is) (own_stays_told (pass_of c.pass.inside) c.from-shard.result c.index_mut-seat.result.now c.turn_for_editor.new.seat c.pass.invariant (omega arith) c.index_mut-seat.ensures.value
-    c.turn_for_editor.new.last c.args.call c.args.known c.args.moment home c.turn_for_editor.ensures.seen c.turn_for_editor.ensures.last
-    c.turn_for_editor.result c.turn_for_editor.ensures.made c.turn_for_editor.ensures.refused)
-
-pub returns-clause-same : goal.returns-clause-same
-returns-clause-same g c =
-    let home : c.from-shard.result ≡ shard_of c.args.call.name = c.from-shard.ensures ∙ c.shard.ensures in
-    rw (← c.pass.view_is) (same_told (pass_of c.pass.inside) c.from-shard.result c.index_mut-seat.result.now c.turn_for_editor.new.seat c.pass.invariant (omega arith) c.index_mut-seat.ensures.value
-    c.turn_for_editor.new.last c.args.call c.args.known c.args.moment home c.turn_for_editor.ensures.seen c.turn_for_editor.ensures.last
-    c.turn_for_editor.result c.turn_for_editor.ensures.made c.turn_for_editor.ensures.refused)
-
-pub returns-clause-seen : goal.returns-clause-seen
-returns-clause-seen g c =
-    let home : c.from-shard.result ≡ shard_of c.args.call.name = c.from-shard.ensures ∙ c.shard.ensures in
-    seen_told (pass_of c.pass.inside) c.from-shard.result c.index_mut-seat.result.now c.turn_for_editor.new.seat c.pass.invariant (omega arith) c.index_mut-seat.ensures.value
-    c.turn_for_editor.new.last c.args.call c.args.known c.args.moment home c.turn_for_editor.ensures.seen c.turn_for_editor.ensures.last
-    c.turn_for_editor.result c.turn_for_editor.ensures.made c.turn_for_editor.ensures.refused
+pub returns-clause-may_lose : goal.returns-clause-may_lose
+returns-clause-may_lose g c =
+    err_map c.call_for_editor_at_store-answer.result.0 _ _ (λ refusal lost is. g.F.Store.loses_is c.call_for_editor_at_store-answer.result.1.value (lost is)) c.call_for_editor_at_store-answer.ensures.lost
