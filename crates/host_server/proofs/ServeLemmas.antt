@@ -1,5 +1,5 @@
 -- From the messages so far to a whole connection.
-use Rattle.std.proofs.Common.{◌≡◌, ◌<◌, ◌+◌, ℕ, false, List, [], ◌∷◌, ◌++◌, Option, None, Some, refl, sym, ap, ◌∙◌, subst, arith, length-append, append-nil}
+use Rattle.std.proofs.Common.{◌≡◌, ◌≢◌, ◌<◌, ◌+◌, ℕ, false, List, [], ◌∷◌, ◌++◌, Option, None, Some, refl, sym, ap, ◌∙◌, subst, arith, length-append, append-nil}
 use Rattle.std.specs.Io.KnownBytes.{Consumes, Appends, prepend_known}
 use Rattle.std.proofs.KnownBytes.{Appends-trans, Appends-nil, Consumes-trans}
 use Rattle.outside.specs.Clock.{GivesAll}
@@ -9,14 +9,16 @@ use Rattle.wopi_http.specs.Closing.{closes}
 use Rattle.wopi_http.specs.Answers.{hundred_text}
 use Rattle.wopi_http.specs.Cuts.{IsPrompt}
 use Rattle.host_server.specs.declared.connection.ConnEnd.{ConnEnd}
-use Rattle.host_server.specs.declared.connection.ConnEnd.TheVariants.{Done, ReadFault, WriteFault, Memory}
+use Rattle.host_server.specs.declared.connection.ConnEnd.TheVariants.{Done, ReadFault, WriteFault, Lost, Memory}
 use Rattle.host_server.specs.declared.connection.Progress.TheVariants.{Over}
-use Rattle.host_core.specs.Caller.{Sight}
+use Rattle.host_core.specs.Caller.{Sight, Extends}
 use Rattle.host_server.specs.declared.desk.Desk.{Desk}
-use Rattle.host_server.specs.Deeds.{Does}
+use Rattle.wopi_model.specs.Shard.{Entry}
+use Rattle.host_server.specs.Deeds.{Deed, Does, made}
+use Rattle.host_server.specs.Keeping.{AreTold}
 use Rattle.host_server.proofs.DeedLemmas.{Does-nil, Does-join}
 use Rattle.host_server.specs.Turns.{bytes_of, moments_of, parts_of, texts_of, turn_text}
-use Rattle.host_server.specs.Connection.{message_limit, is_last, IsEnd, IsNext, Serves, end_text, end_moments, end_part, next_moments, next_part}
+use Rattle.host_server.specs.Connection.{message_limit, is_last, IsEnd, IsNext, Serves, end_text, end_moments, end_part, next_line, next_moments, next_part}
 use Rattle.host_server.specs.Steps.{StepsOn, StepsOver, Breaks, Steps, Running}
 use Rattle.host_server.proofs.SequenceLemmas.{are_from, GivesAll-trans, GivesAll-nil, flat_map-one, map-one, GoOn-one}
 
@@ -33,6 +35,11 @@ stays_open count q stays = grind (arith, stays)
 
 pub has_room : (count : ℕ) (q : Request) → is_last count q ≡ false → count < message_limit → count + 1 < message_limit
 has_room count q stays few = grind (arith, stays, few)
+
+-- all that was made may be told
+told_all : (always : Sight → Type 0) (sight sight' : Sight) (deeds : List Deed) → Does always sight sight' deeds → (AreTold sight → AreTold sight')
+    → AreTold sight → Extends (sight.own ++ made deeds) sight'.told
+told_all always sight sight' deeds does keeps told = ([], keeps told ∙ does.own ∙ sym (append-nil (sight.own ++ made deeds)))
 
 module _ (desk : Desk) (always : Sight → Type 0) (left clock : Option (List ℕ)) (sight : Sight) (held : Option (List ℕ)) where
   -- before the first message
@@ -71,9 +78,9 @@ module _ (desk : Desk) (always : Sight → Type 0) (left clock : Option (List �
         }
 
     pub serves_over : (source clock'' : Option (List ℕ)) (sight'' : Sight) (held'' : Option (List ℕ)) → count < message_limit
-        → StepsOver desk always count left' clock' clock'' sight' sight'' held' held''
+        → StepsOver desk always count left' clock' clock'' sight' sight'' held' held'' → (AreTold sight → AreTold sight'')
         → Serves desk always Done left source clock clock'' sight sight'' held held''
-    serves_over source clock'' sight'' held'' few step =
+    serves_over source clock'' sight'' held'' few step keeps =
         let turns = running.turns in
         record {
           input = bytes_of turns ++ step.rest;
@@ -98,12 +105,16 @@ module _ (desk : Desk) (always : Sight → Type 0) (left clock : Option (List �
             };
             output_is = refl;
           };
+          sure = parts_of turns ++ end_part step.end;
+          are_sure = refl;
+          told = told_all always sight sight'' (parts_of turns ++ end_part step.end)
+              (Does-join always sight sight' sight'' (parts_of turns) (end_part step.end) running.makes step.makes) keeps;
         }
 
     pub serves_broken : (source clock'' : Option (List ℕ)) (sight'' : Sight) (held'' : Option (List ℕ)) → count < message_limit
-        → Breaks desk always count left' clock' clock'' sight' sight'' held' held''
+        → Breaks desk always count left' clock' clock'' sight' sight'' held' held'' → (AreTold sight → AreTold sight'')
         → Serves desk always WriteFault left source clock clock'' sight sight'' held held''
-    serves_broken source clock'' sight'' held'' few step =
+    serves_broken source clock'' sight'' held'' few step keeps =
         let turns = running.turns in
         record {
           input = bytes_of turns ++ step.rest;
@@ -129,13 +140,56 @@ module _ (desk : Desk) (always : Sight → Type 0) (left clock : Option (List �
             parts = step.parts;
             output_is = refl;
           };
+          sure = parts_of turns ++ next_part step.next;
+          are_sure = refl;
+          told = told_all always sight sight'' (parts_of turns ++ next_part step.next)
+              (Does-join always sight sight' sight'' (parts_of turns) (next_part step.next) running.makes step.makes) keeps;
+        }
+
+    -- a store was lost behind these messages, all of which may be told
+    pub serves_lost : (source clock'' : Option (List ℕ)) (sight'' : Sight) (held'' : Option (List ℕ)) → count < message_limit
+        → (breaks : Breaks desk always count left' clock' clock'' sight' sight'' held' held'') × (breaks.front ≡ next_line breaks.next)
+        → (AreTold sight → AreTold sight') → Extends sight'.told sight''.told
+        → Serves desk always Lost left source clock clock'' sight sight'' held held''
+    serves_lost source clock'' sight'' held'' few (step, front) keeps extends =
+        let turns = running.turns in
+        record {
+          input = bytes_of turns ++ step.rest;
+          moments = moments_of turns ++ next_moments step.next;
+          deeds = parts_of turns ++ next_part step.next;
+          output = texts_of turns ++ step.front;
+          reads = are_from left left' (bytes_of turns) step.rest running.reads step.reads;
+          times = GivesAll-trans clock clock' clock'' _ _ running.times step.times;
+          makes = Does-join always sight sight' sight'' (parts_of turns) (next_part step.next) running.makes step.makes;
+          writes = Appends-trans held held' held'' _ _ running.writes step.writes;
+          says = (
+            record {
+              turns = turns;
+              next = step.next;
+              rest = step.rest;
+              go_on = running.go_on;
+              few = subst (λ n. n < message_limit) (sym running.count_is) few;
+              input_is = refl;
+              is_next = subst (λ n. IsNext desk n step.rest step.next) (sym running.count_is) step.is_next;
+              moments_are = refl;
+              deeds_are = refl;
+              front = step.front;
+              back = step.back;
+              parts = step.parts;
+              output_is = refl;
+            },
+            front,
+          );
+          sure = parts_of turns;
+          are_sure = refl;
+          told = λ told. (extends.0, extends.1 ∙ ap (λ (l : List Entry). l ++ extends.0) (keeps told ∙ running.makes.own));
         }
 
     -- a read failed behind these messages
     pub serves_unread : (source clock'' : Option (List ℕ)) (sight'' : Sight) (held'' : Option (List ℕ)) → count < message_limit
-        → GivesAll clock' clock'' [] → Does always sight' sight'' [] → IsPrompt left' source held' held''
+        → GivesAll clock' clock'' [] → Does always sight' sight'' [] → IsPrompt left' source held' held'' → (AreTold sight → AreTold sight'')
         → Serves desk always ReadFault left source clock clock'' sight sight'' held held''
-    serves_unread source clock'' sight'' held'' few times makes prompt =
+    serves_unread source clock'' sight'' held'' few times makes prompt keeps =
         let turns = running.turns in
         let (rest, unread, are) = parts_of_input left' source prompt.bytes prompt.read in
         record {
@@ -162,16 +216,25 @@ module _ (desk : Desk) (always : Sight → Type 0) (left clock : Option (List �
             deeds_are = refl;
             output_is = refl;
           };
+          sure = parts_of turns;
+          are_sure = refl;
+          told = told_all always sight sight'' (parts_of turns)
+              (subst (Does always sight sight'') (append-nil (parts_of turns)) (Does-join always sight sight' sight'' (parts_of turns) [] running.makes makes)) keeps;
         }
 
     pub serves_from : (end : ConnEnd) (left'' source clock'' : Option (List ℕ)) (sight'' : Sight) (held'' : Option (List ℕ)) → count < message_limit
         → Steps desk always count left' left'' clock' clock'' sight' sight'' held' held'' (Over end)
         → (Over end ≡ Over ReadFault → IsPrompt left' source held' held'')
+        → (AreTold sight → AreTold sight') → (Over end ≢ Over Lost → AreTold sight' → AreTold sight'') → Extends sight'.told sight''.told
         → Serves desk always end left source clock clock'' sight sight'' held held''
-    serves_from Done left'' source clock'' sight'' held'' few step prompt = serves_over source clock'' sight'' held'' few step
-    serves_from ReadFault left'' source clock'' sight'' held'' few step prompt = serves_unread source clock'' sight'' held'' few step.0 step.1 (prompt refl)
-    serves_from WriteFault left'' source clock'' sight'' held'' few step prompt = serves_broken source clock'' sight'' held'' few step
-    serves_from Memory left'' source clock'' sight'' held'' few step prompt = absurd step
+    serves_from Done left'' source clock'' sight'' held'' few step prompt keeps sure extends =
+        serves_over source clock'' sight'' held'' few step (λ told. sure (λ e. cc) (keeps told))
+    serves_from ReadFault left'' source clock'' sight'' held'' few step prompt keeps sure extends =
+        serves_unread source clock'' sight'' held'' few step.0 step.1 (prompt refl) (λ told. sure (λ e. cc) (keeps told))
+    serves_from WriteFault left'' source clock'' sight'' held'' few step prompt keeps sure extends =
+        serves_broken source clock'' sight'' held'' few step (λ told. sure (λ e. cc) (keeps told))
+    serves_from Lost left'' source clock'' sight'' held'' few step prompt keeps sure extends = serves_lost source clock'' sight'' held'' few step keeps extends
+    serves_from Memory left'' source clock'' sight'' held'' few step prompt keeps sure extends = absurd step
 
 -- no memory to begin
 pub serves_nothing : (desk : Desk) (always : Sight → Type 0) (left clock : Option (List ℕ)) (sight : Sight) (held : Option (List ℕ))
@@ -188,6 +251,9 @@ serves_nothing desk always left clock sight held =
       makes = Does-nil always sight;
       writes = Appends-nil held;
       says = (are, refl, refl, refl);
+      sure = [];
+      are_sure = refl;
+      told = λ told. ([], told ∙ sym (append-nil sight.own) ∙ sym (append-nil (sight.own ++ [])));
     }
   where
     some_input : (a : Option (List ℕ)) → (input : List ℕ) × Are a input

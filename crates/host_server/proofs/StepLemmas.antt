@@ -1,5 +1,5 @@
 -- One message of a connection.
-use Rattle.std.proofs.Common.{◌≡◌, ℕ, Bool, true, false, List, [], ◌∷◌, ◌++◌, Option, None, Some, Result, Ok, Err, refl, sym, ap, ◌∙◌, subst, append_assoc}
+use Rattle.std.proofs.Common.{◌≡◌, ◌≢◌, OnErr, ℕ, Bool, true, false, List, [], ◌∷◌, ◌++◌, Option, None, Some, Result, Ok, Err, refl, sym, ap, ◌∙◌, subst, append_assoc}
 use Rattle.std.specs.Io.KnownBytes.{Consumes, Appends}
 use Rattle.std.proofs.KnownBytes.{Appends-trans}
 use Rattle.outside.specs.declared.faults.Failed.{Failed}
@@ -11,12 +11,15 @@ use Rattle.wopi_http.specs.Answers.{hundred_text, Reads, Looked, IsRefused}
 use Rattle.wopi_http.specs.Replies.{Writes}
 use Rattle.host_server.specs.Texts.{bare_reply}
 use Rattle.host_core.specs.Caller.{Sight}
+use Rattle.host_server.specs.declared.connection.Unsent.{Unsent}
+use Rattle.host_server.specs.declared.connection.Unsent.TheVariants as unsent
+use Rattle.host_server.specs.declared.connection.Progress.TheVariants.{Over}
 use Rattle.host_server.specs.declared.desk.Desk.{Desk}
 use Rattle.host_server.specs.Deeds.{Does}
 use Rattle.host_server.proofs.DeedLemmas.{Does-nil}
 use Rattle.host_server.specs.Turns.{said_text, Turn, IsTurn}
-use Rattle.host_server.specs.Connection.{is_last, closed, refused, wanted, line, reply, last}
-use Rattle.host_server.specs.Steps.{Replies, StepsOn, StepsOver, Breaks}
+use Rattle.host_server.specs.Connection.{is_last, next_line, closed, refused, wanted, line, reply, last}
+use Rattle.host_server.specs.Steps.{Replies, StepsOn, StepsOver, Breaks, Steps, as_unsent, broken}
 use Rattle.host_server.proofs.SequenceLemmas.{GivesAll-nil}
 
 -- the told input, in two parts
@@ -40,7 +43,7 @@ refused_of a hundred s at r = record {
 }
 
 module _ (desk : Desk) (always : Sight → Type 0) (count : ℕ) (q : Request) (clock clock' : Option (List ℕ)) (sight sight' : Sight) where
-  turn_of : (left left' held mid held' : Option (List ℕ)) (close : Bool) (result : Result (Unit {0}) Failed) → Reads left left' held mid (Message q)
+  turn_of : (left left' held mid held' : Option (List ℕ)) (close : Bool) (result : Result (Unit {0}) Unsent) → Reads left left' held mid (Message q)
       → Replies desk always q close clock clock' sight sight' mid held' result → (t : Turn) × IsTurn desk t × (t.request ≡ q)
       × Consumes left left' t.bytes × GivesAll clock clock' (t.moment ∷ []) × Does always sight sight' t.part
       × Appends held mid (hundred_text t.hundred) × Writes mid held' result (said_text t.said close)
@@ -86,7 +89,7 @@ module _ (desk : Desk) (always : Sight → Type 0) (count : ℕ) (q : Request) (
         writes = Appends-trans held mid held' _ _ asked said;
       }
 
-  pub step_broken : (left left' held mid held' : Option (List ℕ)) (close : Bool) (fault : Failed) → Reads left left' held mid (Message q)
+  pub step_broken : (left left' held mid held' : Option (List ℕ)) (close : Bool) (fault : Unsent) → Reads left left' held mid (Message q)
       → Replies desk always q close clock clock' sight sight' mid held' (Err fault) → is_last count q ≡ close
       → Breaks desk always count left clock clock' sight sight' held held'
   step_broken left left' held mid held' false fault reads made stays =
@@ -121,6 +124,50 @@ module _ (desk : Desk) (always : Sight → Type 0) (count : ℕ) (q : Request) (
         parts = ap (λ z. hundred_text t.hundred ++ z) parts ∙ sym (append_assoc (hundred_text t.hundred) front back);
         writes = Appends-trans held mid held' _ _ asked written;
       }
+
+  -- a store was lost, and nothing of the reply was written
+  pub step_lost : (left left' held mid held' : Option (List ℕ)) (close : Bool) (fault : Unsent) → Reads left left' held mid (Message q)
+      → Replies desk always q close clock clock' sight sight' mid held' (Err fault) → is_last count q ≡ close → held' ≡ mid
+      → (breaks : Breaks desk always count left clock clock' sight sight' held held') × (breaks.front ≡ next_line breaks.next)
+  step_lost left left' held mid held' false fault reads made stays quiet =
+      let (t, is, same, used, times, makes, asked, said) = turn_of left left' held mid held' false (Err fault) reads made in
+      let (after, whole) = rest_of left left' t.bytes used in
+      let breaks : Breaks desk always count left clock clock' sight sight' held held' = record {
+        next = reply t;
+        rest = t.bytes ++ after;
+        reads = whole;
+        is_next = (is, subst (λ r. is_last count r ≡ false) (sym same) stays, (after, refl));
+        times = times;
+        makes = makes;
+        front = hundred_text t.hundred;
+        back = said_text t.said false;
+        parts = refl;
+        writes = subst (λ (o : Option (List ℕ)). Appends held o (hundred_text t.hundred)) (sym quiet) asked;
+      } in
+      (breaks, refl)
+  step_lost left left' held mid held' true fault reads made closes quiet =
+      let (t, is, same, used, times, makes, asked, said) = turn_of left left' held mid held' true (Err fault) reads made in
+      let (after, whole) = rest_of left left' t.bytes used in
+      let breaks : Breaks desk always count left clock clock' sight sight' held held' = record {
+        next = last (closed t);
+        rest = t.bytes ++ after;
+        reads = whole;
+        is_next = (is, subst (λ r. is_last count r ≡ true) (sym same) closes, (after, refl));
+        times = times;
+        makes = makes;
+        front = hundred_text t.hundred;
+        back = said_text t.said true;
+        parts = refl;
+        writes = subst (λ (o : Option (List ℕ)). Appends held o (hundred_text t.hundred)) (sym quiet) asked;
+      } in
+      (breaks, refl)
+
+  -- by what became of the reply
+  pub step_unsent : (left left' left'' held mid held' : Option (List ℕ)) (close : Bool) (fault : Unsent) → Reads left left' held mid (Message q)
+      → Replies desk always q close clock clock' sight sight' mid held' (Err fault) → is_last count q ≡ close → (fault ≡ unsent.Lost → held' ≡ mid)
+      → Steps desk always count left left'' clock clock' sight sight' held held' (Over (broken fault))
+  step_unsent left left' left'' held mid held' close unsent.Fault reads made closes quiet = step_broken left left' held mid held' close unsent.Fault reads made closes
+  step_unsent left left' left'' held mid held' close unsent.Lost reads made closes quiet = step_lost left left' held mid held' close unsent.Lost reads made closes (quiet refl)
 
 module _ (desk : Desk) (always : Sight → Type 0) (count : ℕ) (left left' clock : Option (List ℕ)) (sight : Sight)
     (held mid held' : Option (List ℕ)) where
@@ -200,3 +247,16 @@ module _ (desk : Desk) (always : Sight → Type 0) (count : ℕ) (left left' clo
         parts = parts;
         writes = written;
       }
+
+-- what was written of a reply, by what came of sending it
+pub writes_as : (old new : Option (List ℕ)) (sent : Result (Unit {0}) Failed) (text : List ℕ) → Writes {T = Unit {0}} {E = Failed} old new sent text → Writes {T = Unit {0}} {E = Unsent} old new (as_unsent sent) text
+writes_as old new (Ok done) text writes = writes
+writes_as old new (Err failed) text writes = writes
+
+pub fault_as : (P : Type 0) (sent : Result (Unit {0}) Failed) → OnErr sent P → as_unsent sent ≡ Err unsent.Fault → P
+fault_as P (Ok done) fails is = absurd (cc is)
+fault_as P (Err failed) fails is = fails
+
+pub never_lost : (sent : Result (Unit {0}) Failed) → as_unsent sent ≢ Err unsent.Lost
+never_lost (Ok done) = λ e. cc e
+never_lost (Err failed) = λ e. cc e

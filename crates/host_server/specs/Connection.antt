@@ -8,10 +8,11 @@ use Rattle.wopi_http.specs.Answers.{hundred_text, Asks, Looked, IsRefused}
 use Rattle.wopi_http.specs.Cuts.{OwesNothing}
 use Rattle.wopi_http.specs.Closing.{closes}
 use Rattle.host_server.specs.declared.connection.ConnEnd.{ConnEnd}
-use Rattle.host_server.specs.declared.connection.ConnEnd.TheVariants.{Done, ReadFault, WriteFault, Memory}
-use Rattle.host_core.specs.Caller.{Sight}
+use Rattle.host_server.specs.declared.connection.ConnEnd.TheVariants.{Done, ReadFault, WriteFault, Lost, Memory}
+use Rattle.host_core.specs.Caller.{Sight, Extends}
 use Rattle.host_server.specs.declared.desk.Desk.{Desk}
-use Rattle.host_server.specs.Deeds.{Deed, Does}
+use Rattle.host_server.specs.Deeds.{Deed, Does, made}
+use Rattle.host_server.specs.Keeping.{AreTold}
 use Rattle.host_server.specs.Texts.{bare_reply}
 use Rattle.host_server.specs.Turns.{Turn, IsTurn, GoOn, turn_text, bytes_of, moments_of, parts_of, texts_of}
 
@@ -107,6 +108,15 @@ next_text (line hundred) = hundred_text hundred
 next_text (reply t) = turn_text t false
 next_text (last end) = end_text end
 
+-- the 100 line before it
+abbrev pub next_line : Next → List ℕ
+next_line (line hundred) = hundred_text hundred
+next_line (reply t) = hundred_text t.hundred
+next_line (last (closed t)) = hundred_text t.hundred
+next_line (last empty) = []
+next_line (last (refused s hundred)) = hundred_text hundred
+next_line (last (wanted hundred)) = hundred_text hundred
+
 -- Where a fault of writing cuts: what was written is the texts of the first messages, and a front of what comes next.
 pub record Cut (desk : Desk) (input moments : List ℕ) (deeds : List Deed) (output : List ℕ)
     : Type 0 where
@@ -148,10 +158,20 @@ abbrev pub IsConnEnd : Desk → ConnEnd → List ℕ → Option (List ℕ) → L
 IsConnEnd desk Done input left moments deeds output = Conn desk input moments deeds output
 IsConnEnd desk ReadFault input left moments deeds output = Awaits desk input left moments deeds output
 IsConnEnd desk WriteFault input left moments deeds output = Cut desk input moments deeds output
+IsConnEnd desk Lost input left moments deeds output = (cut : Cut desk input moments deeds output) × (cut.front ≡ next_line cut.next)
 IsConnEnd desk Memory input left moments deeds output = Are left input × (moments ≡ []) × (deeds ≡ []) × (output ≡ [])
 
+-- The deeds whose replies were written, or may be: all, or, where a store was lost, those for the messages before the last one.
+abbrev pub AreSure : (desk : Desk) (end : ConnEnd) (input : List ℕ) (left : Option (List ℕ)) (moments : List ℕ) (deeds : List Deed) (output : List ℕ)
+    → IsConnEnd desk end input left moments deeds output → List Deed → Type 0
+AreSure desk Done input left moments deeds output says sure = sure ≡ deeds
+AreSure desk ReadFault input left moments deeds output says sure = sure ≡ deeds
+AreSure desk WriteFault input left moments deeds output says sure = sure ≡ deeds
+AreSure desk Lost input left moments deeds output says sure = sure ≡ parts_of says.0.turns
+AreSure desk Memory input left moments deeds output says sure = sure ≡ deeds
+
 -- The link's bytes, those that are left of them, the moments that the clock gave, what was done and what was written are a connection
--- that ended so.
+-- that ended so. What the replies tell may be told, where that held of all that the caller had made before.
 pub record Serves (desk : Desk) (always : Sight → Type 0) (end : ConnEnd)
     (left left' : Option (List ℕ)) (clock clock' : Option (List ℕ)) (sight sight' : Sight) (held held' : Option (List ℕ)) : Type 0 where
   pub input : List ℕ
@@ -163,3 +183,6 @@ pub record Serves (desk : Desk) (always : Sight → Type 0) (end : ConnEnd)
   pub makes : Does always sight sight' deeds
   pub writes : Appends held held' output
   pub says : IsConnEnd desk end input left' moments deeds output
+  pub sure : List Deed
+  pub are_sure : AreSure desk end input left' moments deeds output says sure
+  pub told : AreTold sight → Extends (sight.own ++ made sure) sight'.told

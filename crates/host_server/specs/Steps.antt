@@ -1,22 +1,35 @@
 -- One message of a connection, and the messages so far.
-use Rattle.std.specs.Prelude.{◌≡◌, ℕ, Bool, false, List, [], ◌∷◌, ◌++◌, length, Option, Result}
+use Rattle.std.specs.Prelude.{◌≡◌, ℕ, Bool, false, List, [], ◌∷◌, ◌++◌, length, Option, Result, Ok, Err}
 use Rattle.std.specs.Io.KnownBytes.{Consumes, Appends}
 use Rattle.outside.specs.Clock.{GivesAll}
 use Rattle.outside.specs.Stream.{Are}
 use Rattle.wopi_http.specs.declared.message.Request.{Request}
-use Rattle.host_server.specs.declared.connection.ConnEnd.TheVariants.{Done, ReadFault, WriteFault, Memory}
+use Rattle.host_server.specs.declared.connection.ConnEnd.TheVariants.{Done, ReadFault, WriteFault, Lost, Memory}
 use Rattle.host_server.specs.declared.connection.Progress.{Progress}
 use Rattle.host_server.specs.declared.connection.Progress.TheVariants.{On, Over}
 use Rattle.wopi_http.specs.declared.message.Reply.{Reply}
 use Rattle.wopi_model.specs.Moment.{IsMoment}
 use Rattle.wopi_http.specs.Replies.{Writes}
 use Rattle.outside.specs.declared.faults.Failed.{Failed}
+use Rattle.host_server.specs.declared.connection.Unsent.{Unsent}
+use Rattle.host_server.specs.declared.connection.Unsent.TheVariants as unsent
+use Rattle.host_server.specs.declared.connection.ConnEnd.{ConnEnd}
 use Rattle.host_core.specs.Caller.{Sight}
 use Rattle.host_server.specs.declared.desk.Desk.{Desk}
 use Rattle.host_server.specs.Deeds.{Deed, Does}
 use Rattle.host_server.specs.Texts.{sent_text}
 use Rattle.host_server.specs.Turns.{Said, said_text, IsSaid, Turn, IsTurn, GoOn, turn_text, bytes_of, moments_of, parts_of, texts_of}
-use Rattle.host_server.specs.Connection.{is_last, End, IsEnd, end_moments, end_part, end_text, Next, IsNext, next_moments, next_part, next_text}
+use Rattle.host_server.specs.Connection.{is_last, End, IsEnd, end_moments, end_part, end_text, Next, IsNext, next_line, next_moments, next_part, next_text}
+
+-- what came of sending a reply
+abbrev pub as_unsent : Result (Unit {0}) Failed → Result (Unit {0}) Unsent
+as_unsent (Ok done) = Ok done
+as_unsent (Err failed) = Err unsent.Fault
+
+-- how a connection ends where a reply wasn't written whole
+abbrev pub broken : Unsent → ConnEnd
+broken unsent.Fault = WriteFault
+broken unsent.Lost = Lost
 
 -- a message that doesn't close was answered
 pub record StepsOn (desk : Desk) (always : Sight → Type 0) (count : ℕ) (left left' clock clock' : Option (List ℕ))
@@ -65,6 +78,8 @@ Steps desk always count left left' clock clock' sight sight' held held' (Over Re
     GivesAll clock clock' [] × Does always sight sight' []
 Steps desk always count left left' clock clock' sight sight' held held' (Over WriteFault) =
     Breaks desk always count left clock clock' sight sight' held held'
+Steps desk always count left left' clock clock' sight sight' held held' (Over Lost) =
+    (breaks : Breaks desk always count left clock clock' sight sight' held held') × (breaks.front ≡ next_line breaks.next)
 Steps desk always count left left' clock clock' sight sight' held held' (Over Memory) = ⊥
 
 -- So many messages were answered, and none of them closed.
@@ -89,7 +104,7 @@ pub record Prepares (desk : Desk) (always : Sight → Type 0) (q : Request) (mom
 
 -- A message was answered, and what was said was written, or a front of it.
 pub record Replies (desk : Desk) (always : Sight → Type 0) (q : Request) (close : Bool) (clock clock' : Option (List ℕ))
-    (sight sight' : Sight) (held held' : Option (List ℕ)) (result : Result (Unit {0}) Failed) : Type 0 where
+    (sight sight' : Sight) (held held' : Option (List ℕ)) (result : Result (Unit {0}) Unsent) : Type 0 where
   pub moment : ℕ
   pub part : List Deed
   pub said : Said

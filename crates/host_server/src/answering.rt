@@ -4,6 +4,7 @@ ghost use Rattle.wopi_model.specs.Moment.{IsMoment};
 ghost use Rattle.access_tokens.specs.Remembering.{Remembers};
 ghost use Rattle.access_tokens.specs.TokenText.{IsWritable};
 ghost use Rattle.wopi_acts.specs.Acts.{act_of};
+ghost use Rattle.host_server.specs.Keeping.{KeepsTold};
 ghost use Rattle.host_server.specs.Answering.{RuledTo, Contained, asked_with, container_asked_with};
 ghost use Rattle.host_server.specs.Asking.{asks_info, is_copy, TellsAct, TellsCopy};
 ghost use Rattle.host_server.specs.Calls.{Tells};
@@ -80,6 +81,7 @@ fn make_and_tell<C: Caller>(
     requires alone { is_copy ask.now.op ≡ false }
     requires other { asks_info ask.now.op ≡ false }
     ensures tells { (origin : Option (List ℕ)) (last : Option LastSave) → TellsAct false origin last ask.now token body moment C.always (C.sight caller.old) (C.sight caller.new) result }
+    ensures telling { KeepsTold C.loses (C.telling caller.old) (C.telling caller.new) (C.sight caller.old) (C.sight caller.new) }
     ensures basis { C.basis caller.new ≡ C.basis caller.old }
     ensures references { C.references caller.new ≡ C.references caller.old }
 {
@@ -89,6 +91,7 @@ fn make_and_tell<C: Caller>(
         Ok(receipt) => ruling_told(alloc, receipt.ruling),
         Err(CallFault::Full(_)) => journal_full(alloc),
         Err(CallFault::Memory(_)) => Err(Memory),
+        Err(CallFault::Lost(_)) => Err(Memory),
     }
 }
 
@@ -104,6 +107,7 @@ fn check_file_info<C: Caller>(
     requires moment { IsMoment moment }
     requires info { asks_info ask.now.op ≡ true }
     ensures tells { (origin : Option (List ℕ)) (last : Option LastSave) → TellsAct false origin last ask.now token body moment C.always (C.sight caller.old) (C.sight caller.new) result }
+    ensures telling { KeepsTold C.loses (C.telling caller.old) (C.telling caller.new) (C.sight caller.old) (C.sight caller.new) }
     ensures basis { C.basis caller.new ≡ C.basis caller.old }
     ensures references { C.references caller.new ≡ C.references caller.old }
 {
@@ -137,6 +141,7 @@ fn call_for_editor<C: Caller>(
     requires moment { IsMoment moment }
     requires alone { is_copy ask.now.op ≡ false }
     ensures tells { TellsAct true desk.now.origin last ask.now token body moment C.always (C.sight caller.old) (C.sight caller.new) result }
+    ensures telling { KeepsTold C.loses (C.telling caller.old) (C.telling caller.new) (C.sight caller.old) (C.sight caller.new) }
     ensures basis { C.basis caller.new ≡ C.basis caller.old }
     ensures references { C.references caller.new ≡ C.references caller.old }
 {
@@ -160,6 +165,7 @@ fn call_for_editor<C: Caller>(
         ),
         Err(CallFault::Full(_)) => journal_full(alloc),
         Err(CallFault::Memory(_)) => Err(Memory),
+        Err(CallFault::Lost(_)) => Err(Memory),
     }
 }
 
@@ -178,6 +184,7 @@ fn call_asked<C: Caller>(
     requires moment { IsMoment moment }
     requires alone { is_copy ask.now.op ≡ false }
     ensures tells { TellsAct editor desk.now.origin (last_known editor fields.now) ask.now token body moment C.always (C.sight caller.old) (C.sight caller.new) result }
+    ensures telling { KeepsTold C.loses (C.telling caller.old) (C.telling caller.new) (C.sight caller.old) (C.sight caller.new) }
     ensures basis { C.basis caller.new ≡ C.basis caller.old }
     ensures references { C.references caller.new ≡ C.references caller.old }
 {
@@ -205,6 +212,7 @@ fn copy_asked<C: Caller>(
     requires copy { is_copy ask.old.op ≡ true }
     requires asking { IsWritable token }
     ensures tells { TellsCopy desk.now ask.old token body moment C.always (C.sight caller.old) (C.sight caller.new) result }
+    ensures telling { KeepsTold C.loses (C.telling caller.old) (C.telling caller.new) (C.sight caller.old) (C.sight caller.new) }
     ensures basis { C.basis caller.new ≡ C.basis caller.old }
     ensures references { C.references caller.new ≡ C.references caller.old }
 {
@@ -239,6 +247,7 @@ fn answer_ask<C: Caller>(
     requires moment { IsMoment moment }
     requires remembers { Remembers desk.now.keys recent.old }
     ensures tells { Tells (RuledTo editor (last_known editor fields.now) desk.now (asked_with editor fields.now ask.old) body moment) C.always (C.sight caller.old) (C.sight caller.new) result }
+    ensures telling { KeepsTold C.loses (C.telling caller.old) (C.telling caller.new) (C.sight caller.old) (C.sight caller.new) }
     ensures basis { C.basis caller.new ≡ C.basis caller.old }
     ensures references { C.references caller.new ≡ C.references caller.old }
     ensures remembers { Remembers desk.now.keys recent.new }
@@ -271,6 +280,7 @@ fn answer_kept<C: Caller>(
     requires asked { IsSome kept.old.ask }
     requires remembers { Remembers desk.now.keys kept.old.recent }
     ensures tells { IfSome kept.old.ask (λ ask. Tells (RuledTo editor (last_known editor fields.now) desk.now (asked_with editor fields.now ask) body moment) C.always (C.sight caller.old) (C.sight caller.new) result) }
+    ensures telling { KeepsTold C.loses (C.telling caller.old) (C.telling caller.new) (C.sight caller.old) (C.sight caller.new) }
     ensures basis { C.basis caller.new ≡ C.basis caller.old }
     ensures references { C.references caller.new ≡ C.references caller.old }
     ensures remembers { Remembers desk.now.keys kept.new.recent }
@@ -317,6 +327,7 @@ fn answer_container<C: Lister>(
 ) -> Result<Answer, Memory>
     requires { IsMoment moment }
     ensures tells { Tells (Contained desk.now (container_asked_with editor fields.now ask) moment) C.always (C.sight caller.old) (C.sight caller.new) result }
+    ensures telling { KeepsTold C.loses (C.telling caller.old) (C.telling caller.new) (C.sight caller.old) (C.sight caller.new) }
     ensures basis { C.basis caller.new ≡ C.basis caller.old }
     ensures references { C.references caller.new ≡ C.references caller.old }
 {
@@ -346,6 +357,7 @@ pub(crate) fn answer_again<C: Lister>(
     requires moment { IsMoment moment }
     requires remembers { Remembers desk.now.keys kept.old.recent }
     ensures answers { AnswersTo editor desk.now request moment C.always (C.sight caller.old) (C.sight caller.new) result }
+    ensures telling { KeepsTold C.loses (C.telling caller.old) (C.telling caller.new) (C.sight caller.old) (C.sight caller.new) }
     ensures basis { C.basis caller.new ≡ C.basis caller.old }
     ensures references { C.references caller.new ≡ C.references caller.old }
     ensures remembers { Remembers desk.now.keys kept.new.recent }
@@ -395,6 +407,7 @@ pub fn answer<C: Lister>(
 ) -> Result<Answer, Memory>
     requires { IsMoment moment }
     ensures answers { Answers desk.now request moment C.always (C.sight caller.old) (C.sight caller.new) result }
+    ensures telling { KeepsTold C.loses (C.telling caller.old) (C.telling caller.new) (C.sight caller.old) (C.sight caller.new) }
     ensures basis { C.basis caller.new ≡ C.basis caller.old }
     ensures references { C.references caller.new ≡ C.references caller.old }
 {

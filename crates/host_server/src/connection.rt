@@ -1,5 +1,6 @@
 //! A connection served to its end.
-ghost use Rattle.std.specs.Prelude.{◌≡◌, ◌≢◌, ◌≤◌, ◌<◌, ◌+◌, ◌==◌, OnErr, false};
+ghost use Rattle.std.specs.Prelude.{◌≡◌, ◌≢◌, ◌≤◌, ◌<◌, ◌+◌, ◌==◌, Err, true, false};
+ghost use Rattle.host_core.specs.Caller.{Extends};
 ghost use Rattle.std.specs.Io.KnownBytes.{prepend_known};
 ghost use Rattle.outside.specs.Faults.{Rose};
 ghost use Rattle.wopi_model.specs.Moment.{IsMoment};
@@ -7,7 +8,8 @@ ghost use Rattle.access_tokens.specs.Remembering.{Remembers};
 ghost use Rattle.wopi_http.specs.Cuts.{IsPrompt};
 ghost use Rattle.host_server.specs.Connection.{message_limit, is_last, Serves};
 ghost use Rattle.host_server.specs.Editing.{asks_options};
-ghost use Rattle.host_server.specs.Steps.{Prepares, Replies, Steps};
+ghost use Rattle.host_server.specs.Keeping.{AreTold, KeepsTold};
+ghost use Rattle.host_server.specs.Steps.{Prepares, Replies, Steps, as_unsent, broken};
 ghost use Rattle.host_server.specs.Texts.{shown};
 
 use crate::answering::answer_again;
@@ -32,8 +34,18 @@ pub enum ConnEnd {
     Done,
     ReadFault,
     WriteFault,
+    /// A store was lost, so that what was made may not be told. Of the last reply nothing was written.
+    Lost,
     /// There was no memory to begin.
     Memory,
+}
+
+/// Why a reply wasn't written whole.
+#[derive(Clone, Copy, Debug, PartialEq, Eq)]
+enum Unsent {
+    Fault,
+    /// What was made may not be told. Nothing of it was written.
+    Lost,
 }
 
 /// Whether a connection goes on after a message.
@@ -79,6 +91,7 @@ fn reply_to<C: Lister>(
     requires moment { IsMoment moment }
     requires asked { asks_options desk.now.editor request ≡ false }
     requires remembers { Remembers desk.now.keys kept.old.recent }
+    ensures telling { KeepsTold C.loses (C.telling caller.old) (C.telling caller.new) (C.sight caller.old) (C.sight caller.new) }
     ensures basis { C.basis caller.new ≡ C.basis caller.old }
     ensures lent { C.references caller.new ≡ C.references caller.old }
     ensures makes { Prepares desk.now C.always request moment close (C.sight caller.old) (C.sight caller.new) result }
@@ -96,6 +109,26 @@ fn reply_to<C: Lister>(
     }
 }
 
+/// What came of sending a reply.
+fn as_unsent(sent: Result<(), Failed>) -> Result<(), Unsent>
+    ensures { result ≡ as_unsent sent }
+{
+    match sent {
+        Ok(()) => Ok(()),
+        Err(Failed) => Err(Unsent::Fault),
+    }
+}
+
+/// How a connection ends where a reply wasn't written whole.
+fn broken(unsent: Unsent) -> ConnEnd
+    ensures { result ≡ broken unsent }
+{
+    match unsent {
+        Unsent::Fault => ConnEnd::WriteFault,
+        Unsent::Lost => ConnEnd::Lost,
+    }
+}
+
 /// Answers a message.
 fn answer_message<C: Lister, L: Link, K: Clock>(
     alloc: Global,
@@ -106,8 +139,13 @@ fn answer_message<C: Lister, L: Link, K: Clock>(
     clock: &mut K,
     request: Request,
     close: bool,
-) -> Result<(), Failed>
+) -> Result<(), Unsent>
     requires { Remembers desk.now.keys kept.old.recent }
+    ensures extends { Extends (C.sight caller.old).told (C.sight caller.new).told }
+    ensures sure { result ≢ Err Unsent.Lost → AreTold (C.sight caller.old) → AreTold (C.sight caller.new) }
+    ensures telling { result ≢ Err Unsent.Lost → C.telling caller.old ≡ true → C.telling caller.new ≡ true }
+    ensures lost { result ≡ Err Unsent.Lost → (C.telling caller.new ≡ false) × (L.held link.new ≡ L.held link.old) }
+    ensures cause { result ≡ Err Unsent.Lost → C.telling caller.old ≡ true → C.loses ≡ true }
     ensures basis { C.basis caller.new ≡ C.basis caller.old }
     ensures lent { C.references caller.new ≡ C.references caller.old }
     ensures replies { Replies desk.now C.always request close (K.moments clock.old) (K.moments clock.new)
@@ -116,15 +154,18 @@ fn answer_message<C: Lister, L: Link, K: Clock>(
     ensures read_faults { L.read_faults link.new ≡ L.read_faults link.old }
     ensures references { L.references link.new ≡ L.references link.old }
     ensures never_falls { L.write_faults link.old ≤ L.write_faults link.new }
-    ensures failed { OnErr result (Rose (L.write_faults link.old) (L.write_faults link.new)) }
+    ensures failed { result ≡ Err Unsent.Fault → Rose (L.write_faults link.old) (L.write_faults link.new) }
     ensures remembers { Remembers desk.now.keys kept.new.recent }
 {
     let moment = clock.now();
     if asks_options(desk.editor, &request) {
-        return send_options(link, close);
+        return as_unsent(send_options(link, close));
     }
     let reply = reply_to(alloc, caller, desk, kept, request, moment, close);
-    send(link, reply, close)
+    if caller.is_telling() {
+        return as_unsent(send(link, reply, close));
+    }
+    Err(Unsent::Lost)
 }
 
 /// Reads a message behind so many others, and answers it.
@@ -150,6 +191,11 @@ fn serve_one<C: Lister, L: Link, K: Clock>(
     ensures references { L.references link.new ≡ L.references link.old }
     ensures reads_count { L.read_faults link.old ≤ L.read_faults link.new }
     ensures writes_count { L.write_faults link.old ≤ L.write_faults link.new }
+    ensures extends { Extends (C.sight caller.old).told (C.sight caller.new).told }
+    ensures sure { result ≢ Progress.Over ConnEnd.Lost → AreTold (C.sight caller.old) → AreTold (C.sight caller.new) }
+    ensures telling { result ≢ Progress.Over ConnEnd.Lost → C.telling caller.old ≡ true → C.telling caller.new ≡ true }
+    ensures lost { result ≡ Progress.Over ConnEnd.Lost → C.telling caller.new ≡ false }
+    ensures cause { result ≡ Progress.Over ConnEnd.Lost → C.telling caller.old ≡ true → C.loses ≡ true }
     ensures read_fault { result ≡ Progress.Over ConnEnd.ReadFault → Rose (L.read_faults link.old) (L.read_faults link.new) }
     ensures write_fault { result ≡ Progress.Over ConnEnd.WriteFault → Rose (L.write_faults link.old) (L.write_faults link.new) }
     ensures remembers { Remembers desk.now.keys kept.new.recent }
@@ -165,7 +211,7 @@ fn serve_one<C: Lister, L: Link, K: Clock>(
                         Progress::On
                     }
                 }
-                Err(Failed) => Progress::Over(ConnEnd::WriteFault),
+                Err(unsent) => Progress::Over(broken(unsent)),
             }
         }
         Got::End => Progress::Over(ConnEnd::Done),
@@ -182,7 +228,7 @@ fn serve_one<C: Lister, L: Link, K: Clock>(
     }
 }
 
-/// Answers the messages of a link in their order. To save computing its code, a token whose text is
+/// Answers the messages of a link in their order. Where a store is lost, no reply to the message at hand is written. To save computing its code, a token whose text is
 /// remembered isn't read anew.
 pub fn serve_connection<C: Lister, L: Link, K: Clock>(
     alloc: Global,
@@ -209,6 +255,12 @@ pub fn serve_connection<C: Lister, L: Link, K: Clock>(
     ensures read_fault { result ≡ ConnEnd.ReadFault → Rose (L.read_faults link.old) (L.read_faults link.new) }
     ensures write_fault { result ≡ ConnEnd.WriteFault → Rose (L.write_faults link.old) (L.write_faults link.new) }
     ensures nothing_read { result ≡ ConnEnd.Memory → L.left link.new ≡ L.left link.old }
+    ensures lost { result ≡ ConnEnd.Lost → C.telling caller.new ≡ false }
+    ensures lost_cause { result ≡ ConnEnd.Lost → C.telling caller.old ≡ true → C.loses ≡ true }
+
+    // Where no store was lost, all that was made may be told.
+    ensures sure { result ≢ ConnEnd.Lost → AreTold (C.sight caller.old) → AreTold (C.sight caller.new) }
+    ensures telling { result ≢ ConnEnd.Lost → C.telling caller.old ≡ true → C.telling caller.new ≡ true }
 {
     let Ok(mut buffer) = Buffer::new(alloc) else {
         return ConnEnd::Memory;

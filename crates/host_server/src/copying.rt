@@ -2,6 +2,7 @@
 ghost use Rattle.std.specs.Prelude.{◌≡◌, IfOk};
 ghost use Rattle.wopi_model.specs.Moment.{IsMoment};
 ghost use Rattle.access_tokens.specs.TokenText.{IsWritable};
+ghost use Rattle.host_server.specs.Keeping.{KeepsTold};
 ghost use Rattle.host_server.specs.Calls.{Calls, Tells};
 ghost use Rattle.host_server.specs.Copies.{CanBeHad, Copied, Tried, asked_name, create, look, overwrites, tries};
 ghost use Rattle.host_server.specs.Tries.{IsAsked};
@@ -82,6 +83,7 @@ fn overwrites(target: &Target) -> bool
 fn look<C: Caller>(caller: &mut C, copying: &Copying) -> Called
     requires { IsMoment copying.now.moment }
     ensures calls { Calls C.always (C.sight caller.old) (C.sight caller.new) (look copying.now) copying.now.moment result }
+    ensures telling { KeepsTold C.loses (C.telling caller.old) (C.telling caller.new) (C.sight caller.old) (C.sight caller.new) }
     ensures basis { C.basis caller.new ≡ C.basis caller.old }
     ensures references { C.references caller.new ≡ C.references caller.old }
 {
@@ -106,6 +108,7 @@ fn make_file<C: Caller>(
     requires asked { name.now ≡ asked_name copying.source copying.target }
     requires good { CanBeHad copying.source copying.target }
     ensures tells { Tells (Tried desk.now copying) C.always (C.sight caller.old) (C.sight caller.new) result }
+    ensures telling { KeepsTold C.loses (C.telling caller.old) (C.telling caller.new) (C.sight caller.old) (C.sight caller.new) }
     ensures basis { C.basis caller.new ≡ C.basis caller.old }
     ensures references { C.references caller.new ≡ C.references caller.old }
 {
@@ -144,6 +147,7 @@ fn go_on<C: Caller>(
     requires moment { IsMoment copying.moment }
     requires asked { IsAsked copying.source copying.target name }
     ensures tells { Tells (Tried desk.now copying) C.always (C.sight caller.old) (C.sight caller.new) result }
+    ensures telling { KeepsTold C.loses (C.telling caller.old) (C.telling caller.new) (C.sight caller.old) (C.sight caller.new) }
     ensures basis { C.basis caller.new ≡ C.basis caller.old }
     ensures references { C.references caller.new ≡ C.references caller.old }
 {
@@ -164,6 +168,7 @@ pub fn put_beside<C: Caller>(
     requires asking { IsWritable copying.token }
     requires moment { IsMoment copying.moment }
     ensures tells { Tells (Copied desk.now copying) C.always (C.sight caller.old) (C.sight caller.new) result }
+    ensures telling { KeepsTold C.loses (C.telling caller.old) (C.telling caller.new) (C.sight caller.old) (C.sight caller.new) }
     ensures basis { C.basis caller.new ≡ C.basis caller.old }
     ensures references { C.references caller.new ≡ C.references caller.old }
 {

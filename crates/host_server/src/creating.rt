@@ -2,6 +2,7 @@
 ghost use Rattle.std.specs.Prelude.{◌≡◌, ◌≤◌, ◌<◌, ◌↔◌, ℕ, IsTrue, length, ◌++◌};
 ghost use Rattle.wopi_model.specs.Moment.{IsMoment};
 ghost use Rattle.put_relative.specs.CopyNames.{copy_name};
+ghost use Rattle.host_server.specs.Keeping.{KeepsTold};
 ghost use Rattle.host_server.specs.Copies.{IsTaken, create_as};
 ghost use Rattle.host_server.specs.Tries.{Attempts, Creates, Judges};
 
@@ -62,6 +63,7 @@ fn make_named<C: Caller>(
     requires { IsMoment moment }
     ensures attempts { Attempts C.always (C.sight caller.old) (C.sight caller.new)
         record { name = name; token = token; act = Act.Create overwrite contents } contents moment result }
+    ensures telling { KeepsTold C.loses (C.telling caller.old) (C.telling caller.new) (C.sight caller.old) (C.sight caller.new) }
     ensures basis { C.basis caller.new ≡ C.basis caller.old }
     ensures references { C.references caller.new ≡ C.references caller.old }
 {
@@ -91,6 +93,7 @@ pub fn create<C: Caller>(
     requires some { 0 < tries }
     requires names { (number : ℕ) → number < tries → (number < 100) × (length (copy_name name.now number) ≤ 128) }
     ensures creates { Creates C.always (C.sight caller.old) (C.sight caller.new) (create_as name.now token.now overwrite contents) moment tries result }
+    ensures telling { KeepsTold C.loses (C.telling caller.old) (C.telling caller.new) (C.sight caller.old) (C.sight caller.new) }
     ensures basis { C.basis caller.new ≡ C.basis caller.old }
     ensures references { C.references caller.new ≡ C.references caller.old }
 {

@@ -5,6 +5,7 @@ use Rattle.host_server.specs.Calls.{Tells}
 use Rattle.host_server.specs.Known.{last_known}
 use Rattle.wopi_acts.specs.Answers.{status_only}
 use Rattle.host_server.proofs.TellLemmas.{is_kept, kept_answers, contained_answers, refused_answers}
+use Rattle.host_server.proofs.Keeping.{keeps_none}
 use Rattle.host_server.proofs.answering.answer_again.Goals as goal
 
 pub returns-in-Ok-None-clause-answers : goal.returns-in-Ok-None-clause-answers
@@ -29,3 +30,9 @@ pub returns-in-Err-Refused-clause-answers : goal.returns-in-Err-Refused-clause-a
 returns-in-Err-Refused-clause-answers g c =
     refused_answers c.args.editor c.args.desk.now c.args.request c.args.moment g.C.Caller.always c.in-Err-Refused.status (g.C.Caller.sight c.args.caller.now) _
     (rw c.in-Err-Refused.field-0-is at c.in-Err-Refused.ensures.read) (c.status_only.ensures ∙ ap status_only c.refused_status-status.ensures)
+
+pub returns-in-Err-Refused-clause-telling : goal.returns-in-Err-Refused-clause-telling
+returns-in-Err-Refused-clause-telling g c = keeps_none g.C.Caller.loses (g.C.Caller.telling c.args.caller.now) (g.C.Caller.sight c.args.caller.now)
+
+pub returns-clause-telling : goal.returns-clause-telling
+returns-clause-telling g c = keeps_none g.C.Caller.loses (g.C.Caller.telling c.args.caller.now) (g.C.Caller.sight c.args.caller.now)

@@ -6,6 +6,7 @@ use Rattle.host_server.specs.Editing.{token_taken}
 use Rattle.host_server.specs.Known.{last_known}
 use Rattle.host_server.proofs.DeedLemmas.{Does-nil}
 use Rattle.host_server.proofs.TellLemmas.{dead_tells, call_tells, copy_tells, tells_nothing}
+use Rattle.host_server.proofs.Keeping.{keeps_none}
 use Rattle.host_server.proofs.answering.answer_ask.Goals as goal
 
 pub returns-in_err-judged-clause-tells : goal.returns-in_err-judged-clause-tells
@@ -45,3 +46,9 @@ returns-clause-tells g c =
 -- a token that is read can be written
 pub copy_asked-requires-clause-asking : goal.copy_asked-requires-clause-asking
 copy_asked-requires-clause-asking g c = ((c.in-Some.ensures.exact c.in-Some.token).0 refl).3.form
+
+pub returns-in_err-judged-clause-telling : goal.returns-in_err-judged-clause-telling
+returns-in_err-judged-clause-telling g c = keeps_none g.C.Caller.loses (g.C.Caller.telling c.args.caller.now) (g.C.Caller.sight c.args.caller.now)
+
+pub returns-in_default-clause-telling : goal.returns-in_default-clause-telling
+returns-in_default-clause-telling g c = keeps_none g.C.Caller.loses (g.C.Caller.telling c.args.caller.now) (g.C.Caller.sight c.args.caller.now)

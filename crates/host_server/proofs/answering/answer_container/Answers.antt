@@ -6,6 +6,7 @@ use Rattle.host_server.specs.Calls.{Tells}
 use Rattle.host_server.proofs.ContainerLemmas.{container_tells}
 use Rattle.host_server.proofs.DeedLemmas.{Does-nil}
 use Rattle.host_server.proofs.TellLemmas.{tells_nothing}
+use Rattle.host_server.proofs.Keeping.{keeps_listed, keeps_none}
 use Rattle.host_server.proofs.answering.answer_container.Goals as goal
 
 pub returns-in_err-judged-clause-tells : goal.returns-in_err-judged-clause-tells
@@ -26,3 +27,11 @@ returns-clause-tells g c =
     (omega (arith, some)) (g.met.C.Lister.homes caller) (g.met.C.Lister.reaches caller) (g.met.C.Caller.has_floor c.args.caller.now)
     (g.met.C.Caller.is_always c.args.caller.now) (g.met.C.Caller.is_always caller) c.container_answer.ensures.looks c.container_answer.result
     c.container_answer.ensures.answered)
+
+pub returns-in_err-judged-clause-telling : goal.returns-in_err-judged-clause-telling
+returns-in_err-judged-clause-telling g c = keeps_none g.C.Caller.loses (g.C.Caller.telling c.args.caller.now) (g.C.Caller.sight c.args.caller.now)
+
+pub returns-clause-telling : goal.returns-clause-telling
+returns-clause-telling g c =
+    keeps_listed g.C.Caller.loses (g.C.Caller.telling c.args.caller.now) (g.C.Caller.telling c.container_answer.new.lister) (g.C.Caller.sight c.args.caller.now) (g.C.Caller.sight c.container_answer.new.lister)
+    c.container_answer.ensures.telling c.container_answer.ensures.looks

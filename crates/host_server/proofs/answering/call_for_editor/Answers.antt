@@ -9,6 +9,7 @@ use Rattle.host_server.proofs.AskLemmas.{act_tells, held_where_late, info_same, 
 use Rattle.host_server.proofs.CallLemmas.{full_calls}
 use Rattle.host_server.proofs.DeedLemmas.{call_made, does_make_for, does_nothing}
 use Rattle.host_server.proofs.TellLemmas.{full_tells, made_for_tells, told_of_parts, tells_nothing}
+use Rattle.host_server.proofs.Keeping.{keeps_made, keeps_refused}
 use Rattle.host_server.proofs.answering.call_for_editor.Goals as goal
 
 pub returns-in-Ok-clause-tells : goal.returns-in-Ok-clause-tells
@@ -49,6 +50,16 @@ returns-in-Err-Full-clause-tells g c =
     c.copy-name.ensures c.copy-shown.ensures c.act_of-act.ensures c.journal_full.result
     (full_tells g.C.Caller.always old new c.args.desk.now.origin c.args.last call c.args.moment true c.journal_full.result calls c.journal_full.ensures)
 
+pub returns-in-Err-Memory-clause-tells : goal.returns-in-Err-Memory-clause-tells
+returns-in-Err-Memory-clause-tells g c =
+    let old = g.C.Caller.sight c.args.caller.now in
+    let new = g.C.Caller.sight c.call_for_editor.new.self in
+    let call : Call = record { name = c.copy-name.result; token = c.copy-shown.result; act = c.act_of-act.result } in
+    act_tells true c.args.desk.now.origin c.args.last c.args.ask.now c.args.token c.args.body c.args.moment g.C.Caller.always old new c.copy-name.result c.copy-shown.result c.act_of-act.result
+    c.copy-name.ensures c.copy-shown.ensures c.act_of-act.ensures (Err (record {}))
+    (tells_nothing g.C.Caller.always old new (TellsCall true c.args.desk.now.origin c.args.last call c.args.moment) _
+    (does_nothing g.C.Caller.always old new call c.args.moment _ c.in-Err-Memory.ensures.refused c.call_for_editor.ensures.frame))
+
 pub returns-clause-tells : goal.returns-clause-tells
 returns-clause-tells g c =
     let old = g.C.Caller.sight c.args.caller.now in
@@ -57,4 +68,24 @@ returns-clause-tells g c =
     act_tells true c.args.desk.now.origin c.args.last c.args.ask.now c.args.token c.args.body c.args.moment g.C.Caller.always old new c.copy-name.result c.copy-shown.result c.act_of-act.result
     c.copy-name.ensures c.copy-shown.ensures c.act_of-act.ensures (Err (record {}))
     (tells_nothing g.C.Caller.always old new (TellsCall true c.args.desk.now.origin c.args.last call c.args.moment) _
-    (does_nothing g.C.Caller.always old new call c.args.moment _ c.in-Err-Memory.ensures.refused c.call_for_editor.ensures.frame))
+    (does_nothing g.C.Caller.always old new call c.args.moment _ c.in-Err-Lost.ensures.refused c.call_for_editor.ensures.frame))
+
+pub returns-in-Ok-clause-telling : goal.returns-in-Ok-clause-telling
+returns-in-Ok-clause-telling g c =
+    keeps_made g.C.Caller.loses (g.C.Caller.telling c.args.caller.now) (g.C.Caller.telling c.call_for_editor.new.self) _ (g.C.Caller.sight c.args.caller.now) (g.C.Caller.sight c.call_for_editor.new.self)
+    c.call_for_editor.ensures.telling (g.C.Caller.loses_is c.call_for_editor.new.self _) _ c.args.moment _ c.in-Ok.ensures.made.made c.in-Ok.ensures.tells
+
+pub returns-in-Err-Full-clause-telling : goal.returns-in-Err-Full-clause-telling
+returns-in-Err-Full-clause-telling g c =
+    keeps_refused g.C.Caller.loses (g.C.Caller.telling c.args.caller.now) (g.C.Caller.telling c.call_for_editor.new.self) _ (g.C.Caller.sight c.args.caller.now) (g.C.Caller.sight c.call_for_editor.new.self)
+    c.call_for_editor.ensures.telling (g.C.Caller.loses_is c.call_for_editor.new.self _) _ c.args.moment _ c.in-Err-Full.ensures.refused
+
+pub returns-in-Err-Memory-clause-telling : goal.returns-in-Err-Memory-clause-telling
+returns-in-Err-Memory-clause-telling g c =
+    keeps_refused g.C.Caller.loses (g.C.Caller.telling c.args.caller.now) (g.C.Caller.telling c.call_for_editor.new.self) _ (g.C.Caller.sight c.args.caller.now) (g.C.Caller.sight c.call_for_editor.new.self)
+    c.call_for_editor.ensures.telling (g.C.Caller.loses_is c.call_for_editor.new.self _) _ c.args.moment _ c.in-Err-Memory.ensures.refused
+
+pub returns-clause-telling : goal.returns-clause-telling
+returns-clause-telling g c =
+    keeps_refused g.C.Caller.loses (g.C.Caller.telling c.args.caller.now) (g.C.Caller.telling c.call_for_editor.new.self) _ (g.C.Caller.sight c.args.caller.now) (g.C.Caller.sight c.call_for_editor.new.self)
+    c.call_for_editor.ensures.telling (g.C.Caller.loses_is c.call_for_editor.new.self _) _ c.args.moment _ c.in-Err-Lost.ensures.refused

@@ -7,6 +7,7 @@ use Rattle.host_server.proofs.AskLemmas.{info_same, act_tells}
 use Rattle.host_server.proofs.CallLemmas.{makes_calls, full_calls}
 use Rattle.host_server.proofs.DeedLemmas.{does_nothing}
 use Rattle.host_server.proofs.TellLemmas.{ruling_of_call, ruled_tells, full_tells, tells_nothing}
+use Rattle.host_server.proofs.Keeping.{keeps_made, keeps_refused}
 use Rattle.host_server.proofs.answering.make_and_tell.Goals as goal
 
 pub returns-in-Ok-clause-tells : goal.returns-in-Ok-clause-tells
@@ -34,6 +35,16 @@ returns-in-Err-Full-clause-tells g c origin last =
     c.copy-name.ensures refl c.act_of-act.ensures c.journal_full.result
     (full_tells g.C.Caller.always old new origin last call c.args.moment false c.journal_full.result calls c.journal_full.ensures)
 
+pub returns-in-Err-Memory-clause-tells : goal.returns-in-Err-Memory-clause-tells
+returns-in-Err-Memory-clause-tells g c origin last =
+    let old = g.C.Caller.sight c.args.caller.now in
+    let new = g.C.Caller.sight c.call.new.self in
+    let call : Call = record { name = c.copy-name.result; token = c.args.token; act = c.act_of-act.result } in
+    act_tells false origin last c.args.ask.now c.args.token c.args.body c.args.moment g.C.Caller.always old new c.copy-name.result c.args.token c.act_of-act.result
+    c.copy-name.ensures refl c.act_of-act.ensures (Err (record {}))
+    (tells_nothing g.C.Caller.always old new (TellsCall false origin last call c.args.moment) _
+    (does_nothing g.C.Caller.always old new call c.args.moment _ c.in-Err-Memory.ensures.refused c.call.ensures.frame))
+
 pub returns-clause-tells : goal.returns-clause-tells
 returns-clause-tells g c origin last =
     let old = g.C.Caller.sight c.args.caller.now in
@@ -42,4 +53,24 @@ returns-clause-tells g c origin last =
     act_tells false origin last c.args.ask.now c.args.token c.args.body c.args.moment g.C.Caller.always old new c.copy-name.result c.args.token c.act_of-act.result
     c.copy-name.ensures refl c.act_of-act.ensures (Err (record {}))
     (tells_nothing g.C.Caller.always old new (TellsCall false origin last call c.args.moment) _
-    (does_nothing g.C.Caller.always old new call c.args.moment _ c.in-Err-Memory.ensures.refused c.call.ensures.frame))
+    (does_nothing g.C.Caller.always old new call c.args.moment _ c.in-Err-Lost.ensures.refused c.call.ensures.frame))
+
+pub returns-in-Ok-clause-telling : goal.returns-in-Ok-clause-telling
+returns-in-Ok-clause-telling g c =
+    keeps_made g.C.Caller.loses (g.C.Caller.telling c.args.caller.now) (g.C.Caller.telling c.call.new.self) _ (g.C.Caller.sight c.args.caller.now) (g.C.Caller.sight c.call.new.self)
+    c.call.ensures.telling (g.C.Caller.loses_is c.call.new.self _) _ c.args.moment _ c.in-Ok.ensures.made c.in-Ok.ensures.tells
+
+pub returns-in-Err-Full-clause-telling : goal.returns-in-Err-Full-clause-telling
+returns-in-Err-Full-clause-telling g c =
+    keeps_refused g.C.Caller.loses (g.C.Caller.telling c.args.caller.now) (g.C.Caller.telling c.call.new.self) _ (g.C.Caller.sight c.args.caller.now) (g.C.Caller.sight c.call.new.self)
+    c.call.ensures.telling (g.C.Caller.loses_is c.call.new.self _) _ c.args.moment _ c.in-Err-Full.ensures.refused
+
+pub returns-in-Err-Memory-clause-telling : goal.returns-in-Err-Memory-clause-telling
+returns-in-Err-Memory-clause-telling g c =
+    keeps_refused g.C.Caller.loses (g.C.Caller.telling c.args.caller.now) (g.C.Caller.telling c.call.new.self) _ (g.C.Caller.sight c.args.caller.now) (g.C.Caller.sight c.call.new.self)
+    c.call.ensures.telling (g.C.Caller.loses_is c.call.new.self _) _ c.args.moment _ c.in-Err-Memory.ensures.refused
+
+pub returns-clause-telling : goal.returns-clause-telling
+returns-clause-telling g c =
+    keeps_refused g.C.Caller.loses (g.C.Caller.telling c.args.caller.now) (g.C.Caller.telling c.call.new.self) _ (g.C.Caller.sight c.args.caller.now) (g.C.Caller.sight c.call.new.self)
+    c.call.ensures.telling (g.C.Caller.loses_is c.call.new.self _) _ c.args.moment _ c.in-Err-Lost.ensures.refused

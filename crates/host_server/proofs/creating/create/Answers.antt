@@ -2,6 +2,7 @@ use Rattle.std.proofs.Common.{◌∙◌, inl, inr, arith}
 use Rattle.host_server.specs.declared.creating.Attempt.TheVariants as attempt
 use Rattle.host_server.specs.Copies.{create_as}
 use Rattle.host_server.proofs.TryLemmas.{attempt_of, goes_on, decides, stops, gives_up}
+use Rattle.host_server.proofs.Keeping.{keeps_both}
 use Rattle.host_server.proofs.creating.create.Goals as goal
 
 pub returns-then-number-tries-clause-creates : goal.returns-then-number-tries-clause-creates
@@ -47,6 +48,28 @@ names-preserved g c =
           entry c.in-Taken.ruling of ruled taken does;
       few = omega (arith, run.invariant.few, c.if-number-tries.false);
       same = back;
+      telling = keeps_both g.C.Caller.loses (g.C.Caller.telling c.args.caller.now) (g.C.Caller.telling c.names.caller) (g.C.Caller.telling c.make_named.new.caller)
+          (g.C.Caller.sight c.args.caller.now) (g.C.Caller.sight c.names.caller) (g.C.Caller.sight c.make_named.new.caller) c.names.invariant.telling c.make_named.ensures.telling;
       basis = c.make_named.ensures.basis ∙ run.invariant.basis;
       references = c.make_named.ensures.references ∙ run.invariant.references;
     }
+
+pub returns-then-number-tries-clause-telling : goal.returns-then-number-tries-clause-telling
+returns-then-number-tries-clause-telling g c =
+    keeps_both g.C.Caller.loses (g.C.Caller.telling c.args.caller.now) (g.C.Caller.telling c.names.caller) (g.C.Caller.telling c.make_named.new.caller)
+    (g.C.Caller.sight c.args.caller.now) (g.C.Caller.sight c.names.caller) (g.C.Caller.sight c.make_named.new.caller) c.names.invariant.telling c.make_named.ensures.telling
+
+pub returns-in-Ruled-clause-telling : goal.returns-in-Ruled-clause-telling
+returns-in-Ruled-clause-telling g c =
+    keeps_both g.C.Caller.loses (g.C.Caller.telling c.args.caller.now) (g.C.Caller.telling c.names.caller) (g.C.Caller.telling c.make_named.new.caller)
+    (g.C.Caller.sight c.args.caller.now) (g.C.Caller.sight c.names.caller) (g.C.Caller.sight c.make_named.new.caller) c.names.invariant.telling c.make_named.ensures.telling
+
+pub returns-in-Full-clause-telling : goal.returns-in-Full-clause-telling
+returns-in-Full-clause-telling g c =
+    keeps_both g.C.Caller.loses (g.C.Caller.telling c.args.caller.now) (g.C.Caller.telling c.names.caller) (g.C.Caller.telling c.make_named.new.caller)
+    (g.C.Caller.sight c.args.caller.now) (g.C.Caller.sight c.names.caller) (g.C.Caller.sight c.make_named.new.caller) c.names.invariant.telling c.make_named.ensures.telling
+
+pub returns-in-Memory-clause-telling : goal.returns-in-Memory-clause-telling
+returns-in-Memory-clause-telling g c =
+    keeps_both g.C.Caller.loses (g.C.Caller.telling c.args.caller.now) (g.C.Caller.telling c.names.caller) (g.C.Caller.telling c.make_named.new.caller)
+    (g.C.Caller.sight c.args.caller.now) (g.C.Caller.sight c.names.caller) (g.C.Caller.sight c.make_named.new.caller) c.names.invariant.telling c.make_named.ensures.telling
