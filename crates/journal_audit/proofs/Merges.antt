@@ -268,7 +268,7 @@ told-contents act.Delete true contents sized = no-contents contents sized
 
 -- the entry that a line tells, with the ruling that was found
 abbrev made_of : Line → Ruling → Made
-made_of line ruling = record { time = line.now; step = entry_of line ruling }
+made_of line ruling = record { time = line.now; step = entry_of line ruling; told = true }
 
 line-is : (line : Line) (ruling : Ruling) → IsSound line → line.shard ≡ shard_of line.name → said_of ruling ≡ said_by line → line ≡ line_of (made_of line ruling)
 line-is line ruling sound own said =

@@ -1,5 +1,5 @@
 -- The words of acts.
-use Rattle.std.proofs.Common.{◌≡◌, ℕ, List, [], ◌∷◌, ◌++◌, length, get_or, take, drop, Option, None, Some, if◌then◌else◌, refl, sym, ap, ◌∙◌, arith}
+use Rattle.std.proofs.Common.{◌≡◌, ◌==◌, true, false, ℕ, List, [], ◌∷◌, ◌++◌, length, get_or, take, drop, Option, None, Some, if◌then◌else◌, refl, sym, ap, ◌∙◌, arith}
 use Rattle.std.specs.Prelude.{codes, decimal}
 use Rattle.std.specs.Str.{bytes_eq}
 use Rattle.std.proofs.lemmas.Fmt.{decimal_injective}
@@ -8,7 +8,7 @@ use Rattle.host_core.specs.declared.entry.EntryAct.{EntryAct}
 use Rattle.host_core.specs.declared.entry.EntryAct.TheVariants as act
 use Rattle.host_table.specs.Text.{optional_number, optional_hex, hex_text, overwrite_text}
 use Rattle.journal_text.specs.Acts.{IsNamed}
-use Rattle.journal_text.specs.Lines.{IsAct, Fits, size_of}
+use Rattle.journal_text.specs.Lines.{IsAct, Fits, MayFit, size_of, told_size}
 use Rattle.journal_text.specs.Words.{act_words}
 
 -- no act of two words has such a first word
@@ -118,3 +118,12 @@ same_text (Some n) (Some m) h k e = ap Some (decimal_injective n m h k (cc e))
 -- acts with the same words bring contents of the same size
 pub same_size : (asked other : EntryAct) → IsAct asked → IsAct other → act_words asked ≡ act_words other → size_of asked ≡ size_of other
 same_size asked other h k e = same_text _ _ (size_fits asked h) (size_fits other k) (told asked ∙ ap size_word e ∙ sym (told other))
+
+may_fit : (size : Option ℕ) → SizeFits size → MayFit size
+may_fit None h = tt
+may_fit (Some n) h = h
+
+-- the size of what is accepted fits, where that of what is asked does
+pub told_fits : (asked : EntryAct) (status : ℕ) → IsAct asked → MayFit (told_size asked status)
+told_fits asked status h =
+    elim (status == 200) as (λ b. MayFit (if b then size_of asked else None)) [ true ↦ may_fit (size_of asked) (size_fits asked h) | false ↦ tt ]

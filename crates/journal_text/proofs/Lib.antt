@@ -1,13 +1,13 @@
 mod Locks
 mod Hexes
-mod TokenTexts
+pub mod TokenTexts
 mod Asking
 mod HexWords
 mod EntryWords
 mod Clocks
 mod RowKinds
-mod Plain
-mod Rows
+pub mod Plain
+pub mod Rows
 mod Fronts
 mod Growing
 mod Outcomes
@@ -15,6 +15,7 @@ mod Again
 pub mod LineTexts
 mod HostBounds
 mod HostTexts
-mod Uniqueness
-mod OneReading
+pub mod Uniqueness
+pub mod OneReading
 mod PieceLemmas
+pub mod Bare

@@ -92,7 +92,7 @@ same_line form line other h k given e =
 
 -- ---- one line after another
 
-one_row : (words other : List (List ℕ)) (rest more : List ℕ) → 0 < length words → 0 < length other → EachLacks 32 words → EachLacks 10 words
+pub one_row : (words other : List (List ℕ)) (rest more : List ℕ) → 0 < length words → 0 < length other → EachLacks 32 words → EachLacks 10 words
     → EachLacks 32 other → EachLacks 10 other → row_text words ++ rest ≡ row_text other ++ more → (words ≡ other) × (rest ≡ more)
 unfolding Lacks
 one_row [] other rest more some most a b c d e = absurd (omega (arith, some))

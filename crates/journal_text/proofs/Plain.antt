@@ -15,8 +15,9 @@ use Rattle.host_table.specs.Text.{hex_text, optional_hex, optional_number, overw
 use Rattle.journal_text.specs.declared.text.Format.{Format}
 use Rattle.journal_text.specs.declared.text.Format.TheVariants.{First, Second}
 use Rattle.journal_text.specs.declared.text.Line.{Line}
-use Rattle.journal_text.specs.Lines.{AreSized, IsAct, IsFile, IsLine, IsOpening, IsToken, Fits, MayBeLock, MayFit, told_size}
-use Rattle.journal_text.specs.Words.{act_words, end_words, file_words, first_words, last_words, line_words, now_words, token_parts}
+use Rattle.journal_text.specs.Lines.{AreSized, IsAct, IsBare, IsFile, IsLine, IsOpening, IsToken, Fits, MayBeLock, MayFit, told_size}
+use Rattle.journal_text.specs.Words.{act_words, bare_words, end_words, file_words, first_words, last_words, line_words, now_words, token_parts}
+use Rattle.journal_text.proofs.Asking.{told_fits}
 use Rattle.journal_text.proofs.EntryWords.{small}
 use Rattle.journal_text.proofs.Hexes.{Lacks-hex_text}
 use Rattle.journal_text.proofs.Locks.{IsBytes-lock}
@@ -38,17 +39,17 @@ feed = record { letter = refl; digit = refl; period = refl }
 -- ---- one word
 
 -- a word of letters, digits, underscores and dashes
-letters : (mark : ℕ) (word : List ℕ) → IsMark mark → list_all is_user_byte word ≡ true → Lacks mark word
+pub letters : (mark : ℕ) (word : List ℕ) → IsMark mark → list_all is_user_byte word ≡ true → Lacks mark word
 letters mark word m h = Lacks-list_all mark is_user_byte word m.letter h
 
-number : (mark n : ℕ) → IsMark mark → Fits n → Lacks mark (decimal n)
+pub number : (mark n : ℕ) → IsMark mark → Fits n → Lacks mark (decimal n)
 number mark n m h = Lacks-decimal mark n m.digit h
 
 Lacks-cons : (mark byte : ℕ) (word : List ℕ) → (byte == mark) ≡ false → Lacks mark word → Lacks mark (byte ∷ word)
 unfolding Lacks
 Lacks-cons mark byte word h k = All-cons (λ b. (b == mark) ≡ false) byte word h k
 
-Lacks-append : (mark : ℕ) (word more : List ℕ) → Lacks mark word → Lacks mark more → Lacks mark (word ++ more)
+pub Lacks-append : (mark : ℕ) (word more : List ℕ) → Lacks mark word → Lacks mark more → Lacks mark (word ++ more)
 unfolding Lacks
 Lacks-append mark word more h k = All-append (λ b. (b == mark) ≡ false) word more h k
 
@@ -65,14 +66,14 @@ Lacks-token : (mark : ℕ) (token : Token) → IsMark mark → IsToken token →
 Lacks-token mark token m form =
     subst (Lacks mark) (sym (joined token)) (Lacks-join mark 46 (token_parts token) m.period (fields-lack mark token m.letter m.digit form))
 
-Lacks-lock : (mark : ℕ) (id : List ℕ) → IsMark mark → IsLockId id → Lacks mark (hex_text id)
+pub Lacks-lock : (mark : ℕ) (id : List ℕ) → IsMark mark → IsLockId id → Lacks mark (hex_text id)
 Lacks-lock mark id m form = Lacks-hex_text mark id m.letter (IsBytes-lock id form)
 
 Lacks-optional_lock : (mark : ℕ) (lock : Option (List ℕ)) → IsMark mark → MayBeLock lock → Lacks mark (optional_hex lock)
 Lacks-optional_lock mark None m form = letters mark (codes "-") m refl
 Lacks-optional_lock mark (Some id) m form = Lacks-lock mark id m form
 
-Lacks-optional_number : (mark : ℕ) (most : Option ℕ) → IsMark mark → MayFit most → Lacks mark (optional_number most)
+pub Lacks-optional_number : (mark : ℕ) (most : Option ℕ) → IsMark mark → MayFit most → Lacks mark (optional_number most)
 Lacks-optional_number mark None m form = letters mark (codes "-") m refl
 Lacks-optional_number mark (Some n) m form = number mark n m form
 
@@ -160,6 +161,45 @@ line-lacks form mark line m h =
             number mark line.moment m (omega (arith, moment)),
             EachLacks-append mark (now_words form line.now) _ (nows-lack form mark line.now m (omega (arith, now)))
                 (Lacks-id mark line.name m.letter h.name, EachLacks-append mark (act_words line.act) (end_words line) (acts-lack mark line.act m h.asked) (ends-lack form mark line m h)),
+          ),
+        ),
+      ),
+    )
+
+pub bare-lacks : (mark : ℕ) (line : Line) → IsMark mark → IsBare line → EachLacks mark (bare_words line)
+unfolding EachLacks
+bare-lacks mark line m h =
+    let shard = h.shard in
+    let pass = h.pass in
+    let moment = h.moment in
+    let now = h.now in
+    let least = small line.status h.status in (
+      number mark line.stamp m h.stamp,
+      (
+        number mark line.shard m (omega (arith, shard)),
+        (
+          number mark line.pass m (omega (arith, pass)),
+          (
+            number mark line.moment m (omega (arith, moment)),
+            (
+              number mark line.now m (omega (arith, now)),
+              (
+                Lacks-id mark line.name m.letter h.name,
+                EachLacks-append mark (act_words line.act) _ (acts-lack mark line.act m h.asked) (
+                  Lacks-token mark line.token m h.token,
+                  (
+                    number mark line.status m (omega (arith, least)),
+                    (
+                      Lacks-optional_lock mark line.lock m h.lock,
+                      (
+                        Lacks-reason mark line.reason m,
+                        (Lacks-version mark line.version m h.version, (Lacks-optional_number mark (told_size line.act line.status) m (told_fits line.act line.status h.asked), tt)),
+                      ),
+                    ),
+                  ),
+                ),
+              ),
+            ),
           ),
         ),
       ),

@@ -97,7 +97,7 @@ same_version None (Some n) h k e = absurd (omega (arith, ap (λ l. get_or l 0 0)
 same_version (Some n) None h k e = absurd (omega (arith, ap (λ l. get_or l 0 0) e))
 same_version (Some n) (Some m) h k e = ap Some (decimal_injective n m h k (ap (drop 1) e))
 
-same_number : (most other : Option ℕ) → MayFit most → MayFit other → optional_number most ≡ optional_number other → most ≡ other
+pub same_number : (most other : Option ℕ) → MayFit most → MayFit other → optional_number most ≡ optional_number other → most ≡ other
 same_number None None h k e = refl
 same_number None (Some n) h k e = absurd (dash_no_number n k e)
 same_number (Some n) None h k e = absurd (dash_no_number n h (sym e))

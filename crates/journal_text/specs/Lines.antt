@@ -65,6 +65,21 @@ pub record IsLine (form : Format) (line : Line) : Type 0 where
   pub version : MayFit line.version
   pub contents : AreSized (told_size line.act line.status) line.contents
 
+-- what an entry's line may tell of which the contents stand elsewhere
+pub record IsBare (line : Line) : Type 0 where
+  pub stamp : Fits line.stamp
+  pub shard : line.shard < 16
+  pub pass : line.pass < 2 ^ 32
+  pub moment : IsMoment line.moment
+  pub now : IsMoment line.now
+  pub name : IsFileName line.name
+  pub asked : IsAct line.act
+  pub token : IsToken line.token
+  pub status : is_status line.status ≡ true
+  pub lock : MayBeLock line.lock
+  pub version : MayFit line.version
+  pub contents : line.contents ≡ None
+
 -- what an opening file's line may tell
 pub record IsFile (file : List ℕ × List ℕ) : Type 0 where
   pub name : IsFileName file.0

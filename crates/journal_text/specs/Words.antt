@@ -10,6 +10,7 @@ use Rattle.host_table.specs.Text.{hex_text, optional_hex, optional_number, overw
 use Rattle.journal_text.specs.declared.text.Format.{Format}
 use Rattle.journal_text.specs.declared.text.Format.TheVariants.{First, Second}
 use Rattle.journal_text.specs.declared.text.Line.{Line}
+use Rattle.journal_text.specs.Lines.{told_size}
 
 -- the parts of a token between its periods
 abbrev pub parts_of : List ℕ → List (List ℕ)
@@ -49,6 +50,15 @@ abbrev pub line_words : Format → Line → List (List ℕ)
 line_words form line =
     decimal line.stamp ∷ decimal line.shard ∷ decimal line.pass ∷ decimal line.moment
     ∷ (now_words form line.now ++ (id_of line.name ∷ (act_words line.act ++ end_words line)))
+
+-- the words of an entry's line of which the contents stand elsewhere: of these it tells the size
+abbrev pub bare_words : Line → List (List ℕ)
+bare_words line =
+    decimal line.stamp ∷ decimal line.shard ∷ decimal line.pass ∷ decimal line.moment ∷ decimal line.now ∷ id_of line.name
+    ∷ (act_words line.act ++ (
+    token_fields line.token ∷ decimal line.status ∷ optional_hex line.lock ∷ reason_text line.reason ∷ version_text line.version
+    ∷ optional_number (told_size line.act line.status) ∷ []
+    ))
 
 -- the words of an opening file's line
 abbrev pub file_words : List ℕ × List ℕ → List (List ℕ)

@@ -1,17 +1,17 @@
 //! The lines of entries.
-ghost use Rattle.std.specs.Prelude.{◌≡◌, ◌≢◌, ◌∷◌, ◌++◌, [], true, List, ℕ, Option, decimal, IfOk, IfSome, IfNone};
+ghost use Rattle.std.specs.Prelude.{◌≡◌, ◌≢◌, ◌↔◌, ◌∷◌, ◌++◌, [], true, List, ℕ, Option, decimal, IfOk, IfSome, IfNone, IsTrue};
 ghost use Rattle.wopi_text.specs.FileName.{IsFileName};
 ghost use Rattle.wopi_text.specs.Ids.{id_of};
 ghost use Rattle.wopi_text.specs.declared.reason.Reason.{Reason};
 ghost use Rattle.wopi_model.specs.Moment.{IsMoment};
 ghost use Rattle.wopi_model.specs.declared.token.Token.{Token};
-ghost use Rattle.host_table.specs.Text.{optional_hex, reason_text, token_fields, version_text};
+ghost use Rattle.host_table.specs.Text.{optional_hex, optional_number, reason_text, token_fields, version_text};
 ghost use Rattle.journal_text.specs.declared.text.Line.{Line};
 ghost use Rattle.journal_text.specs.declared.entry.Place.{Place};
 ghost use Rattle.journal_text.specs.declared.entry.Head.{Head};
 ghost use Rattle.journal_text.specs.Entries.{AreEnds, IsHead, IsPlace, ends_words, head_words, place_words};
-ghost use Rattle.journal_text.specs.Lines.{IsLine, IsToken, MayBeLock, MayFit, is_status, told_size};
-ghost use Rattle.journal_text.specs.Words.{line_words, words_of};
+ghost use Rattle.journal_text.specs.Lines.{IsBare, IsLine, IsToken, MayBeLock, MayFit, is_status, told_size};
+ghost use Rattle.journal_text.specs.Words.{bare_words, line_words, words_of};
 
 use crate::acts::act_read;
 use crate::contents::contents_read;
@@ -22,7 +22,7 @@ use crate::values::{
     optional_lock_read, pass_read, reason_read, shard_read, status_read, version_read,
 };
 use host_core::EntryAct;
-use line_text::{has_more, moment_read, number_read, split_word};
+use line_text::{has_more, is_word, moment_read, number_read, split_word};
 use std::alloc::Global;
 use wopi_model::Token;
 use wopi_text::{FileName, LockId, Memory, Reason, id_read};
@@ -94,8 +94,56 @@ pub(crate) fn line_read(alloc: Global, form: Format, row: &[u8]) -> Result<Optio
     }))
 }
 
+/// Whether a word tells that size, or `-` that there is none.
+fn is_size(word: &[u8], size: Option<u64>) -> bool
+    ensures { IsTrue result ↔ (word.now ≡ optional_number size) }
+{
+    let Some(size) = size else {
+        return is_word(word, b"-".as_slice());
+    };
+    let Some(number) = number_read(word) else {
+        return false;
+    };
+    number == size
+}
+
+/// The line of an entry whose contents stand elsewhere, if it is one: in their place it tells how many bytes they
+/// have. It has the words of the second form otherwise.
+pub fn bare_line_read(row: &[u8]) -> Option<Line>
+    ensures some { IfSome result (λ line. IsBare line × (words_of row.now ≡ bare_words line)) }
+    ensures none { IfNone result ((line : Line) → IsBare line → words_of row.now ≢ bare_words line) }
+{
+    let Some((head, rest)) = head_read(Format::Second, row) else {
+        return None;
+    };
+    let Some((act, rest)) = act_read(rest) else {
+        return None;
+    };
+    let Some(ends) = ends_read(rest) else {
+        return None;
+    };
+    if !is_size(ends.contents, told_size(&act, ends.status)) {
+        return None;
+    }
+    Some(Line {
+        stamp: head.place.stamp,
+        shard: head.place.shard,
+        pass: head.place.pass,
+        moment: head.place.moment,
+        now: head.now,
+        name: head.name,
+        act,
+        token: ends.token,
+        status: ends.status,
+        lock: ends.lock,
+        reason: ends.reason,
+        version: ends.version,
+        contents: None,
+    })
+}
+
 /// The size of the contents that an entry's line tells, if it tells some.
-fn told_size(act: &EntryAct, status: u16) -> Option<u64>
+pub fn told_size(act: &EntryAct, status: u16) -> Option<u64>
     ensures { result ≡ told_size act.now status }
 {
     if status != 200 {

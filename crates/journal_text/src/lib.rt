@@ -31,11 +31,14 @@ mod tokens;
 mod values;
 mod writing;
 
+pub use entry::{bare_line_read, told_size};
 pub use host_core::EntryAct as LineAct;
 pub use host_table::WriteEnd;
 pub use input::{SizeFault, read_bytes, read_lines};
 pub use journal::{JournalFault, read_journal};
 pub use keeping::Keeper;
+pub use opening::begin_read;
 pub use rewriting::{RewriteFault, rewrite};
 pub use text::{Files, Format, JournalText, Line, Lines};
+pub use values::{lock_read, optional_number_read, shard_read, told_version};
 pub use writing::{write_lines, write_lines_into};

@@ -52,7 +52,7 @@ pub(crate) fn first_read(row: &[u8]) -> Option<Opening>
 }
 
 /// The version's word in the first line, and what stands behind it.
-fn begin_read(row: &[u8]) -> Option<(&[u8], &[u8])>
+pub fn begin_read(row: &[u8]) -> Option<(&[u8], &[u8])>
     ensures some { IfSome result (λ read. words_of row.now ≡ codes "wopi" ∷ codes "journal" ∷ read.0.now ∷ words_of read.1.now) }
     ensures none { IfNone result ((version word : List ℕ) (words : List (List ℕ)) → words_of row.now ≢ codes "wopi" ∷ codes "journal" ∷ version ∷ word ∷ words) }
 {

@@ -13,7 +13,7 @@ use wopi_text::{LockId, Reason, decode_hex};
 const MOST: usize = 1_024;
 
 /// The number of a shard that a word is.
-pub(crate) fn shard_read(word: &[u8]) -> Option<u8>
+pub fn shard_read(word: &[u8]) -> Option<u8>
     ensures { (n : ℕ) → (result ≡ Some n) ↔ ((n < 16) × (word.now ≡ decimal n)) }
 {
     let number = number_read(word)?;
@@ -64,7 +64,7 @@ pub(crate) fn status_read(word: &[u8]) -> Option<u16>
 }
 
 /// The number that a word is: `-` says that there is none.
-pub(crate) fn optional_number_read(word: &[u8]) -> Option<Option<u64>>
+pub fn optional_number_read(word: &[u8]) -> Option<Option<u64>>
     ensures some { IfSome result (λ number. MayFit number × (word.now ≡ optional_number number)) }
     ensures none { IfNone result ((number : Option ℕ) → MayFit number → word.now ≢ optional_number number) }
 {
@@ -78,7 +78,7 @@ pub(crate) fn optional_number_read(word: &[u8]) -> Option<Option<u64>>
 }
 
 /// The number behind a `v`.
-fn told_version(word: &[u8]) -> Option<u64>
+pub fn told_version(word: &[u8]) -> Option<u64>
     ensures { (n : ℕ) → (result ≡ Some n) ↔ (Fits n × (word.now ≡ 118 ∷ decimal n)) }
 {
     if word.is_empty() {
@@ -170,7 +170,7 @@ fn writes(digits: &[u8], bytes: &[u8]) -> bool
 }
 
 /// The lock id that a word writes in lower-case hex. It takes no memory.
-pub(crate) fn lock_read(word: &[u8]) -> Option<LockId>
+pub fn lock_read(word: &[u8]) -> Option<LockId>
     ensures some { IfSome result (λ id. IsLockId id × (word.now ≡ hex_text id)) }
     ensures none { IfNone result ((id : List ℕ) → IsLockId id → word.now ≢ hex_text id) }
 {
