@@ -5,7 +5,7 @@ use Rattle.std.specs.List.{slice_get, AllByRecursion}
 use Rattle.wopi_model.specs.Shard.{Entry}
 use Rattle.host_server.specs.declared.desk.Desk.{Desk}
 use Rattle.host_server.specs.declared.connection.ConnEnd.{ConnEnd}
-use Rattle.host_server.specs.declared.connection.ConnEnd.TheVariants.{Done, ReadFault, WriteFault, Memory}
+use Rattle.host_server.specs.declared.connection.ConnEnd.TheVariants.{Done, ReadFault, WriteFault, Lost, Memory}
 use Rattle.host_server.specs.Deeds.{Deed, Made, MadeFor, Blocked, Listed, made}
 use Rattle.host_server.specs.Turns.{Turn, IsTurn, GoOn, bytes_of, parts_of}
 use Rattle.host_server.specs.Connection.{End, closed, empty, refused, wanted, IsEnd, end_part, Next, line, reply, last, IsNext, next_part, Cut, Awaits, IsConnEnd}
@@ -123,4 +123,5 @@ module _ (desk : Desk) (input : List ℕ) (all : List Deed) where
       (of_end conn.end (length conn.turns) conn.turns asked.rest asked.go_on asked.input_is asked.deeds_are asked.ends)
   sources ReadFault left moments output h = of_read left moments output h
   sources WriteFault left moments output h = of_cut moments output h
+  sources Lost left moments output h = of_cut moments output h.0
   sources Memory left moments output h = subst (λ (d : List Deed). AllByRecursion Of (made d)) (sym h.2) tt

@@ -33,9 +33,9 @@ module _ {S K F N D C L : Type 0} (m : Meanings S K F N D C L) where
       → began ≡ first → last ≡ ended
       → Serves desk SeesItsOwn end (m.left old.input) (m.left new.input) (m.work.moments clock) (m.work.moments clock') (sight_of began) (sight_of ended) (m.held old.output) (m.held new.output)
       → ended.start ≡ began.start → last.only ≡ None
-      → IsLawful last (m.files last.start) (m.files last.folder) (m.folder_faults last.start) (m.folder_faults last.folder) → folder ≡ last.folder
+      → IsLawful last (m.files last.start) (m.files last.folder) (m.folder_faults last.start) (m.folder_faults last.folder) → folder ≡ last.folder → end ≢ conn.Lost
       → ServesShard m desk end first folder clock clock' old new
-  shard_serves desk end first began ended last folder clock clock' old new begins ends serves start only lawful folder_is =
+  shard_serves desk end first began ended last folder clock clock' old new begins ends serves start only lawful folder_is kept =
       let Served : Book F → Book F → Type 0 = λ a b. Serves desk SeesItsOwn end (m.left old.input) (m.left new.input) (m.work.moments clock) (m.work.moments clock') (sight_of a) (sight_of b)
       (m.held old.output) (m.held new.output)
       in
@@ -46,6 +46,7 @@ module _ {S K F N D C L : Type 0} (m : Meanings S K F N D C L) where
         only = only;
         lawful = lawful;
         folder_is = folder_is;
+        kept = kept;
       }
 
   -- the entries of a connection over a fresh shard are legal by themselves
@@ -147,7 +148,7 @@ module _ {S K F N D C L : Type 0} (m : Meanings S K F N D C L) where
           origin_is = served.origin_is;
           times = served.times;
           opens = served.opens;
-          serves = record { last = one.last; serves = one.serves; start = one.start; only = one.only; lawful = one.lawful; folder_is = one.folder_is };
+          serves = record { last = one.last; serves = one.serves; start = one.start; only = one.only; lawful = one.lawful; folder_is = one.folder_is; kept = one.kept };
           legal = served.legal;
           shown = served.shown;
         }
@@ -192,6 +193,7 @@ pub by_read_fault : {K : Type 0} (R : Type 0) (held : K → Option (List ℕ)) (
 by_read_fault R held count status old new (Served conn.Done) is cause s = absurd (omega (arith, is.0, s))
 by_read_fault R held count status old new (Served conn.ReadFault) is cause s = cause refl
 by_read_fault R held count status old new (Served conn.WriteFault) is cause s = absurd (omega (arith, is.0, s))
+by_read_fault R held count status old new (Served conn.Lost) is cause s = absurd (omega (arith, is.0, s))
 by_read_fault R held count status old new (Served conn.Memory) is cause s = absurd (omega (arith, is.0, s))
 by_read_fault R held count status old new FolderFault is cause s = absurd (omega (arith, is.0, s))
 by_read_fault R held count status old new (TooLarge name) (inl told) cause s = absurd (omega (arith, told.0, s))
@@ -204,6 +206,7 @@ pub by_no_read_fault : {K : Type 0} (R : Type 0) (held : K → Option (List ℕ)
 by_no_read_fault R held count status old new (Served conn.Done) is fine s = fine (λ e. absurd (cc e))
 by_no_read_fault R held count status old new (Served conn.ReadFault) is fine s = absurd (s is.0)
 by_no_read_fault R held count status old new (Served conn.WriteFault) is fine s = fine (λ e. absurd (cc e))
+by_no_read_fault R held count status old new (Served conn.Lost) is fine s = fine (λ e. absurd (cc e))
 by_no_read_fault R held count status old new (Served conn.Memory) is fine s = fine (λ e. absurd (cc e))
 by_no_read_fault R held count status old new FolderFault is fine s = fine (λ e. absurd (cc e))
 by_no_read_fault R held count status old new (TooLarge name) is fine s = fine (λ e. absurd (cc e))
@@ -215,6 +218,7 @@ pub by_write_fault : {K : Type 0} (R : Type 0) (held : K → Option (List ℕ)) 
 by_write_fault R held count status old new (Served conn.Done) is cause s = absurd (omega (arith, is.0, s))
 by_write_fault R held count status old new (Served conn.ReadFault) is cause s = absurd (omega (arith, is.0, s))
 by_write_fault R held count status old new (Served conn.WriteFault) is cause s = cause refl
+by_write_fault R held count status old new (Served conn.Lost) is cause s = absurd (omega (arith, is.0, s))
 by_write_fault R held count status old new (Served conn.Memory) is cause s = absurd (omega (arith, is.0, s))
 by_write_fault R held count status old new FolderFault is cause s = absurd (omega (arith, is.0, s))
 by_write_fault R held count status old new (TooLarge name) (inl told) cause s = absurd (omega (arith, told.0, s))
@@ -226,6 +230,7 @@ Finishes-known : {K : Type 0} (held : K → Option (List ℕ)) (count : K → �
 Finishes-known held count status old new (Served conn.Done) is two = absurd (omega (arith, is.0, two))
 Finishes-known held count status old new (Served conn.ReadFault) is two = absurd (omega (arith, is.0, two))
 Finishes-known held count status old new (Served conn.WriteFault) is two = absurd (omega (arith, is.0, two))
+Finishes-known held count status old new (Served conn.Lost) is two = absurd (omega (arith, is.0, two))
 Finishes-known held count status old new (Served conn.Memory) is two = absurd (omega (arith, is.0, two))
 Finishes-known held count status old new FolderFault is two = absurd (omega (arith, is.0, two))
 Finishes-known held count status old new (TooLarge name) (inl told) two = absurd (omega (arith, told.0, two))

@@ -33,6 +33,7 @@ abbrev pub status_of : ConnEnd → ℕ
 status_of conn.Done = 0
 status_of conn.ReadFault = 3
 status_of conn.WriteFault = 4
+status_of conn.Lost = 16
 status_of conn.Memory = 6
 
 -- how a run ends where no shard was opened
@@ -94,7 +95,7 @@ module _ {S K F N D C L : Type 0} (m : Meanings S K F N D C L) where
     pub dated : map (λ one. one.0) first.dates ≡ map (λ one. one.0) first.begin.files
     pub told : AreDatesOf (m.times folder) first.dates
 
-  -- A connection was served over a shard that began as `first`. What was done is what the shard has come to; its history is legal, its folder
+  -- A connection was served over a shard that began as `first`, and no store was lost. What was done is what the shard has come to; its history is legal, its folder
   -- agrees with it, and each answer of a store fault has raised the folder's count.
   pub record ServesShard (desk : Desk) (end : ConnEnd) (first : Book F) (folder : F) (clock clock' : C) (old new : Outside S K F N D C) : Type 0 where
     pub last : Book F
@@ -103,6 +104,7 @@ module _ {S K F N D C L : Type 0} (m : Meanings S K F N D C L) where
     pub only : last.only ≡ None
     pub lawful : IsLawful last (m.files last.start) (m.files last.folder) (m.folder_faults last.start) (m.folder_faults last.folder)
     pub folder_is : folder ≡ last.folder
+    pub kept : end ≢ conn.Lost
 
   -- The clock's first moment opened the shard, and the connection was served by its later ones. The entries that were made are
   -- legal by themselves, from the opening: nobody set the shard's time beside them. Each listing shows the shard after those before it.

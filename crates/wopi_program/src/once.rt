@@ -47,6 +47,7 @@ fn serve<S: Source, K: Sink, F: Folder, C: Clock>(
 ) -> ConnEnd
     ensures serves { Serves desk.now SeesItsOwn result (S.left source.old) (S.left source.new) (C.moments clock.old) (C.moments clock.new)
         (sight_of single.old.shard) (sight_of single.new.shard) (K.held sink.old) (K.held sink.new) }
+    ensures kept { result ≢ ConnEnd.Lost }
     ensures fine { result ≢ ConnEnd.ReadFault → S.read_faults source.new ≡ S.read_faults source.old }
     ensures start { single.new.shard.start ≡ single.old.shard.start }
     ensures read_fault { result ≡ ConnEnd.ReadFault → Rose (S.read_faults source.old) (S.read_faults source.new) }
@@ -213,6 +214,10 @@ fn finish_served<K: Sink>(notes: &mut K, end: ConnEnd) -> u8
         ConnEnd::WriteFault => {
             note(notes, b"write fault\n");
             4
+        }
+        ConnEnd::Lost => {
+            note(notes, b"journal fault\n");
+            16
         }
         ConnEnd::Memory => {
             note(notes, b"out of memory\n");

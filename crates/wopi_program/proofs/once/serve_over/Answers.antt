@@ -8,4 +8,4 @@ pub returns-clause-serves : goal.returns-clause-serves
 returns-clause-serves g c =
     shard_serves _ c.args.desk.now c.serve-end.result (over_folder c.args.shard) (over_folder c.new-single.result.shard) (over_folder c.serve-end.new.single.shard) (over_folder c.end-shard.result) c.leave-folder.result.0 _ _ _ _
     (ap over_folder c.new-single.ensures) (ap over_folder c.end-shard.ensures.same) c.serve-end.ensures.serves (ap (λ (s : InMemory g.row.F.Denot). s.folder) c.serve-end.ensures.start) c.end-shard.ensures.whole
-    (lawful_over c.end-shard.result _ _ _ _ c.leave-folder.ensures.lawful) c.leave-folder.ensures.folder
+    (lawful_over c.end-shard.result _ _ _ _ c.leave-folder.ensures.lawful) c.leave-folder.ensures.folder c.serve-end.ensures.kept
