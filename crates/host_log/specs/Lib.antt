@@ -1,0 +1,4 @@
+pub mod Begun
+pub mod Rows
+pub mod Lines
+pub mod Logs

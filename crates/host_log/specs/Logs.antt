@@ -1,0 +1,82 @@
+-- A folder beside a log as the definitions see it.
+use Rattle.std.specs.Prelude.{◌≡◌, ◌≤◌, ◌<◌, ◌^◌, ◌||◌, ⊤, Bool, true, false, ℕ, List, [], ◌∷◌, ◌++◌, length, Option, None, Some, is_some, option_map}
+use Rattle.wopi_model.specs.Act.{is_stored}
+use Rattle.wopi_model.specs.Begin.{new_life}
+use Rattle.wopi_model.specs.Shard.{Entry}
+use Rattle.host_core.specs.Entries.{Asked, Made, asked_in, ruled, told_of}
+use Rattle.host_core.specs.Notes.{Notes, Brought, accepted, opening_listed, told_version}
+use Rattle.host_core.specs.Times.{steps_of}
+use Rattle.host_log.specs.declared.logged.Logged.TheInside.{Inside}
+use Rattle.host_log.specs.declared.logged.Saved.{Saved}
+use Rattle.host_log.specs.Lines.{IsOf, LinesView}
+
+-- The folder, what was noted, and what was told to the log. It's lost where the log is, or where no more entries are counted. `missing` is the
+-- entry that was ended as the log was lost, and `refused` is how often a call failed for that.
+pub record LogView (F : Type 0) : Type 0 where
+  pub folder : F
+  pub notes : Notes
+  pub lines : LinesView
+  pub lost : Bool
+  pub missing : List Made
+  pub refused : ℕ
+
+abbrev pub brought_as : Saved → Brought
+brought_as saved = (Some saved.version, saved.contents.value)
+
+abbrev pub view_of : {F L : Type 0} → Inside F L → LogView F
+view_of l = record {
+  folder = l.folder;
+  notes = record {
+    begin = new_life (opening_listed l.opening.value.items) l.opened l.first;
+    made = l.lines.told ++ l.missing;
+    begun = l.begun;
+    saved = option_map brought_as l.saved;
+    most = None;
+  };
+  lines = l.lines;
+  lost = l.lines.lost || l.spent;
+  missing = l.missing;
+  refused = l.refused;
+}
+
+-- over that folder, with nothing noted and nothing told to the log
+pub record IsAnew {F : Type 0} (folder : F) (v : LogView F) : Type 0 where
+  pub folder_is : v.folder ≡ folder
+  pub made : v.notes.made ≡ []
+  pub begun : v.notes.begun ≡ None
+  pub told : v.lines.told ≡ []
+  pub missing : v.missing ≡ []
+  pub fine : v.lines.lost ≡ false
+  pub lost : v.lost ≡ false
+  pub refused : v.refused ≡ 0
+
+-- the line that stands is that of the call that was begun, as accepted
+abbrev pub MayStand : Option Asked → Option Brought → Option Made → Type 0
+MayStand begun saved standing =
+    is_some standing ≡ true → (one : Asked) × (begun ≡ Some one) × (is_stored one.call.act ≡ true) × (standing ≡ Some (ruled (accepted (told_version saved)) one))
+
+-- The entry in doubt is of the call that is begun, or of the one that is missing. Where there is neither, the call was given up.
+abbrev pub IsDoubt : Option Asked → List Made → Option Made → Type 0
+IsDoubt (Some one) missing doubt = (missing ≡ []) × IsOf one doubt
+IsDoubt None (last ∷ more) doubt = (more ≡ []) × IsOf (asked_in last) doubt
+IsDoubt None [] doubt = ⊤
+
+-- Those that may be told are the first of those that were told. They are all of them, as long as more entries are counted.
+pub record AreToldFirst (count : ℕ) (told missing : List Made) : Type 0 where
+  pub all : count < 2 ^ 62 → told_of told ≡ steps_of told
+  pub rest : List Entry
+  pub first : steps_of told ≡ told_of told ++ rest
+  pub none : told_of missing ≡ []
+
+-- unless the log is lost each entry was told, and the line of what was saved stands
+pub record IsLogged {F L : Type 0} (l : Inside F L) : Type 0 where
+  pub told : l.lines.lost ≡ false → l.missing ≡ []
+  pub doubt_is : l.lines.lost ≡ true → IsDoubt l.begun l.missing l.lines.doubt
+  pub ahead : MayStand l.begun (option_map brought_as l.saved) l.lines.standing
+  pub stands : l.lines.lost ≡ false → is_some l.saved ≡ true → is_some l.lines.standing ≡ true
+  pub refusals : l.lines.lost ≡ false → l.refused ≡ 0
+  pub number : l.count ≡ length (l.lines.told ++ l.missing)
+  pub few : l.count ≤ 2 ^ 62
+  pub spare : l.spent ≡ false → l.count < 2 ^ 62
+  pub room : is_some l.begun ≡ true → l.count < 2 ^ 62
+  pub may : AreToldFirst l.count l.lines.told l.missing
