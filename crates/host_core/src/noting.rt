@@ -48,10 +48,11 @@ pub trait Store: Folder {
         ensures made { OnOk result ((notes self.new).made ≡ []) }
         ensures begun { OnOk result ((notes self.new).begun ≡ None) }
         ensures most { OnOk result (TakesCalls calls (notes self.new).most) }
+        ensures going { OnOk result (lost self.new ≡ false) }
         ensures files { Keeps (Self.files self.old) (Self.files self.new) }
         ensures never_falls { Self.faults self.old ≤ Self.faults self.new };
 
-    /// Begins an entry, for which there is room, where the store isn't lost. It takes no memory.
+    /// Begins an entry, for which there is room, where the store isn't lost, nor is it then. It takes no memory.
     fn begin(&mut self, beginning: &Beginning<'_>)
         requires going { lost self.old ≡ false }
         requires begun { (notes self.old).begun ≡ None }
@@ -59,6 +60,7 @@ pub trait Store: Folder {
         ensures made { (notes self.new).made ≡ (notes self.old).made }
         ensures begun { (notes self.new).begun ≡ Some (asked_as beginning.now.stamp beginning.now.pass beginning.now.moment beginning.now.time beginning.now.call.now) }
         ensures saved { (notes self.new).saved ≡ None }
+        ensures goes_on { lost self.new ≡ false }
         ensures rest { KeepsOpen (notes self.old) (notes self.new) }
         ensures files { Keeps (Self.files self.old) (Self.files self.new) }
         ensures never_falls { Self.faults self.old ≤ Self.faults self.new };

@@ -125,6 +125,7 @@ impl<F: Store> Shard<F> {
         ensures opening { IfOk result (λ shard. (opening : Opening) × (shard.begin ≡ new_life opening opened first) × IsOpening only (F.files folder) opening × Fits opening) }
         ensures dates { IfOk result (λ shard. map (λ one. one.0) shard.dates ≡ map (λ one. one.0) shard.begin.files) }
         ensures told { IfOk result (λ shard. AreDatesOf (F.times folder) shard.dates) }
+        ensures going { IfOk result (λ shard. F.lost shard.folder ≡ false) }
         ensures same { IfOk result (λ shard. Keeps (F.files folder) (F.files shard.folder)) }
         ensures never_falls { IfOk result (λ shard. F.faults folder ≤ F.faults shard.folder) }
         ensures lawful { IfOk result (λ shard. IsLawful shard (F.files shard.start) (F.files shard.folder) (F.faults shard.start) (F.faults shard.folder)) }
@@ -168,6 +169,7 @@ impl<F: Store> Shard<F> {
         ensures opening { IfOk result (λ shard. (opening : Opening) × (shard.begin ≡ new_life opening opened first) × IsOpening only (F.files folder) opening × Fits opening) }
         ensures dates { IfOk result (λ shard. map (λ one. one.0) shard.dates ≡ map (λ one. one.0) shard.begin.files) }
         ensures told { IfOk result (λ shard. AreDatesOf (F.times folder) shard.dates) }
+        ensures going { IfOk result (λ shard. F.lost shard.folder ≡ false) }
         ensures same { IfOk result (λ shard. Keeps (F.files folder) (F.files shard.folder)) }
         ensures never_falls { IfOk result (λ shard. F.faults folder ≤ F.faults shard.folder) }
         ensures lawful { IfOk result (λ shard. IsLawful shard (F.files shard.start) (F.files shard.folder) (F.faults shard.start) (F.faults shard.folder)) }
@@ -211,6 +213,7 @@ impl<F: Store> Shard<F> {
         ensures opening { IfOk result (λ shard. (opening : Opening) × (shard.begin ≡ new_life opening opened first) × IsOpening only (F.files folder) opening × Fits opening) }
         ensures dates { IfOk result (λ shard. map (λ one. one.0) shard.dates ≡ map (λ one. one.0) shard.begin.files) }
         ensures told { IfOk result (λ shard. AreDatesOf (F.times folder) shard.dates) }
+        ensures going { IfOk result (λ shard. F.lost shard.folder ≡ false) }
         ensures same { IfOk result (λ shard. Keeps (F.files folder) (F.files shard.folder)) }
         ensures never_falls { IfOk result (λ shard. F.faults folder ≤ F.faults shard.folder) }
         ensures lawful { IfOk result (λ shard. IsLawful shard (F.files shard.start) (F.files shard.folder) (F.faults shard.start) (F.faults shard.folder)) }
@@ -562,6 +565,7 @@ impl<F: Store> Shard<F> {
         ensures same { result.now ≡ self.now.folder }
         ensures begin { (F.notes self.now.folder).begin ≡ self.now.begin }
         ensures made { (F.notes self.now.folder).made ≡ self.now.made }
+        ensures ended { (F.notes self.now.folder).begun ≡ None }
     {
         &self.folder
     }
@@ -733,6 +737,7 @@ impl<F: Store> Shard<F> {
         ensures begin { (F.notes result.0).begin ≡ self.begin }
         ensures made { (F.notes result.0).made ≡ self.made }
         ensures most { TakesCalls self.limits.calls (F.notes result.0).most }
+        ensures ended { (F.notes result.0).begun ≡ None }
         ensures lawful { IsLawful self (F.files self.start) (F.files self.folder) (F.faults self.start) (F.faults self.folder) }
     {
         let Shard {

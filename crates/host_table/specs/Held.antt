@@ -11,6 +11,7 @@ use Rattle.host_core.specs.Caller.{entry_of, called_back, IsFullCall, next_stamp
 use Rattle.host_core.specs.Entries.{back_of}
 use Rattle.host_core.specs.Facts.{made_for}
 use Rattle.host_core.specs.LockActs.{is_lock_act}
+use Rattle.host_core.specs.Notes.{Notes}
 use Rattle.host_core.specs.Value.{Book, InMemory, Left, IsLawful}
 use Rattle.host_core.specs.Times.{untimed}
 use Rattle.host_table.specs.Editors.{TellsEditor}
@@ -59,3 +60,11 @@ pub record IsTakenApart {F : Type 0} (files : F → Option Files) (faults : F �
   pub begin_is : book.begin ≡ new_life book.folder.opening book.begin.opened book.begin.first
   pub held : IsHeld book (files book.start.folder) (files book.folder.folder) (faults book.start.folder) (faults book.folder.folder)
   pub lawful : IsLawful book (files book.start.folder) (files book.folder.folder) (faults book.start.folder) (faults book.folder.folder)
+
+-- the store of a shard as the last step left it, and what it noted
+pub record IsGiven {F : Type 0} (files : F → Option Files) (faults : F → ℕ) (notes : F → Notes) (book : Book F) (store : F) : Type 0 where
+  pub is : store ≡ book.folder
+  pub begin : (notes store).begin ≡ book.begin
+  pub made : (notes store).made ≡ book.made
+  pub held : IsHeld book (files book.start) (files book.folder) (faults book.start) (faults book.folder)
+  pub lawful : IsLawful book (files book.start) (files book.folder) (faults book.start) (faults book.folder)

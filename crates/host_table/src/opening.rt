@@ -1,11 +1,10 @@
 //! How a host begins: a shard over each folder, and a lock round each shard.
-ghost use Rattle.std.specs.Prelude.{◌≡◌, ◌+◌, ◌≤◌, [], ◌++◌, List, map, length, vec_len, vec_capacity, IfOk, IfErr, OnOk};
+ghost use Rattle.std.specs.Prelude.{◌≡◌, ◌+◌, ◌≤◌, [], ◌++◌, List, None, true, map, length, vec_len, vec_capacity, IfOk, IfErr, OnOk};
 ghost use Rattle.std.specs.Vec.Iter.{into_iter_items, into_iter_len};
-ghost use Rattle.wopi_model.specs.Host.{kept_limits};
 ghost use Rattle.wopi_model.specs.Moment.{IsMoment};
 ghost use Rattle.host_core.specs.Opening.{IsFirstVersion};
 ghost use Rattle.host_table.specs.Histories.{as_opened};
-ghost use Rattle.host_table.specs.Start.{first_seats, start_of, AreNew, AreHanded, IsBlamed, AreBegun};
+ghost use Rattle.host_table.specs.Start.{limits_of, first_seats, start_of, AreNew, AreHanded, IsBlamed, AreBegun};
 
 use crate::held::Held;
 use crate::host::SHARDS;
@@ -14,6 +13,15 @@ use host_core::{StartFault, Store};
 use std::alloc::Global;
 use std::vec::IntoIter;
 use turn_lock::{NewFault, Seat, TurnLock};
+
+/// What a host's shards have room for.
+#[derive(Clone, Copy)]
+pub(crate) enum Most {
+    /// So many calls each.
+    Calls(u32),
+    /// Any number of calls, and so many held locks and ids that are refused.
+    Ids(u32),
+}
 
 /// Moves the rest behind what is there.
 fn move_all<T: Drop>(mut rest: IntoIter<T, Global>, into: &mut Vec<T>)
@@ -45,16 +53,17 @@ pub(crate) fn open_all<F: Store>(
     alloc: Global,
     folders: Vec<F>,
     back: &mut Vec<F>,
-    capacity: u32,
+    most: Most,
     opened: u64,
     first: u64,
 ) -> Result<Vec<Held<F>>, StartFault>
-    requires capacity { (1 ≤ capacity) × (capacity ≤ 32768) }
+    requires endless { (limits_of most).calls ≡ None → F.endless ≡ true }
+    requires most { (1 ≤ (limits_of most).ids) × ((limits_of most).ids ≤ 32768) }
     requires folders { length folders.items ≡ 16 }
     requires opened { IsMoment opened }
     requires first { IsFirstVersion first }
     requires room { (back.old.items ≡ []) × (16 ≤ vec_capacity back.old) }
-    ensures begun { IfOk result (λ shards. AreBegun F.files F.times F.faults opened first (kept_limits capacity) 0 folders.items shards.items) }
+    ensures begun { IfOk result (λ shards. AreBegun F.files F.times F.faults opened first (limits_of most) 0 folders.items shards.items) }
     ensures back { OnOk result ((back.new.items ≡ []) × (vec_capacity back.new ≡ vec_capacity back.old)) }
     ensures handed { IfErr result (λ fault. AreHanded F.files F.faults folders.items back.new.items) }
     ensures blamed { IfErr result (λ fault. IsBlamed F.files F.faults folders.items back.new.items fault) }
@@ -65,7 +74,7 @@ pub(crate) fn open_all<F: Store>(
         return Err(StartFault::Memory);
     };
     while let Some(folder) = rest.next() {
-        match Held::start(alloc, folder, shards.len() as u8, capacity, opened, first) {
+        match Held::open(alloc, folder, shards.len() as u8, most, opened, first) {
             Ok(held) => shards.push_reserved(held),
             Err((folder, fault)) => {
                 hand_back(shards, back);
