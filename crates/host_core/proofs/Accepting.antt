@@ -7,7 +7,7 @@ use Rattle.wopi_model.specs.declared.calls.Ruling.{Ruling}
 use Rattle.wopi_model.specs.Act.{is_stored, lock_act, presents_spent}
 use Rattle.wopi_model.specs.File.{File}
 use Rattle.wopi_model.specs.LockTable.{verdict}
-use Rattle.wopi_model.specs.Step.{Decision, acceptance, decision, effect, is_missing, is_too_large, is_unauthorized, lacks_right, ruling_of, IsOutcome}
+use Rattle.wopi_model.specs.Step.{Decision, acceptance, effect, is_missing, is_too_large, is_unauthorized, lacks_right, ruling_of, IsOutcome}
 use Rattle.host_core.specs.Notes.{Brought, accepted, told_version}
 use Rattle.host_core.specs.Store.{saved_with}
 use Rattle.host_core.proofs.Decisions.{by_rows}

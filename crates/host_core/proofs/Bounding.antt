@@ -1,12 +1,12 @@
 -- Where the store bounds the calls, and where it doesn't.
-use Rattle.std.proofs.Common.{◌≡◌, ◌⊎◌, ◌↔◌, inl, inr, ℕ, ◌+◌, ◌-◌, ◌^◌, ◌<◌, ◌≤◌, Bool, true, false, IsTrue, Option, None, Some, is_some, nat_lt, refl, sym, ap, subst, ◌∙◌, arith}
+use Rattle.std.proofs.Common.{◌≡◌, ◌↔◌, ℕ, ◌-◌, ◌≤◌, Bool, true, false, IsTrue, Option, None, Some, is_some, nat_lt, refl, arith}
 use Rattle.std.proofs.lemmas.Bool.Decides.{nat_tests}
 use Rattle.wopi_model.specs.declared.calls.Call.{Call}
 use Rattle.wopi_model.specs.File.{File}
 use Rattle.wopi_model.specs.Host.{begins_lock}
 use Rattle.wopi_model.specs.Settle.{settled}
 use Rattle.kept_locks.specs.Locks.{Locks}
-use Rattle.host_core.specs.Ledger.{HasNoCallAt, HasNoPlaceFor, HasNoStampAt, IsReady, bytes_beside}
+use Rattle.host_core.specs.Ledger.{HasNoPlaceFor, IsReady, bytes_beside}
 use Rattle.host_core.specs.Steps.{WantsPlace}
 
 pub none_of : (calls : Option ℕ) → is_some calls ≡ false → calls ≡ None

@@ -3,8 +3,8 @@ use Rattle.std.proofs.Common.{◌≡◌, ◌⊎◌, ◌↔◌, ℕ, ◌*◌, ◌
 use Rattle.wopi_model.specs.Begin.{Begin}
 use Rattle.wopi_model.specs.Lives.{left_of, live_bytes}
 use Rattle.wopi_model.specs.Host.{kept_from, most_kept}
-use Rattle.wopi_model.specs.Shard.{Entry, Item, entries}
-use Rattle.host_core.specs.Entries.{Made, items_of}
+use Rattle.wopi_model.specs.Shard.{Item, entries}
+use Rattle.host_core.specs.Entries.{Made}
 use Rattle.host_core.specs.Fullness.{AreBytes, IsNearlyFull}
 use Rattle.host_core.specs.Notes.{TakesCalls}
 use Rattle.host_core.specs.Times.{GoesByEntries, happened_of, untimed}

@@ -1,6 +1,5 @@
 -- How many places the locks of all files take, counted by number and by name.
-use Rattle.std.proofs.Common.{◌≡◌, ◌≤◌, ℕ, zero, suc, ◌+◌, max, Bool, true, false, if◌then◌else◌, List, [], ◌∷◌, ◌++◌, map, length, sum_by, Option, None, Some, option_map, unwrap_or, refl, sym, ap, subst, ◌∙◌, arith}
-use Rattle.std.proofs.lemmas.Option.{none-some}
+use Rattle.std.proofs.Common.{◌≡◌, ◌≤◌, ℕ, suc, ◌+◌, max, Bool, true, false, if◌then◌else◌, List, [], ◌∷◌, ◌++◌, map, length, sum_by, Option, None, Some, option_map, unwrap_or, refl, sym, ap, subst, ◌∙◌, arith}
 use Rattle.std.proofs.lemmas.List.Sums.{sum_by-cons}
 use Rattle.std.proofs.lemmas.Slice.Eq.{bytes_eq-Decides}
 use Rattle.std.specs.Str.{bytes_eq}
@@ -14,7 +13,7 @@ use Rattle.wopi_model.specs.Shard.{Item, Tick, Step, at_moment, begun}
 use Rattle.wopi_model.specs.Host.{found_at}
 use Rattle.wopi_model.proofs.Fullness.{begun-found, sum-put}
 use Rattle.wopi_model.proofs.Keeping.{shown-at_moment}
-use Rattle.wopi_model.proofs.Living.{at-map, at-put}
+use Rattle.wopi_model.proofs.Living.{at-put}
 use Rattle.kept_locks.specs.Locks.{Standing, one_lock, places_at, unlocked, uses_at}
 use Rattle.kept_locks.specs.Whole.{standing_of_file}
 use Rattle.host_core.specs.declared.file.KeptFile.{KeptFile}

@@ -1,5 +1,5 @@
 -- When the kept files were last saved, and their digests, as one file changes and as entries are made.
-use Rattle.std.proofs.Common.{◌≡◌, ◌≢◌, ◌≤◌, ◌<◌, ◌+◌, ℕ, zero, suc, max, Bool, true, false, not, ◌&&◌, ◌==◌, if◌then◌else◌, List, [], ◌∷◌, ◌++◌, length, map, set, get_or, Option, None, Some, option_map, unwrap_or, refl, sym, ap, subst, ◌∙◌, arith}
+use Rattle.std.proofs.Common.{◌≡◌, ◌≢◌, ◌≤◌, ◌<◌, ℕ, max, Bool, true, false, ◌&&◌, ◌==◌, if◌then◌else◌, List, [], ◌∷◌, ◌++◌, length, map, set, get_or, Option, None, Some, refl, sym, ap, subst, ◌∙◌, arith}
 use Rattle.std.proofs.lemmas.Slice.Eq.{bytes_eq-Decides}
 use Rattle.std.specs.Str.{bytes_eq}
 use Rattle.wopi_model.specs.declared.calls.Act.{Act}
@@ -9,14 +9,13 @@ use Rattle.wopi_model.specs.Begin.{Begin, at_name, new_life}
 use Rattle.wopi_model.specs.File.{File}
 use Rattle.wopi_model.specs.Host.{brings_contents, file_at, found_at}
 use Rattle.wopi_model.specs.Moment.{IsMoment}
-use Rattle.wopi_model.specs.Settle.{settled}
 use Rattle.wopi_model.specs.Shard as model
 use Rattle.wopi_model.specs.Shard.{Item, Tick, Step, Entry, begun, after, at_moment}
 use Rattle.wopi_model.specs.Step.{Decision, Accept, decision, ruling_of}
 use Rattle.wopi_model.proofs.Histories.{after-append}
 use Rattle.host_core.specs.declared.file.KeptFile.{KeptFile}
 use Rattle.host_core.specs.Entries.{Made, items_of, history_of}
-use Rattle.host_core.specs.Facts.{AreDigested, Dates, IsDated, IsDigested, IsDigestOf, Marks, MarksAll, bare_file, date_in, dates_of, is_accept, is_late, late_if, saved_after, saved_at, saves_by, time_after, undigested}
+use Rattle.host_core.specs.Facts.{AreDigested, Dates, IsDated, Marks, MarksAll, date_in, dates_of, is_accept, is_late, late_if, saved_after, saved_at, saves_by, time_after}
 use Rattle.host_core.specs.Files.{is_named}
 use Rattle.host_core.specs.Names.{place_in}
 use Rattle.host_core.specs.Notes.{opening_listed}

@@ -1,6 +1,5 @@
 -- The digests of the kept files.
-use Rattle.std.proofs.Common.{◌≡◌, ◌<◌, ℕ, zero, suc, List, [], ◌∷◌, ◌++◌, length, set, get_or, Option, None, refl, sym, ap, subst, ◌∙◌, arith}
-use Rattle.host_core.specs.declared.facts.Digest.{Digest}
+use Rattle.std.proofs.Common.{◌≡◌, ◌<◌, ℕ, zero, suc, List, [], ◌∷◌, ◌++◌, length, set, get_or, None, refl, sym, ap, subst, ◌∙◌, arith}
 use Rattle.host_core.specs.declared.file.KeptFile.{KeptFile}
 use Rattle.host_core.specs.Facts.{AreDigested, IsDigestOf, IsDigested, bare_file, undigested}
 

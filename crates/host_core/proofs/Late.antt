@@ -1,11 +1,11 @@
 -- Whether a save comes too late.
-use Rattle.std.proofs.Common.{◌≡◌, ◌≢◌, ℕ, Bool, true, false, ◌&&◌, ◌==◌, not, if◌then◌else◌, List, get_or, Option, None, Some, refl, sym, ap, ◌∙◌}
+use Rattle.std.proofs.Common.{◌≡◌, ◌≢◌, ℕ, Bool, true, false, ◌&&◌, ◌==◌, not, if◌then◌else◌, List, get_or, Option, None, Some, refl, ap, ◌∙◌}
 use Rattle.kept_locks.specs.Locks.{Standing}
 use Rattle.name_index.specs.Index.{number_of}
 use Rattle.wopi_model.specs.declared.calls.Act.{Act}
 use Rattle.wopi_model.specs.declared.calls.Act.TheVariants as act
 use Rattle.wopi_model.specs.declared.calls.Call.{Call}
-use Rattle.wopi_model.specs.File.{File, never_met}
+use Rattle.wopi_model.specs.File.{never_met}
 use Rattle.wopi_model.specs.Settle.{settled}
 use Rattle.wopi_model.specs.Step.{Decision, Refuse, decision, is_missing, is_unauthorized}
 use Rattle.host_core.specs.declared.decide.Decision as code

@@ -1,19 +1,17 @@
 -- What is left of a shard's limits with a step more, and when it is full by what its code counts.
-use Rattle.std.proofs.Common.{◌≡◌, ◌≢◌, ◌⊎◌, inl, inr, ◌-◌, ◌^◌, ℕ, ◌+◌, ◌<◌, ◌≤◌, ◌==◌, max, Bool, true, false, ◌&&◌, if◌then◌else◌, List, [], ◌∷◌, ◌++◌, length, nat_lt, Option, None, Some, refl, sym, ap, subst, ◌∙◌, arith}
+use Rattle.std.proofs.Common.{◌≡◌, ◌≢◌, inl, inr, ◌-◌, ◌^◌, ℕ, ◌+◌, ◌<◌, ◌≤◌, ◌==◌, max, Bool, true, false, if◌then◌else◌, List, [], ◌∷◌, ◌++◌, length, nat_lt, Option, None, Some, refl, sym, ap, subst, ◌∙◌, arith}
 use Rattle.std.proofs.lemmas.Bool.Decides.{nat_tests}
 use Rattle.std.proofs.lemmas.List.{length-append}
 use Rattle.wopi_model.specs.Moment.{IsMoment}
-use Rattle.wopi_model.specs.declared.calls.Act.{Act}
 use Rattle.wopi_model.specs.declared.calls.Call.{Call}
 use Rattle.wopi_model.specs.declared.calls.Ruling.{Ruling}
-use Rattle.wopi_model.specs.Act.{is_stored}
 use Rattle.wopi_model.specs.File.{File}
 use Rattle.wopi_model.specs.Settle.{settled}
 use Rattle.wopi_model.specs.Step.{Accept, after_step, decision}
 use Rattle.wopi_model.specs.Begin.{Begin}
 use Rattle.wopi_model.specs.Lives.{bytes_of, left_of, live_bytes, live_ids}
-use Rattle.wopi_model.specs.Shard.{Item, Entry, entries, last_from, stamps}
-use Rattle.wopi_model.specs.Host.{Limits, FullFrom, begins_lock, brings_contents, file_at, found_at, kept_from, most_kept, new_bytes}
+use Rattle.wopi_model.specs.Shard.{Item, entries, last_from, stamps}
+use Rattle.wopi_model.specs.Host.{Limits, FullFrom, begins_lock, file_at, found_at, kept_from, most_kept, new_bytes}
 use Rattle.wopi_model.proofs.Fullness.{all-settled-ids, ids-most, live-most, settled-bytes}
 use Rattle.wopi_model.proofs.Histories.{Legal-tick}
 use Rattle.std.proofs.lemmas.Slice.Eq.{bytes_eq-Decides}

@@ -67,5 +67,5 @@ saved_field = search (sendable, any.crosses, contents_send) depth 20
 pub kept_send : (F : RattleType) (d : _) → IsSend F → IsSend (kept.the_row F d)
 kept_send F d f = search (sendable, any.crosses, opening_send, entries_send, saved_field) depth 20
 
-pub shard_send : (F : RattleType) (d e : _) → IsSend F → IsSend (shard.the_row F d e)
-shard_send F d e f = search (sendable, any.crosses, ledger_field) depth 20
+pub shard_send : (F : RattleType) (d : _) → IsSend F → IsSend (shard.the_row F d)
+shard_send F d f = search (sendable, any.crosses, ledger_field) depth 20

@@ -18,14 +18,21 @@ Brought = Option ℕ × List ℕ
 abbrev pub saved_in : Made → Option Brought
 saved_in one = if one.step.ruling.status == 200 then option_map (λ contents. (one.step.ruling.version, contents)) (brought_by one.step.call.act) else None
 
+-- Which shard's log it is, what it held as it was taken into use, where it tells, and how often a call of it had failed.
+pub record LogStart : Type 0 where
+  pub shard : ℕ
+  pub held : Option (List ℕ)
+  pub faults : ℕ
+
 -- What the shard began with, the entries, and the one that was begun and has no ruling yet. `saved` are the contents that the folder took
--- since the last one was begun, and `most` is how many entries there may be, where that is bounded.
+-- since the last one was begun, `most` is how many entries there may be, where that is bounded, and `log` is the log that they stand in, where there is one.
 pub record Notes : Type 0 where
   pub begin : Begin
   pub made : List Made
   pub begun : Option Asked
   pub saved : Option Brought
   pub most : Option ℕ
+  pub log : Option LogStart
 
 -- beside so many entries there may be one more
 abbrev pub HasPlace : Option ℕ → ℕ → Type 0
@@ -73,8 +80,10 @@ pub record StaysNoted (old new : Notes) : Type 0 where
   pub made : new.made ≡ old.made
   pub begun : new.begun ≡ old.begun
   pub most : new.most ≡ old.most
+  pub log : new.log ≡ old.log
 
 -- nor was the rest changed when an entry was noted
 pub record KeepsOpen (old new : Notes) : Type 0 where
   pub begin : new.begin ≡ old.begin
   pub most : new.most ≡ old.most
+  pub log : new.log ≡ old.log

@@ -1,5 +1,5 @@
 -- A shard as the definitions see it.
-use Rattle.std.specs.Prelude.{List, map, Some, option_map}
+use Rattle.std.specs.Prelude.{List, map, Some, option_map, None}
 use Rattle.wopi_model.specs.Begin.{new_life}
 use Rattle.wopi_model.specs.Host.{Limits}
 use Rattle.wopi_model.specs.Shard.{Opening}
@@ -45,6 +45,7 @@ kept_of k = record {
     begun = k.entries.begun;
     saved = option_map (λ one. (Some one.version, one.contents)) k.saved;
     most = Some k.entries.most;
+    log = None;
   };
   most = k.entries.most;
 }

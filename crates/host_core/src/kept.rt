@@ -181,12 +181,24 @@ fn copy_files(alloc: Global, files: &[KeptFile]) -> Result<Vec<OpeningFile>, Mem
     Ok(copies)
 }
 
-impl<F: Folder> Folder for Kept<F> {
+impl<F: Folder> Store for Kept<F> {
+    ghost use Rattle.std.specs.Prelude.{false, Some};
+
     ghost files = { λ kept. F.files kept.folder };
 
     ghost times = { λ kept. F.times kept.folder };
 
     ghost faults = { λ kept. F.faults kept.folder };
+
+    ghost notes = { λ kept. record kept.notes { most = Some kept.most } };
+
+    ghost lost = { λ kept. false };
+
+    ghost endless = { false };
+
+    ghost loses = { false };
+
+    ghost loses_is = { λ kept lost. lost };
 
     fn list(&mut self) -> Result<Names, OutFault> {
         self.folder.list()
@@ -200,28 +212,6 @@ impl<F: Folder> Folder for Kept<F> {
         self.folder.time(name)
     }
 
-    fn replace(&mut self, name: &str, contents: &[u8]) -> Result<(), OutFault> {
-        self.folder.replace(name, contents)
-    }
-
-    fn remove(&mut self, name: &str) -> Result<(), Failed> {
-        self.folder.remove(name)
-    }
-}
-
-impl<F: Folder> Store for Kept<F> {
-    ghost use Rattle.std.specs.Prelude.{false, Some};
-
-    ghost notes = { λ kept. record kept.notes { most = Some kept.most } };
-
-    ghost lost = { λ kept. false };
-
-    ghost endless = { false };
-
-    ghost loses = { false };
-
-    ghost loses_is = { λ kept lost. lost };
-
     fn open(
         &mut self,
         alloc: Global,
@@ -229,17 +219,17 @@ impl<F: Folder> Store for Kept<F> {
         opened: u64,
         first: u64,
         calls: Option<u32>,
-    ) -> Result<(), Memory> {
+    ) -> Result<(), OutFault> {
         let Some(capacity) = calls else {
             unreachable!();
         };
         let copies = match copy_files(alloc, opening) {
             Ok(copies) => copies,
-            Err(memory) => return Err(memory),
+            Err(_) => return Err(OutFault::Memory),
         };
         let entries = match Entries::with_capacity(alloc, capacity as usize) {
             Ok(entries) => entries,
-            Err(memory) => return Err(memory),
+            Err(_) => return Err(OutFault::Memory),
         };
         self.opening = copies;
         self.opened = opened;

@@ -1,5 +1,6 @@
 //! Whatever lists the files of its shards.
 ghost use Rattle.std.specs.Prelude.{◌≡◌, ◌<◌, ℕ, List, IfOk};
+ghost use Rattle.host_core.specs.Caller.{KeepsTelling};
 ghost use Rattle.host_core.specs.Listing.{Lists, LooksAt};
 
 use crate::caller::Caller;
@@ -30,12 +31,12 @@ pub trait Lister: Caller {
         ensures { result ≡ shard_count };
 
     /// The files of a shard. No entry is made. Also where there is no memory for them, more of the shard's history may
-    /// have been seen.
+    /// have been seen. A listing that finds the shard's store lost may not be told, as a call's answer.
     fn list(&mut self, shard: u8) -> Result<Listing, Memory>
         requires { shard < shard_count }
         ensures listed { IfOk result (Lists (Self.sight self.new) shard) }
         ensures looks { LooksAt (Self.sight self.old) (Self.sight self.new) shard }
-        ensures telling { Self.telling self.new ≡ Self.telling self.old }
+        ensures telling { KeepsTelling (Self.telling self.old) (Self.telling self.new) Self.loses }
         ensures basis { Self.basis self.new ≡ Self.basis self.old }
         ensures references { Self.references self.new ≡ Self.references self.old };
 

@@ -94,6 +94,7 @@ fn time_of<F: Store>(folder: &mut F, name: &FileName) -> Result<u64, StartFault>
     ensures failed { IfErr result (λ fault. fault ≡ StartFault.FolderFault → Rose (F.faults folder.old) (F.faults folder.new)) }
     ensures same { Keeps (F.files folder.old) (F.files folder.new) }
     ensures same_times { Keeps (F.times folder.old) (F.times folder.new) }
+    ensures log { (F.notes folder.new).log ≡ (F.notes folder.old).log }
     ensures never_falls { F.faults folder.old ≤ F.faults folder.new }
 {
     match folder.time(name.as_str()) {
@@ -118,6 +119,7 @@ fn read_one<F: Store>(
     ensures failed { IfErr result (λ fault. fault ≡ StartFault.FolderFault → Rose (F.faults folder.old) (F.faults folder.new)) }
     ensures same { Keeps (F.files folder.old) (F.files folder.new) }
     ensures same_times { Keeps (F.times folder.old) (F.times folder.new) }
+    ensures log { (F.notes folder.new).log ≡ (F.notes folder.old).log }
     ensures never_falls { F.faults folder.old ≤ F.faults folder.new }
 {
     match folder.read(name.as_str(), MOST_CONTENTS) {
@@ -221,6 +223,7 @@ fn read_names<F: Store>(
     ensures too_large { IfErr result (λ fault. IfTooLarge fault (IsTooLarge only (F.files folder.old))) }
     ensures failed { IfErr result (λ fault. fault ≡ StartFault.FolderFault → Rose (F.faults folder.old) (F.faults folder.new)) }
     ensures same { Keeps (F.files folder.old) (F.files folder.new) }
+    ensures log { (F.notes folder.new).log ≡ (F.notes folder.old).log }
     ensures never_falls { F.faults folder.old ≤ F.faults folder.new }
 {
     'names: while let Some(next) = names.pop_first() {
@@ -251,6 +254,7 @@ pub fn gather<F: Store>(
     ensures too_large { IfErr result (λ fault. IfTooLarge fault (IsTooLarge only (F.files folder.old))) }
     ensures failed { IfErr result (λ fault. fault ≡ StartFault.FolderFault → Rose (F.faults folder.old) (F.faults folder.new)) }
     ensures same { Keeps (F.files folder.old) (F.files folder.new) }
+    ensures log { (F.notes folder.new).log ≡ (F.notes folder.old).log }
     ensures never_falls { F.faults folder.old ≤ F.faults folder.new }
 {
     let listed = match folder.list() {

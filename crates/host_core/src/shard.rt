@@ -37,6 +37,7 @@ use crate::room::take_room;
 use crate::store::StoreRefusal;
 use crate::view::{FileView, view_of};
 use kept_locks::KeptLocks;
+use outside::OutFault;
 use std::alloc::Global;
 use std::marker::Model;
 use std::snapshot::Snapshot;
@@ -125,12 +126,15 @@ impl<F: Store> Shard<F> {
         ensures opening { IfOk result (λ shard. (opening : Opening) × (shard.begin ≡ new_life opening opened first) × IsOpening only (F.files folder) opening × Fits opening) }
         ensures dates { IfOk result (λ shard. map (λ one. one.0) shard.dates ≡ map (λ one. one.0) shard.begin.files) }
         ensures told { IfOk result (λ shard. AreDatesOf (F.times folder) shard.dates) }
+        ensures going { IfOk result (λ shard. F.lost shard.folder ≡ false) }
         ensures same { IfOk result (λ shard. Keeps (F.files folder) (F.files shard.folder)) }
+        ensures log { IfOk result (λ shard. (F.notes shard.folder).log ≡ (F.notes folder).log) }
         ensures never_falls { IfOk result (λ shard. F.faults folder ≤ F.faults shard.folder) }
         ensures lawful { IfOk result (λ shard. IsLawful shard (F.files shard.start) (F.files shard.folder) (F.faults shard.start) (F.faults shard.folder)) }
         ensures too_large { IfErr result (λ refused. IfTooLarge refused.1 (IsTooLarge only (F.files folder))) }
         ensures failed { IfErr result (λ refused. refused.1 ≡ StartFault.FolderFault → Rose (F.faults folder) (F.faults refused.0)) }
         ensures handed { IfErr result (λ refused. Keeps (F.files folder) (F.files refused.0)) }
+        ensures handed_log { IfErr result (λ refused. (F.notes refused.0).log ≡ (F.notes folder).log) }
         ensures counts { IfErr result (λ refused. F.faults folder ≤ F.faults refused.0) }
     {
         match Shard::open(alloc, folder, only, Some(capacity), capacity, opened, first) {
@@ -168,12 +172,15 @@ impl<F: Store> Shard<F> {
         ensures opening { IfOk result (λ shard. (opening : Opening) × (shard.begin ≡ new_life opening opened first) × IsOpening only (F.files folder) opening × Fits opening) }
         ensures dates { IfOk result (λ shard. map (λ one. one.0) shard.dates ≡ map (λ one. one.0) shard.begin.files) }
         ensures told { IfOk result (λ shard. AreDatesOf (F.times folder) shard.dates) }
+        ensures going { IfOk result (λ shard. F.lost shard.folder ≡ false) }
         ensures same { IfOk result (λ shard. Keeps (F.files folder) (F.files shard.folder)) }
+        ensures log { IfOk result (λ shard. (F.notes shard.folder).log ≡ (F.notes folder).log) }
         ensures never_falls { IfOk result (λ shard. F.faults folder ≤ F.faults shard.folder) }
         ensures lawful { IfOk result (λ shard. IsLawful shard (F.files shard.start) (F.files shard.folder) (F.faults shard.start) (F.faults shard.folder)) }
         ensures too_large { IfErr result (λ refused. IfTooLarge refused.1 (IsTooLarge only (F.files folder))) }
         ensures failed { IfErr result (λ refused. refused.1 ≡ StartFault.FolderFault → Rose (F.faults folder) (F.faults refused.0)) }
         ensures handed { IfErr result (λ refused. Keeps (F.files folder) (F.files refused.0)) }
+        ensures handed_log { IfErr result (λ refused. (F.notes refused.0).log ≡ (F.notes folder).log) }
         ensures counts { IfErr result (λ refused. F.faults folder ≤ F.faults refused.0) }
     {
         match Shard::open(alloc, folder, only, None, ids, opened, first) {
@@ -211,12 +218,15 @@ impl<F: Store> Shard<F> {
         ensures opening { IfOk result (λ shard. (opening : Opening) × (shard.begin ≡ new_life opening opened first) × IsOpening only (F.files folder) opening × Fits opening) }
         ensures dates { IfOk result (λ shard. map (λ one. one.0) shard.dates ≡ map (λ one. one.0) shard.begin.files) }
         ensures told { IfOk result (λ shard. AreDatesOf (F.times folder) shard.dates) }
+        ensures going { IfOk result (λ shard. F.lost shard.folder ≡ false) }
         ensures same { IfOk result (λ shard. Keeps (F.files folder) (F.files shard.folder)) }
+        ensures log { IfOk result (λ shard. (F.notes shard.folder).log ≡ (F.notes folder).log) }
         ensures never_falls { IfOk result (λ shard. F.faults folder ≤ F.faults shard.folder) }
         ensures lawful { IfOk result (λ shard. IsLawful shard (F.files shard.start) (F.files shard.folder) (F.faults shard.start) (F.faults shard.folder)) }
         ensures too_large { IfErr result (λ refused. IfTooLarge refused.1 (IsTooLarge only (F.files folder))) }
         ensures failed { IfErr result (λ refused. refused.1 ≡ StartFault.FolderFault → Rose (F.faults folder) (F.faults refused.0)) }
         ensures handed { IfErr result (λ refused. Keeps (F.files folder) (F.files refused.0)) }
+        ensures handed_log { IfErr result (λ refused. (F.notes refused.0).log ≡ (F.notes folder).log) }
         ensures counts { IfErr result (λ refused. F.faults folder ≤ F.faults refused.0) }
     {
         let mut folder = folder;
@@ -227,7 +237,8 @@ impl<F: Store> Shard<F> {
         };
         match folder.open(alloc, &stock.files, opened, first, calls) {
             Ok(()) => {}
-            Err(_) => return Err((folder, StartFault::Memory)),
+            Err(OutFault::Failed) => return Err((folder, StartFault::FolderFault)),
+            Err(OutFault::Memory) => return Err((folder, StartFault::Memory)),
         }
         match take_room(alloc, stock.files.len(), ids as usize + 1) {
             Ok(locks) => {
@@ -282,6 +293,7 @@ impl<F: Store> Shard<F> {
         ensures lost { IfErr result (λ fault. IsLostFault fault ↔ (F.lost self.old.folder ≡ true)) }
         ensures still { IfErr result (λ fault. IsLostFault fault → self.new ≡ self.old) }
         ensures keeps { OnErr result (Keeps (F.files self.old.folder) (F.files self.new.folder)) }
+        ensures log { (F.notes self.new.folder).log ≡ (F.notes self.old.folder).log }
         ensures never_falls { F.faults self.old.folder ≤ F.faults self.new.folder }
         ensures fault { IfOk result (λ step. step.1.status ≡ 500 → Rose (F.faults self.old.folder) (F.faults self.new.folder)) }
         ensures lawful { IsLawful self.new (F.files self.new.start) (F.files self.new.folder) (F.faults self.new.start) (F.faults self.new.folder) }
@@ -329,6 +341,7 @@ impl<F: Store> Shard<F> {
         ensures call { OnErr result (call.new ≡ call.old) }
         ensures light { IfErr result (λ why. is_lock_act call.old.act ≡ true → why ≡ StoreRefusal.Full) }
         ensures keeps { OnErr result (Keeps (F.files self.old.folder) (F.files self.new.folder)) }
+        ensures log { (F.notes self.new.folder).log ≡ (F.notes self.old.folder).log }
         ensures never_falls { F.faults self.old.folder ≤ F.faults self.new.folder }
         ensures fault { OnOk result (carried.new.ruling.status ≡ 500 → Rose (F.faults self.old.folder) (F.faults self.new.folder)) }
         ensures lawful { IsLawful self.new (F.files self.new.start) (F.files self.new.folder) (F.faults self.new.start) (F.faults self.new.folder) }
@@ -411,6 +424,7 @@ impl<F: Store> Shard<F> {
         ensures call { OnErr result (call.new ≡ call.old) }
         ensures light { IfErr result (λ why. is_lock_act call.old.act ≡ true → why ≡ StoreRefusal.Full) }
         ensures keeps { OnErr result (Keeps (F.files self.old.folder) (F.files self.new.folder)) }
+        ensures log { (F.notes self.new.folder).log ≡ (F.notes self.old.folder).log }
         ensures never_falls { F.faults self.old.folder ≤ F.faults self.new.folder }
         ensures fault { OnOk result (carried.new.ruling.status ≡ 500 → Rose (F.faults self.old.folder) (F.faults self.new.folder)) }
         ensures lawful { IsLawful self.new (F.files self.new.start) (F.files self.new.folder) (F.faults self.new.start) (F.faults self.new.folder) }
@@ -457,6 +471,7 @@ impl<F: Store> Shard<F> {
         ensures call { OnErr result (call.new ≡ call.old) }
         ensures light { IfErr result (λ why. is_lock_act call.old.act ≡ true → why ≡ StoreRefusal.Full) }
         ensures keeps { OnErr result (Keeps (F.files self.old.folder) (F.files self.new.folder)) }
+        ensures log { (F.notes self.new.folder).log ≡ (F.notes self.old.folder).log }
         ensures never_falls { F.faults self.old.folder ≤ F.faults self.new.folder }
         ensures fault { OnOk result (carried.new.ruling.status ≡ 500 → Rose (F.faults self.old.folder) (F.faults self.new.folder)) }
         ensures lawful { IsLawful self.new (F.files self.new.start) (F.files self.new.folder) (F.faults self.new.start) (F.faults self.new.folder) }
@@ -515,6 +530,7 @@ impl<F: Store> Shard<F> {
         ensures lost { IfErr result (λ fault. IsLostFault fault ↔ (F.lost self.old.folder ≡ true)) }
         ensures still { IfErr result (λ fault. IsLostFault fault → self.new ≡ self.old) }
         ensures keeps { OnErr result (Keeps (F.files self.old.folder) (F.files self.new.folder)) }
+        ensures log { (F.notes self.new.folder).log ≡ (F.notes self.old.folder).log }
         ensures never_falls { F.faults self.old.folder ≤ F.faults self.new.folder }
         ensures fault { IfOk result (λ step. step.ruling.status ≡ 500 → Rose (F.faults self.old.folder) (F.faults self.new.folder)) }
         ensures lawful { IsLawful self.new (F.files self.new.start) (F.files self.new.folder) (F.faults self.new.start) (F.faults self.new.folder) }
@@ -562,6 +578,7 @@ impl<F: Store> Shard<F> {
         ensures same { result.now ≡ self.now.folder }
         ensures begin { (F.notes self.now.folder).begin ≡ self.now.begin }
         ensures made { (F.notes self.now.folder).made ≡ self.now.made }
+        ensures ended { (F.notes self.now.folder).begun ≡ None }
     {
         &self.folder
     }
@@ -733,6 +750,7 @@ impl<F: Store> Shard<F> {
         ensures begin { (F.notes result.0).begin ≡ self.begin }
         ensures made { (F.notes result.0).made ≡ self.made }
         ensures most { TakesCalls self.limits.calls (F.notes result.0).most }
+        ensures ended { (F.notes result.0).begun ≡ None }
         ensures lawful { IsLawful self (F.files self.start) (F.files self.folder) (F.faults self.start) (F.faults self.folder) }
     {
         let Shard {

@@ -1,4 +1,4 @@
-use Rattle.std.proofs.Common.{inl, inr, not, Some, ◌≡◌, ◌⊎◌, ◌+◌, ◌-◌, ◌<◌, ◌^◌, ◌==◌, ◌&&◌, ℕ, List, length, max, ◌∷◌, ◌++◌, [], if◌then◌else◌, refl, sym, ap, subst, ◌∙◌, arith}
+use Rattle.std.proofs.Common.{inl, inr, not, Some, ◌≡◌, ◌⊎◌, ◌+◌, ◌<◌, ◌^◌, ◌==◌, ℕ, List, length, max, ◌∷◌, ◌++◌, [], refl, sym, ap, subst, ◌∙◌, arith}
 use Rattle.std.proofs.lemmas.List.{length-append}
 use Rattle.wopi_model.specs.Begin.{Begin}
 use Rattle.host_core.specs.Names.{AreWithin}
@@ -89,6 +89,7 @@ returns-in-Ok-clause-takes g c =
       keeps = record {
         begin = c.end.ensures.rest.begin ∙ c.step_files.ensures.noted.begin ∙ c.begin.ensures.rest.begin;
         most = c.end.ensures.rest.most ∙ c.step_files.ensures.noted.most ∙ c.begin.ensures.rest.most;
+        log = c.end.ensures.rest.log ∙ c.step_files.ensures.noted.log ∙ c.begin.ensures.rest.log;
       };
       last = stamp;
       time = now;

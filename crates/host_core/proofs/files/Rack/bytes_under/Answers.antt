@@ -1,4 +1,4 @@
-use Rattle.std.proofs.Common.{◌≡◌, Option, option_map, unwrap_or, sym, ap, ◌∙◌, arith}
+use Rattle.std.proofs.Common.{Option, option_map, unwrap_or, sym, ap, ◌∙◌, arith}
 use Rattle.wopi_model.specs.File.{File, never_met}
 use Rattle.wopi_model.specs.Lives.{bytes_of}
 use Rattle.host_core.specs.Files.{file_of}

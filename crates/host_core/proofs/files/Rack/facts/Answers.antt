@@ -3,7 +3,6 @@ use Rattle.wopi_model.specs.File.{File, never_met}
 use Rattle.host_core.specs.Facts.{bare_file, date_in, facts_of}
 use Rattle.host_core.specs.Files.{file_of}
 use Rattle.host_core.specs.Whole.{Whole, whole, standing_at, joined}
-use Rattle.host_core.specs.declared.file.KeptFile.{KeptFile}
 use Rattle.host_core.proofs.Dates.{date_at}
 use Rattle.host_core.proofs.Digesting.{digested_at, digested_set, undigested_set}
 use Rattle.host_core.proofs.FileLists.{file_at}

@@ -1,13 +1,12 @@
-use Rattle.std.proofs.Common.{◌≡◌, ℕ, [], not, ◌==◌, true, Option, Some, option_map, unwrap_or, refl, sym, ap, subst, ◌∙◌, arith}
+use Rattle.std.proofs.Common.{◌≡◌, ℕ, [], not, ◌==◌, true, Option, option_map, unwrap_or, sym, ap, subst, ◌∙◌, arith}
 use Rattle.wopi_model.specs.File.{File, never_met}
 use Rattle.wopi_model.specs.Settle.{settled}
-use Rattle.wopi_model.specs.Step.{Decision, decision}
-use Rattle.host_core.specs.declared.decide.Decision as code
+use Rattle.wopi_model.specs.Step.{decision}
 use Rattle.host_core.specs.Facts.{date_in, is_accept, late_if}
 use Rattle.host_core.specs.Files.{BeganAtMoment, decision_of, file_of, files_of}
 use Rattle.host_core.specs.Whole.{Whole, joined}
 use Rattle.host_core.proofs.Dates.{date_at}
-use Rattle.host_core.proofs.Late.{absent_put, file_found, late_accepted, late_other, late_refused, refuses}
+use Rattle.host_core.proofs.Late.{absent_put, file_found, late_accepted, late_refused, refuses}
 use Rattle.host_core.proofs.Meeting.{found_first, found_none, place_below}
 use Rattle.host_core.proofs.files.Rack.is_late.Goals as goal
 

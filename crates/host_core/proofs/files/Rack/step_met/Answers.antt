@@ -34,8 +34,8 @@ pub returns-in-Ok-clause-ok : goal.returns-in-Ok-clause-ok
 returns-in-Ok-clause-ok g c = λ first.
     let turns = c.in-Ok.ensures.turns in
     record {
-      steps = met_all first (g.F.Folder.files c.args.folder.now) (g.F.Folder.files c.step_file.new.folder) c.args.terms.kept (g.F.Store.notes c.args.folder.now).saved (g.F.Store.notes c.step_file.new.folder).saved
-          (g.F.Folder.faults c.args.folder.now) (g.F.Folder.faults c.step_file.new.folder) c.args.self.now.files.items c.args.number c.index_mut-file.result.now c.step_file.new.file
+      steps = met_all first (g.F.Store.files c.args.folder.now) (g.F.Store.files c.step_file.new.folder) c.args.terms.kept (g.F.Store.notes c.args.folder.now).saved (g.F.Store.notes c.step_file.new.folder).saved
+          (g.F.Store.faults c.args.folder.now) (g.F.Store.faults c.step_file.new.folder) c.args.self.now.files.items c.args.number c.index_mut-file.result.now c.step_file.new.file
           c.args.self.now.locks c.step_file.new.locks c.args.call.now c.args.terms.opened c.args.terms.time c.step_file.new.carried c.requires.place c.index_mut-file.ensures.value turns c.in-Ok.ensures.ok;
       locked = locked_turn c.args.self.now.files.items _ c.args.self.now.locks c.step_file.new.locks c.args.number c.args.terms.time c.args.terms.time c.requires.ready.locked
           (place_below c.args.self.now.files.items c.args.self.now.locks.files c.args.call.now.name c.args.number c.requires.place) (length-set c.args.self.now.files.items c.args.number _) turns;
@@ -49,7 +49,7 @@ returns-in-Err-clause-err g c = λ first.
     let same = c.in-Err.ensures.same in
     let spare : c.step_file.new.locks.spare ≡ c.args.self.now.locks.spare = ap (λ (l : Locks). l.spare) same in
     record {
-      stops = met_stopped first (g.F.Folder.files c.args.folder.now) (g.F.Folder.files c.step_file.new.folder) c.args.terms.kept (g.F.Store.notes c.args.folder.now).saved (g.F.Store.notes c.step_file.new.folder).saved
+      stops = met_stopped first (g.F.Store.files c.args.folder.now) (g.F.Store.files c.step_file.new.folder) c.args.terms.kept (g.F.Store.notes c.args.folder.now).saved (g.F.Store.notes c.step_file.new.folder).saved
           c.args.self.now.files.items c.args.number c.index_mut-file.result.now c.step_file.new.file c.args.self.now.locks c.step_file.new.locks
           c.args.call.now c.args.terms.opened c.args.terms.time c.in-Err.why c.requires.place c.index_mut-file.ensures.value same c.in-Err.ensures.err;
       locked = λ time locked. locked_same c.args.self.now.files.items _ c.args.self.now.locks c.step_file.new.locks time (length-set c.args.self.now.files.items c.args.number _) same locked;

@@ -76,7 +76,7 @@ returns-in-Err-clause-err g c =
     let placed = c.make_place.ensures in
     let same = placed.spare in
     record {
-      stops = still_all c.args.terms.first (g.F.Folder.files c.args.folder.now) c.args.terms.kept (g.F.Store.notes c.args.folder.now).saved (joined kept first.files) _ c.args.call.now c.args.terms.opened c.args.terms.time _
+      stops = still_all c.args.terms.first (g.F.Store.files c.args.folder.now) c.args.terms.kept (g.F.Store.notes c.args.folder.now).saved (joined kept first.files) _ c.args.call.now c.args.terms.opened c.args.terms.time _
           (joined_more kept c.make_place.new.files.items first c.make_place.new.locks placed.files placed.stands) (λ h. cc);
       locked = λ time locked. locked_more kept c.make_place.new.files.items first c.make_place.new.locks time placed.files placed.stands placed.as_of placed.longer locked;
       stand = placed.stands;
@@ -92,10 +92,10 @@ returns-in-Err-clause-numbered g c =
 
 pub returns-then-is_met_by-clause-ok : goal.returns-then-is_met_by-clause-ok
 returns-then-is_met_by-clause-ok g c =
-    let folder = g.F.Folder.files c.args.folder.now in
-    let folder' = g.F.Folder.files c.step_file.new.folder in
-    let began = g.F.Folder.faults c.args.folder.now in
-    let count = g.F.Folder.faults c.step_file.new.folder in
+    let folder = g.F.Store.files c.args.folder.now in
+    let folder' = g.F.Store.files c.step_file.new.folder in
+    let began = g.F.Store.faults c.args.folder.now in
+    let count = g.F.Store.faults c.step_file.new.folder in
     let bytes = c.args.terms.kept in
     let v = (g.F.Store.notes c.args.folder.now).saved in
     let v' = (g.F.Store.notes c.step_file.new.folder).saved in
@@ -172,10 +172,10 @@ returns-in-Err-clause-once g c = λ once. subst (λ (f : List KeptFile). AreOnce
 
 pub returns-in-Ok-step_file-clause-ok : goal.returns-in-Ok-step_file-clause-ok
 returns-in-Ok-step_file-clause-ok g c =
-    let folder = g.F.Folder.files c.args.folder.now in
-    let folder' = g.F.Folder.files c.step_file.new.folder in
-    let began = g.F.Folder.faults c.args.folder.now in
-    let count = g.F.Folder.faults c.step_file.new.folder in
+    let folder = g.F.Store.files c.args.folder.now in
+    let folder' = g.F.Store.files c.step_file.new.folder in
+    let began = g.F.Store.faults c.args.folder.now in
+    let count = g.F.Store.faults c.step_file.new.folder in
     let bytes = c.args.terms.kept in
     let v = (g.F.Store.notes c.args.folder.now).saved in
     let v' = (g.F.Store.notes c.step_file.new.folder).saved in
@@ -229,7 +229,7 @@ returns-in-Err-step_file-clause-err g c =
     let one = placed.spare in
     let two : new.spare ≡ mid.spare = ap (λ (l : Locks). l.spare) stopped.same in
     record {
-      stops = stopped_new c.args.terms.first (g.F.Folder.files c.args.folder.now) (g.F.Folder.files c.step_file.new.folder) c.args.terms.kept (g.F.Store.notes c.args.folder.now).saved (g.F.Store.notes c.step_file.new.folder).saved
+      stops = stopped_new c.args.terms.first (g.F.Store.files c.args.folder.now) (g.F.Store.files c.step_file.new.folder) c.args.terms.kept (g.F.Store.notes c.args.folder.now).saved (g.F.Store.notes c.step_file.new.folder).saved
           (joined kept first.files) _ (seen k mid number) (seen c.step_file.new.file new number) c.args.call.now c.args.terms.opened c.args.terms.time c.in-Err-step_file.why
           (joined_more kept c.make_place.new.files.items first new placed.files stand) c.requires.place is stopped.err;
       locked = λ time locked. subst (λ l. AreLocked c.make_place.new.files.items l time) (sym stopped.same)

@@ -15,8 +15,8 @@ use Rattle.host_core.proofs.files.Rack.step_unmet.Goals as goal
 
 pub returns-clause-ok : goal.returns-clause-ok
 returns-clause-ok g c =
-    let files = g.F.Folder.files c.args.folder.now in
-    let count = g.F.Folder.faults c.args.folder.now in
+    let files = g.F.Store.files c.args.folder.now in
+    let count = g.F.Store.faults c.args.folder.now in
     let kept = c.args.self.now.files.items in
     let old = c.args.self.now.locks.files in
     let ended = all_ended c.args.terms.time old in

@@ -1,6 +1,6 @@
 use Rattle.std.proofs.Common.{◌≡◌, Option, option_map, unwrap_or, refl, sym, ap, subst, ◌∙◌, arith}
 use Rattle.wopi_model.specs.Settle.{settled}
-use Rattle.wopi_model.specs.Step.{Decision, decision}
+use Rattle.wopi_model.specs.Step.{decision}
 use Rattle.wopi_model.specs.Host.{begins_lock}
 use Rattle.wopi_model.specs.File.{File, never_met}
 use Rattle.host_core.specs.Files.{BeganAtMoment, decision_of, file_of, files_of}

@@ -25,8 +25,8 @@ use Rattle.host_core.proofs.shard.Shard.assemble.Goals as goal
 
 pub invariant_of-result : goal.invariant_of-result
 invariant_of-result g c =
-    let files = g.F.Folder.files in
-    let faults = g.F.Folder.faults in
+    let files = g.F.Store.files in
+    let faults = g.F.Store.faults in
     let notes = g.F.Store.notes c.args.folder in
     let stock = c.args.stock in
     let kept = joined stock.files.items [] in
@@ -104,8 +104,8 @@ invariant_of-result g c =
 
 pub returns-clause-lawful : goal.returns-clause-lawful
 returns-clause-lawful g c =
-    let files = g.F.Folder.files in
-    let faults = g.F.Folder.faults in
+    let files = g.F.Store.files in
+    let faults = g.F.Store.faults in
     let start = c.args.start.value in
     lawful _ 0 _ c.args.stock.bytes
     (files start) (files c.args.folder) (faults start) (faults c.args.folder) (invariant_of-result g c).0

@@ -16,8 +16,8 @@ use Rattle.host_core.proofs.shard.Shard.facts.Goals as goal
 
 pub invariant_of-self : goal.invariant_of-self
 invariant_of-self g c =
-    let files = g.F.Folder.files in
-    let faults = g.F.Folder.faults in
+    let files = g.F.Store.files in
+    let faults = g.F.Store.faults in
     let inside = c.self.inside in
     let ledger = inside.ledger in
     let notes = g.F.Store.notes inside.folder in

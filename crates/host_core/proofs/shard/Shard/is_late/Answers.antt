@@ -1,4 +1,4 @@
-use Rattle.std.proofs.Common.{◌≡◌, sym, subst, ◌∙◌, refl}
+use Rattle.std.proofs.Common.{◌≡◌, subst, ◌∙◌, refl}
 use Rattle.wopi_model.specs.Host.{kept_from}
 use Rattle.host_core.specs.Entries.{history_of, items_of}
 use Rattle.host_core.specs.Facts.{is_late}

@@ -7,8 +7,8 @@ use Rattle.host_core.proofs.shard.Shard.is_lost.Goals as goal
 
 pub returns-clause-lawful : goal.returns-clause-lawful
 returns-clause-lawful g c =
-    let files = g.F.Folder.files in
-    let faults = g.F.Folder.faults in
+    let files = g.F.Store.files in
+    let faults = g.F.Store.faults in
     let inside = c.self.inside in
     subst (λ book. IsLawful book (files book.start) (files book.folder) (faults book.start) (faults book.folder)) c.self.view_is
     (lawful (book_of (g.F.Store.notes inside.folder) inside) inside.ledger.last (files_in inside.ledger) inside.ledger.bytes

@@ -10,7 +10,7 @@ use Rattle.host_core.proofs.shard.Shard.open.Goals as goal
 
 pub returns-in-Ok-take_room-clause-told : goal.returns-in-Ok-take_room-clause-told
 returns-in-Ok-take_room-clause-told g c =
-    subst (λ (b : Book _). AreDatesOf (g.F.Folder.times c.args.folder) b.dates) (sym c.assemble-shard.ensures.value) c.in-Ok.ensures.dates
+    subst (λ (b : Book _). AreDatesOf (g.F.Store.times c.args.folder) b.dates) (sym c.assemble-shard.ensures.value) c.in-Ok.ensures.dates
 
 pub returns-in-Ok-take_room-clause-dates : goal.returns-in-Ok-take_room-clause-dates
 returns-in-Ok-take_room-clause-dates g c =
@@ -21,7 +21,7 @@ returns-in-Ok-take_room-clause-dates g c =
 
 pub returns-in-Ok-take_room-clause-same : goal.returns-in-Ok-take_room-clause-same
 returns-in-Ok-take_room-clause-same g c =
-    let files = g.F.Folder.files in
+    let files = g.F.Store.files in
     let both = keeps_both (files c.args.folder) (files c.gather.new.folder) (files c.open.new.self) c.in-Ok.ensures.same c.in-Ok-open.ensures.files in
     subst (λ (b : Book _). Keeps (files c.args.folder) (files b.folder)) (sym c.assemble-shard.ensures.value) both
 

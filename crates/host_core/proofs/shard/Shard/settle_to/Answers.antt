@@ -12,8 +12,8 @@ use Rattle.host_core.proofs.shard.Shard.settle_to.Goals as goal
 
 pub invariant_of-self : goal.invariant_of-self
 invariant_of-self g c =
-    let files = g.F.Folder.files in
-    let faults = g.F.Folder.faults in
+    let files = g.F.Store.files in
+    let faults = g.F.Store.faults in
     let inside = c.self.inside in
     let ledger = inside.ledger in
     let tied = c.self.invariant.1 in
@@ -36,8 +36,8 @@ invariant_of-self g c =
 
 pub returns-clause-lawful : goal.returns-clause-lawful
 returns-clause-lawful g c =
-    let files = g.F.Folder.files in
-    let faults = g.F.Folder.faults in
+    let files = g.F.Store.files in
+    let faults = g.F.Store.faults in
     let inside = c.self.inside in
     lawful _ inside.ledger.last _ inside.ledger.bytes
     (files inside.start.value) (files inside.folder) (faults inside.start.value) (faults inside.folder) (invariant_of-self g c).0

@@ -1,4 +1,4 @@
-use Rattle.std.proofs.Common.{◌≡◌, ◌≤◌, max, [], ◌∷◌, ◌++◌, List, ℕ, Bool, not, sym, ap, subst, ◌∙◌}
+use Rattle.std.proofs.Common.{◌≡◌, ◌≤◌, max, [], ◌∷◌, ◌++◌, List, ℕ, Bool, not, sym, subst}
 use Rattle.outside.specs.Faults.{Rose}
 use Rattle.host_core.specs.Entries.{history_of}
 use Rattle.host_core.specs.Facts.{facts_of, is_info, is_late, made_for, saved_at}
@@ -20,16 +20,16 @@ returns-in-Ok-clause-facts g c =
 
 pub returns-in-Ok-clause-never_falls : goal.returns-in-Ok-clause-never_falls
 returns-in-Ok-clause-never_falls g c =
-    let faults = g.F.Folder.faults in
+    let faults = g.F.Store.faults in
     subst (λ (b : Book _). faults c.args.self.now.folder ≤ faults b.folder) (sym c.facts-facts.ensures.same) c.make_for_editor.ensures.never_falls
 
 pub returns-in-Ok-clause-fault : goal.returns-in-Ok-clause-fault
 returns-in-Ok-clause-fault g c =
-    let faults = g.F.Folder.faults in
+    let faults = g.F.Store.faults in
     subst (λ (b : Book _). c.make_for_editor.new.carried.ruling.status ≡ 500 → Rose (faults c.args.self.now.folder) (faults b.folder)) (sym c.facts-facts.ensures.same) c.in-Ok.ensures.fault
 
 pub returns-in-Ok-clause-lawful : goal.returns-in-Ok-clause-lawful
 returns-in-Ok-clause-lawful g c =
-    let files = g.F.Folder.files in
-    let faults = g.F.Folder.faults in
+    let files = g.F.Store.files in
+    let faults = g.F.Store.faults in
     subst (λ (b : Book _). IsLawful b (files b.start) (files b.folder) (faults b.start) (faults b.folder)) (sym c.facts-facts.ensures.same) c.make_for_editor.ensures.lawful

@@ -1,6 +1,6 @@
 use Rattle.std.proofs.lemmas.Bool.{false_from_ne_true}
 use Rattle.std.specs.Prelude.{not}
-use Rattle.std.proofs.Common.{true, refl, sym, subst, ap, ◌≡◌, ℕ, max, List, ◌∙◌}
+use Rattle.std.proofs.Common.{true, refl, sym, subst, ap, ◌≡◌, ◌∙◌}
 use Rattle.host_core.specs.Value.{Book, state_of}
 use Rattle.host_core.specs.Caller.{MakesForEditor, Refuses}
 use Rattle.host_core.specs.Entries.{history_of}
@@ -27,8 +27,8 @@ returns-in-Ok-clause-made g c =
 
 pub returns-in-Ok-clause-frame : goal.returns-in-Ok-clause-frame
 returns-in-Ok-clause-frame g c =
-    let files = g.F.Folder.files in
-    let faults = g.F.Folder.faults in
+    let files = g.F.Store.files in
+    let faults = g.F.Store.faults in
     let new = c.step_for_editor.new.self in
     let same = c.in-Ok.ensures.entry in
     single_frames c.args.self.now.shard new c.args.call.name (files new.start) (files new.folder) (faults new.start) (faults new.folder)
@@ -43,8 +43,8 @@ returns-in-Err-clause-refused g c =
 
 pub returns-in-Err-clause-frame : goal.returns-in-Err-clause-frame
 returns-in-Err-clause-frame g c =
-    let files = g.F.Folder.files in
-    let faults = g.F.Folder.faults in
+    let files = g.F.Store.files in
+    let faults = g.F.Store.faults in
     let new = c.step_for_editor.new.self in
     let same = c.in-Err.ensures.err in
     single_frames c.args.self.now.shard new c.args.call.name (files new.start) (files new.folder) (faults new.start) (faults new.folder)

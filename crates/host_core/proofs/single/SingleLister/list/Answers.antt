@@ -7,12 +7,12 @@ returns-in-Ok-clause-listed g c =
 
 pub returns-in-Ok-clause-looks : goal.returns-in-Ok-clause-looks
 returns-in-Ok-clause-looks g c =
-    let f = g.F.Folder in
+    let f = g.F.Store in
     let book = c.args.self.now.shard in
     single_looks book c.args.shard (f.files book.start) (f.files book.folder) (f.faults book.start) (f.faults book.folder) c.requires c.len-place.ensures.lawful
 
 pub returns-in-Err-clause-looks : goal.returns-in-Err-clause-looks
 returns-in-Err-clause-looks g c =
-    let f = g.F.Folder in
+    let f = g.F.Store in
     let book = c.args.self.now.shard in
     single_looks book c.args.shard (f.files book.start) (f.files book.folder) (f.faults book.start) (f.faults book.folder) c.requires c.len-place.ensures.lawful
