@@ -1,10 +1,10 @@
 -- Listings of one shard after another.
-use Rattle.std.proofs.Common.{◌≡◌, ◌≢◌, ℕ, suc, ◌+◌, ◌<◌, Bool, true, false, ◌==◌, List, [], ◌∷◌, ◌++◌, length, refl, sym, ap, subst, ◌∙◌, arith, append-nil, append_assoc, eqb-true}
+use Rattle.std.proofs.Common.{◌≡◌, ◌≢◌, ℕ, suc, ◌+◌, ◌<◌, Bool, true, false, ◌==◌, List, [], ◌∷◌, ◌++◌, length, refl, sym, ap, subst, ◌∙◌, arith, append-nil, append_assoc, eqb-true, true≢false}
 use Rattle.std.proofs.lemmas.Bool.{eqb-false}
 use Rattle.std.specs.List.{AllByRecursion}
 use Rattle.wopi_model.specs.Begin.{Begin}
 use Rattle.wopi_model.specs.Shard.{Entry, Item, entries}
-use Rattle.host_core.specs.Caller.{Extends, FramesAt, Sight}
+use Rattle.host_core.specs.Caller.{Extends, FramesAt, KeepsTelling, Sight}
 use Rattle.host_core.specs.Listing.{AreListed, Follows, IsListing, Lists, ListsAll, LooksAt, LooksOn}
 use Rattle.host_core.specs.declared.children.Child.{Child}
 use Rattle.host_core.specs.declared.listing.Listing.{Listing}
@@ -14,6 +14,16 @@ Extends-same old = ([], sym (append-nil old))
 
 pub Extends-trans : (a b c : List Entry) → Extends a b → Extends b c → Extends a c
 Extends-trans a b c (m, e) (n, f) = (m ++ n, f ∙ ap (λ l. l ++ n) e ∙ append_assoc a m n)
+
+-- whether all may be told, after nothing and one listing after another
+pub telling_same : (loses telling : Bool) → KeepsTelling telling telling loses
+telling_same loses telling = (λ is. is, λ told ended. absurd (true≢false (sym told ∙ ended)))
+
+pub telling_on : (loses a b c : Bool) → KeepsTelling a b loses → KeepsTelling b c loses → KeepsTelling a c loses
+telling_on loses a b c first second = (λ is. first.0 (second.0 is), λ told ended. ceases b refl told ended) where
+  ceases : (m : Bool) → b ≡ m → a ≡ true → c ≡ false → loses ≡ true
+  ceases true is told ended = second.1 is ended
+  ceases false is told ended = first.1 told is
 
 pub Follows-same : (s : Sight) → Follows s s
 Follows-same s = record {

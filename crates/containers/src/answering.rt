@@ -3,6 +3,7 @@ ghost use Rattle.std.specs.Prelude.{◌≡◌, ◌≤◌, true, ℕ, List, IfOk,
 ghost use Rattle.wopi_model.specs.Moment.{IsMoment};
 ghost use Rattle.wopi_http.specs.Limits.{body_limit};
 ghost use Rattle.access_tokens.specs.Addresses.{is_base};
+ghost use Rattle.host_core.specs.Caller.{KeepsTelling};
 ghost use Rattle.host_core.specs.Listing.{ListsAll, LooksOn};
 ghost use Rattle.host_core.specs.declared.children.Child.{Child};
 ghost use Rattle.host_core.specs.declared.listing.Listing.{Listing};
@@ -41,7 +42,7 @@ pub fn container_answer<L: Lister>(
         × AreShown (L.sight lister.old) (L.sight lister.new) listings) }
     ensures small { IfOk result (λ a. length a.body ≤ body_limit) }
     ensures looks { LooksOn (L.sight lister.old) (L.sight lister.new) }
-    ensures telling { L.telling lister.new ≡ L.telling lister.old }
+    ensures telling { KeepsTelling (L.telling lister.old) (L.telling lister.new) L.loses }
     ensures basis { L.basis lister.new ≡ L.basis lister.old }
     ensures references { L.references lister.new ≡ L.references lister.old }
 {
@@ -92,7 +93,7 @@ fn children_told<L: Lister>(
         × (a ≡ json_told (listing_text terms.now.keys.now terms.now.base.now terms.now.token.now terms.now.moment children))) }
     ensures small { IfOk result (λ a. length a.body ≤ body_limit) }
     ensures looks { LooksOn (L.sight lister.old) (L.sight lister.new) }
-    ensures telling { L.telling lister.new ≡ L.telling lister.old }
+    ensures telling { KeepsTelling (L.telling lister.old) (L.telling lister.new) L.loses }
     ensures basis { L.basis lister.new ≡ L.basis lister.old }
     ensures references { L.references lister.new ≡ L.references lister.old }
 {

@@ -1,5 +1,6 @@
 //! The listings of all shards.
 ghost use Rattle.std.specs.Prelude.{◌≡◌, IfOk};
+ghost use Rattle.host_core.specs.Caller.{KeepsTelling};
 ghost use Rattle.host_core.specs.Listing.{ListsAll, LooksOn};
 
 use host_core::{Lister, Listing};
@@ -10,7 +11,7 @@ use wopi_text::Memory;
 pub(crate) fn list_all<L: Lister>(alloc: Global, lister: &mut L) -> Result<Vec<Listing>, Memory>
     ensures listed { IfOk result (λ listings. ListsAll L.shard_count (L.sight lister.new) listings.items) }
     ensures looks { LooksOn (L.sight lister.old) (L.sight lister.new) }
-    ensures telling { L.telling lister.new ≡ L.telling lister.old }
+    ensures telling { KeepsTelling (L.telling lister.old) (L.telling lister.new) L.loses }
     ensures basis { L.basis lister.new ≡ L.basis lister.old }
     ensures references { L.references lister.new ≡ L.references lister.old }
 {
