@@ -223,6 +223,15 @@ module _ {F : Type 0} (p : PassView F) (k : ℕ) (v w : Place F) (inside : IsPas
     pub looks_then : (shard : ℕ) → k ≡ shard → LooksAt (sight_of p) (sight_of after_glance) shard
     looks_then shard is = let P : ℕ → Type 0 = λ n. LooksAt (sight_of p) (sight_of after_glance) n in subst P is looks_glanced
 
+    -- what the store has noted, as the pass has seen it
+    pub notes_then : (shard : ℕ) → k ≡ shard → (notes : Notes) → AreSeenAt notes w → AreNotesOf (sight_of after_glance) shard notes
+    notes_then shard is notes are =
+        let P : ℕ → Type 0 = λ n. AreNotesOf (sight_of after_glance) n notes in
+        subst P is (record {
+          begin = are.begin ∙ sym (ap beginning_at (get_set p.seats k w here));
+          made = ap untimed are.made ∙ sym (ap seen_at (get_set p.seats k w here));
+        })
+
     pub lists_then : (shard : ℕ) → k ≡ shard → (answer : Result Listing Memory) → IfOk answer (λ listing. Prelude.IsSomeAnd v.base (λ base. IsListing shard base.begin (untimed w.seen) listing))
         → IfOk answer (Lists (sight_of after_glance) shard)
     lists_then shard is answer =

@@ -17,6 +17,7 @@ use Rattle.host_core.specs.Caller.{entry_of, called_back, IsFullCall, IsLostCall
 use Rattle.host_core.specs.Entries.{Made, back_of, brought_by, history_of}
 use Rattle.host_core.specs.Facts.{Dates, facts_of, is_info, is_late, made_for, saved_at}
 use Rattle.host_core.specs.LockActs.{is_lock_act}
+use Rattle.host_core.specs.Notes.{LogStart}
 use Rattle.host_core.specs.Value.{Book, state_of}
 use Rattle.host_core.specs.Times.{untimed, GoesByEntries}
 use Rattle.host_table.specs.Editors.{TellsEditor}
@@ -44,11 +45,11 @@ within_push None begin history call moment made more long next few room = tt
 within_push (Some calls) begin history call moment made more long next few room =
     below_calls made more calls next few (λ e. room (inl (long ∙ e)))
 
-pub held_push : {F : Type 0} (old : Book F) (folder : F) (one : Made) (start now now' : Option Files) (began count count' floor : ℕ) (call : Call) → IsHeld old start now began count
+pub held_push : {F : Type 0} (old : Book F) (folder : F) (one : Made) (start now now' : Option Files) (began count count' floor : ℕ) (then_log log log' : Option LogStart) (call : Call) → IsHeld old start now began count then_log log
     → old.only ≡ Some (shard_of one.step.call.name)
-    → (FullFrom old.limits old.begin (history_of old.made old.time) floor call one.step.moment → ⊥) → count ≤ count'
-    → IsHeld (record old { made = old.made ++ one ∷ []; time = one.time; folder = folder }) start now' began count'
-held_push old folder one start now now' began count count' floor call h only room more =
+    → (FullFrom old.limits old.begin (history_of old.made old.time) floor call one.step.moment → ⊥) → count ≤ count' → log' ≡ log
+    → IsHeld (record old { made = old.made ++ one ∷ []; time = one.time; folder = folder }) start now' began count' then_log log'
+held_push old folder one start now now' began count count' floor then_log log log' call h only room more same =
     let counts = h.counts in
     let long : length (entries (history_of old.made old.time)) ≡ length old.made = ap (λ (es : List Entry). length es) (entries-history old.made old.time) ∙ steps-long old.made in
     record {
@@ -57,11 +58,12 @@ held_push old folder one start now now' began count count' floor call h only roo
       few = within_push old.limits.calls old.begin (history_of old.made old.time) call one.step.moment (length old.made) _ long (length-append old.made (one ∷ [])) h.few (λ none. room (inr (inl none)));
       unchanged = λ e. absurd (not_empty old.made one e);
       counts = omega arith;
+      log = same ∙ h.log;
     }
 
-pub seen_of : {F : Type 0} (book : Book F) (start now : Option Files) (began count : ℕ) → IsHeld book start now began count
+pub seen_of : {F : Type 0} (book : Book F) (start now : Option Files) (began count : ℕ) (then_log log : Option LogStart) → IsHeld book start now began count then_log log
     → (book.ticked ≡ false → LegalFrom book.begin (untimed book.made)) → IsSeen (as_opened book) book.made
-seen_of book start now began count h alone = record { legal = alone h.unticked; named = h.named }
+seen_of book start now began count then_log log h alone = record { legal = alone h.unticked; named = h.named }
 
 pub held_adds : {F : Type 0} (told : Bool) (old new : Book F) (call : Call) (pass floor moment : ℕ) (receipt : Receipt) → told ≡ receipt.told → GoesByEntries old.begin.now old.made old.time
     → new ≡ record old { made = old.made ++ record { time = max old.time moment; step = entry_of pass call moment receipt; told = told } ∷ []; time = max old.time moment; folder = new.folder }
@@ -139,9 +141,9 @@ held_declines old new call floor moment refusal goes is full handed light = reco
   light = light;
 }
 
-pub seen_stays : {F : Type 0} (old new : Book F) (start now : Option Files) (began count : ℕ) → IsHeld old start now began count → new ≡ record old { folder = new.folder }
+pub seen_stays : {F : Type 0} (old new : Book F) (start now : Option Files) (began count : ℕ) (then_log log : Option LogStart) → IsHeld old start now began count then_log log → new ≡ record old { folder = new.folder }
     → (new.ticked ≡ false → LegalFrom new.begin (untimed new.made)) → IsSeen (as_opened new) new.made
-seen_stays old new start now began count h is alone = record {
+seen_stays old new start now began count then_log log h is alone = record {
   legal = alone (ap (λ (b : Book _). b.ticked) is ∙ h.unticked);
   named = subst (λ (b : Book _). AreNamed b.only b.made) (sym is) h.named;
 }

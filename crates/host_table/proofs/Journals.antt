@@ -13,15 +13,15 @@ use Rattle.wopi_text.specs.FileName.{shard_of}
 use Rattle.wopi_model.specs.Shard.{Opening, Entry, Item, Step, Legal, LegalFrom, RisesFrom, entries, stamps}
 use Rattle.wopi_model.specs.File.{File}
 use Rattle.wopi_model.specs.Begin.{Begin, new_life}
-use Rattle.wopi_model.specs.Host.{Limits, kept_limits, shard_of_entry, opening_of, part_of, LegalHost, IsInOrder}
+use Rattle.wopi_model.specs.Host.{Limits, kept_limits, shard_of_entry, opening_of, part_of, IsInOrder}
 use Rattle.host_core.specs.Opening.{MayKeep}
-use Rattle.host_core.specs.Entries.{Made, history_of}
+use Rattle.host_core.specs.Entries.{Made, history_of, told_by, told_of}
 use Rattle.host_core.specs.Value.{Book, InMemory, Left, IsLawful}
 use Rattle.host_table.specs.declared.journal.Spot.{Spot}
 use Rattle.host_core.specs.Times.{steps_of, untimed, last_time, IsTimely}
 use Rattle.host_table.specs.Histories.{as_opened, AreNamed}
 use Rattle.host_table.specs.Held.{IsTakenApart}
-use Rattle.host_table.specs.Passes.{Place, PassView, HostView, Own, stamp_of, own_of, owned_from, lock_of, base_of, IsPassOf, AreBases, IsPass, IsHost, HasOwn}
+use Rattle.host_table.specs.Passes.{Place, PassView, HostView, Own, stamp_of, own_of, told_own, owned_from, lock_of, base_of, IsPassOf, AreBases, IsPass, IsHost, HasOwn}
 use Rattle.host_table.specs.Rows.{CanClose, AreEnds}
 use Rattle.host_table.specs.Journal.{order_of, all_spots, merge_of, AreFound, openings, AreParts}
 use Rattle.host_table.specs.Close.{number_of, capacity_of, AreFree, IsWhole, IsBasedOn, IsJoinOf, AreSeen, AreTaken, IsEnded, AreEnded, Ends}
@@ -31,7 +31,7 @@ use Rattle.host_table.proofs.Owned.{has_own}
 use Rattle.host_table.proofs.Leaving.{life_is}
 use Rattle.host_table.proofs.NewLives.{opening_kept}
 use Rattle.host_table.proofs.Order.{Has, all_at, all_of, has_filter, filter_has, filter_none, has_map, map_has, filter_map_is, AreOrdered, ordered_filter, one_order, rises_ordered}
-use Rattle.host_table.proofs.Sorting.{AreRising, ArePlaced, sorted_found, sorted_ordered, entry_has, has_entry}
+use Rattle.host_table.proofs.Sorting.{AreRising, ArePlaced, AreSorted, are_sorted, sorted_found, sorted_ordered, entry_has, has_entry}
 use Rattle.host_table.proofs.Owners.{in_from, in_sorted, same_number, seat_at, owner_of, seen_begins, has_times}
 
 module _ {A : Type 0} where
@@ -51,6 +51,27 @@ module _ {A : Type 0} where
   place_has (y ∷ xs) zero x e = inl (cc e)
   place_has (y ∷ xs) (suc k) x e = inr (place_has xs k x e)
 
+-- what each shard leaves has the entries that it made
+abbrev pub HaveMade : {S F : Type 0} → List (Book S) → List (Left F) → Type 0
+HaveMade [] [] = Unit {0}
+HaveMade [] (part ∷ parts) = ⊥
+HaveMade (book ∷ books) [] = ⊥
+HaveMade (book ∷ books) (part ∷ parts) = (part.made ≡ book.made) × HaveMade books parts
+
+module _ {S F : Type 0} where
+  made_long : (books : List (Book S)) (parts : List (Left F)) → HaveMade books parts → length parts ≡ length books
+  made_long [] [] a = refl
+  made_long [] (p ∷ parts) a = absurd a
+  made_long (b ∷ books) [] a = absurd a
+  made_long (b ∷ books) (p ∷ parts) a = ap suc (made_long books parts a.1)
+
+  made_at : (books : List (Book S)) (parts : List (Left F)) (i : ℕ) (part : Left F) → HaveMade books parts → slice_get parts i ≡ Some part → (h : Book S) × (slice_get books i ≡ Some h) × (part.made ≡ h.made)
+  made_at [] [] i part a e = absurd (cc e)
+  made_at [] (p ∷ parts) i part a e = absurd a
+  made_at (b ∷ books) [] i part a e = absurd a
+  made_at (b ∷ books) (p ∷ parts) zero part a e = let same : p ≡ part = cc e in (b, refl, ap (λ (z : Left F). z.made) (sym same) ∙ a.0)
+  made_at (b ∷ books) (p ∷ parts) (suc i) part a e = made_at books parts i part a.1 e
+
 module _ {F : Type 0} (files : F → Option Files) (faults : F → ℕ) where
   pub taken_at : (books : List (Book (InMemory F))) (parts : List (Left F)) (folders : List F) (i : ℕ) (part : Left F) → AreTaken files faults books parts folders → slice_get parts i ≡ Some part
       → (h : Book (InMemory F)) × (folder : F) × (slice_get books i ≡ Some h) × IsTakenApart files faults h part folder
@@ -64,15 +85,15 @@ module _ {F : Type 0} (files : F → Option Files) (faults : F → ℕ) where
   taken_at (b ∷ books) (p ∷ parts) (f ∷ folders) zero part a e = let same : p ≡ part = cc e in (b, f, refl, subst (λ (z : Left F). IsTakenApart files faults b z f) same a.0)
   taken_at (b ∷ books) (p ∷ parts) (f ∷ folders) (suc i) part a e = taken_at books parts folders i part a.1 e
 
-  taken_long : (books : List (Book (InMemory F))) (parts : List (Left F)) (folders : List F) → AreTaken files faults books parts folders → length parts ≡ length books
-  taken_long [] [] [] a = refl
-  taken_long [] [] (f ∷ folders) a = absurd a
-  taken_long [] (p ∷ parts) [] a = absurd a
-  taken_long [] (p ∷ parts) (f ∷ folders) a = absurd a
-  taken_long (b ∷ books) [] [] a = absurd a
-  taken_long (b ∷ books) [] (f ∷ folders) a = absurd a
-  taken_long (b ∷ books) (p ∷ parts) [] a = absurd a
-  taken_long (b ∷ books) (p ∷ parts) (f ∷ folders) a = ap suc (taken_long books parts folders a.1)
+  taken_made : (books : List (Book (InMemory F))) (parts : List (Left F)) (folders : List F) → AreTaken files faults books parts folders → HaveMade books parts
+  taken_made [] [] [] a = tt
+  taken_made [] [] (f ∷ folders) a = absurd a
+  taken_made [] (p ∷ parts) [] a = absurd a
+  taken_made [] (p ∷ parts) (f ∷ folders) a = absurd a
+  taken_made (b ∷ books) [] [] a = absurd a
+  taken_made (b ∷ books) [] (f ∷ folders) a = absurd a
+  taken_made (b ∷ books) (p ∷ parts) [] a = absurd a
+  taken_made (b ∷ books) (p ∷ parts) (f ∷ folders) a = (ap (λ (z : Left F). z.made) a.0.left_is, taken_made books parts folders a.1)
 
   -- what a shard leaves is of the shard that was opened
   ended_one : (opened oldest : ℕ) (h : Book (InMemory F)) (part : Left F) (folder : F) → h.begin.opened ≡ opened → h.begin.first ≡ oldest → IsTakenApart files faults h part folder → IsEnded files faults opened oldest (as_opened h) part folder
@@ -126,7 +147,7 @@ module _ {F : Type 0} (files : F → Option Files) (faults : F → ℕ) where
       ((named, rest.0), (subst (λ (m : List Made). RisesFrom 0 (stamps (steps_of m))) made rises, rest.1))
 
 -- the shards that lay under the locks are those that were opened
-ended_bases : {F : Type 0} (seats : List (Place F)) (books bases : List (Book F)) → AreEnds seats books → map base_of seats ≡ map Some bases → map as_opened books ≡ bases
+pub ended_bases : {F : Type 0} (seats : List (Place F)) (books bases : List (Book F)) → AreEnds seats books → map base_of seats ≡ map Some bases → map as_opened books ≡ bases
 ended_bases [] [] [] a e = refl
 ended_bases [] [] (b ∷ bases) a e = absurd (cc e)
 ended_bases [] (h ∷ books) bases a e = absurd a
@@ -137,7 +158,7 @@ ended_bases (s ∷ seats) (h ∷ books) (b ∷ bases) a e =
     let same : as_opened h ≡ b = cc (a.0.based, first) in let more = ended_bases seats books bases a.1 rest in
     λ i. same i ∷ more i
 
-based_on : {F : Type 0} (host : HostView F) (passes : List (PassView F)) (seats : List (Place F)) → AllByRecursion (IsPassOf host) passes → IsBasedOn passes seats → map base_of seats ≡ map Some host.bases
+pub based_on : {F : Type 0} (host : HostView F) (passes : List (PassView F)) (seats : List (Place F)) → AllByRecursion (IsPassOf host) passes → IsBasedOn passes seats → map base_of seats ≡ map Some host.bases
 based_on host [] seats of b = absurd b
 based_on host (p ∷ passes) seats of b = b ∙ of.0.bases
 
@@ -157,7 +178,7 @@ own_in n (file ∷ opening) a =
     ap (λ (b : Bool). cond b (file ∷ opening_of n opening) (opening_of n opening)) test ∙ ap (λ (z : Opening). file ∷ z) rest
 
 -- each part's opening files are of its shard
-abbrev AreHomed : {F : Type 0} → ℕ → List (Left F) → Type 0
+abbrev pub AreHomed : {F : Type 0} → ℕ → List (Left F) → Type 0
 AreHomed j [] = Unit {0}
 AreHomed j (part ∷ parts) = AllByRecursion (λ (file : List ℕ × List ℕ). shard_of file.0 ≡ j) part.opening × AreHomed (j + 1) parts
 
@@ -167,7 +188,7 @@ openings_out n j (part ∷ parts) h a =
     filter-append (λ (file : List ℕ × List ℕ). shard_of file.0 == n) part.opening (openings parts)
     ∙ (ap (λ (z : Opening). z ++ opening_of n (openings parts)) (others_out n j part.opening (λ e. omega (arith, e, h)) a.0) ∙ openings_out n (j + 1) parts (omega arith) a.1)
 
-openings_at : {F : Type 0} (j : ℕ) (parts : List (Left F)) (i : ℕ) (part : Left F) (n : ℕ) → n ≡ j + i → AreHomed j parts → slice_get parts i ≡ Some part → opening_of n (openings parts) ≡ part.opening
+pub openings_at : {F : Type 0} (j : ℕ) (parts : List (Left F)) (i : ℕ) (part : Left F) (n : ℕ) → n ≡ j + i → AreHomed j parts → slice_get parts i ≡ Some part → opening_of n (openings parts) ≡ part.opening
 openings_at j [] i part n e a at = absurd (cc at)
 openings_at j (p ∷ parts) zero part n e a at =
     let same : p ≡ part = cc at in let here : n ≡ j = omega arith in
@@ -177,13 +198,6 @@ openings_at j (p ∷ parts) zero part n e a at =
 openings_at j (p ∷ parts) (suc i) part n e a at =
     filter-append (λ (file : List ℕ × List ℕ). shard_of file.0 == n) p.opening (openings parts)
     ∙ (ap (λ (z : Opening). z ++ opening_of n (openings parts)) (others_out n j p.opening (λ d. omega (arith, d, e)) a.0) ∙ openings_at (j + 1) parts i part n (omega arith) a.1 at)
-
-map_self : (es : List Entry) → map (λ (e : Entry). e) es ≡ es
-map_self [] = refl
-map_self (e ∷ es) = ap (λ (z : List Entry). e ∷ z) (map_self es)
-
-same_order : (es : List Entry) → IsInOrder es → AreOrdered (λ (e : Entry). e) es
-same_order es o = subst IsInOrder (sym (map_self es)) o
 
 stamps-own : (own : List Own) → stamps (map (λ (one : Own). one.entry) own) ≡ map stamp_of own
 stamps-own [] = refl
@@ -224,7 +238,7 @@ named_in j (p ∷ parts) zero part k one a e f =
     named_one j p.made k one a.0 (ap (λ (q : Left _). slice_get q.made k) same ∙ f) ∙ z
 named_in j (p ∷ parts) (suc i) part k one a e f = let n : (j + 1) + i ≡ j + suc i = omega arith in named_in (j + 1) parts i part k one a.1 e f ∙ n
 
-homed_files : (only : Option ℕ) (j : ℕ) (opening : Opening) → only ≡ Some j → AllByRecursion (λ (file : List ℕ × List ℕ). MayKeep only file.0) opening → AllByRecursion (λ (file : List ℕ × List ℕ). shard_of file.0 ≡ j) opening
+pub homed_files : (only : Option ℕ) (j : ℕ) (opening : Opening) → only ≡ Some j → AllByRecursion (λ (file : List ℕ × List ℕ). MayKeep only file.0) opening → AllByRecursion (λ (file : List ℕ × List ℕ). shard_of file.0 ≡ j) opening
 homed_files only j [] e a = tt
 homed_files only j (file ∷ opening) e a = let P : Option ℕ → Type 0 = λ o. MayKeep o file.0 in ((subst P e a.0).1, homed_files only j opening e a.1)
 
@@ -274,38 +288,56 @@ module _ {F : Type 0} where
   seen_are (s ∷ seats) [] e f = absurd (omega arith)
   seen_are (s ∷ seats) (p ∷ parts) e f = (f 0 s p refl refl, seen_are seats parts (omega arith) (λ i t q a b. f (suc i) t q a b))
 
-module _ {F : Type 0} (files : F → Option Files) (faults : F → ℕ) (opened oldest : ℕ) (limits : Limits) (made : ℕ) (passes : List (PassView (InMemory F))) (seats : List (Place (InMemory F))) (books : List (Book (InMemory F))) (parts : List (Left F)) (folders : List F) (sorted : List Spot)
-    (whole : IsWhole made passes) (joined : IsJoinOf passes seats) (ends : AreEnds seats books) (bases : AreBases opened oldest limits 0 (map as_opened books)) (taken : AreTaken files faults books parts folders) (long : length books ≡ 16)
-    (moved : IsPermutation (all_spots 0 parts) sorted) (up : IsNonDecreasingBy order_of sorted) where
+-- an entry as its caller knows it, and whether it may be told
+abbrev Known : Type 0
+Known = Entry × Bool
+
+abbrev known : Made → Known
+known one = (one.step, one.told)
+
+abbrev known_own : Own → Known
+known_own own = (own.entry, own.told)
+
+known_steps : (made : List Made) → map (λ (z : Known). z.0) (map known made) ≡ steps_of made
+known_steps [] = refl
+known_steps (one ∷ made) = ap (λ (z : List Entry). one.step ∷ z) (known_steps made)
+
+known_entries : (own : List Own) → map (λ (z : Known). z.0) (map known_own own) ≡ map (λ one. one.entry) own
+known_entries [] = refl
+known_entries (o ∷ own) = ap (λ (z : List Entry). o.entry ∷ z) (known_entries own)
+
+abbrev told_known : List Known → List Entry
+told_known [] = []
+told_known (z ∷ zs) = told_by z.1 z.0 ++ told_known zs
+
+made_told : (made : List Made) → told_known (map known made) ≡ told_of made
+made_told [] = refl
+made_told (one ∷ made) = ap (λ (z : List Entry). told_by one.told one.step ++ z) (made_told made)
+
+own_told : (own : List Own) → told_known (map known_own own) ≡ told_own own
+own_told [] = refl
+own_told (o ∷ own) = ap (λ (z : List Entry). told_by o.told o.entry ++ z) (own_told own)
+
+module _ {S F : Type 0} (made : ℕ) (passes : List (PassView S)) (seats : List (Place S)) (books : List (Book S)) (parts : List (Left F)) (sorted : List Spot)
+    (whole : IsWhole made passes) (joined : IsJoinOf passes seats) (ends : AreEnds seats books) (have : HaveMade books parts) (long : length books ≡ 16) (placed : ArePlaced 0 parts) (rising : AreRising parts)
+    (is_sorted : AreSorted parts sorted) where
   abbrev merge : List Made
   merge = merge_of parts sorted
 
-  placed : ArePlaced 0 parts
-  placed = (parts_placed files faults opened oldest limits 0 books parts folders taken bases).0
-
-  rising : AreRising parts
-  rising = (parts_placed files faults opened oldest limits 0 books parts folders taken bases).1
-
   parts_long : length parts ≡ 16
-  parts_long = taken_long files faults books parts folders taken ∙ long
+  parts_long = made_long books parts have ∙ long
 
-  few : length parts ≤ 16
-  few = let n = parts_long in omega arith
-
-  pub spots_found : AreFound parts sorted
-  spots_found = sorted_found parts sorted few rising placed moved up
-
-  ordered : AreOrdered (λ (one : Made). one.step) merge
-  ordered = sorted_ordered parts sorted few rising placed moved up
+  pub ordered : AreOrdered (λ (one : Made). one.step) merge
+  ordered = sorted_ordered parts sorted placed is_sorted
 
   has_one : (i : ℕ) (part : Left F) (k : ℕ) (one : Made) → slice_get parts i ≡ Some part → slice_get part.made k ≡ Some one → Has merge one
-  has_one = entry_has parts sorted few rising placed moved up
+  has_one = entry_has parts sorted placed is_sorted
 
   where_is : (one : Made) → Has merge one → (i : ℕ) × (k : ℕ) × (part : Left F) × (slice_get parts i ≡ Some part) × (slice_get part.made k ≡ Some one) × (shard_of_entry one.step ≡ i)
-  where_is = has_entry parts sorted few rising placed moved up
+  where_is = has_entry parts sorted placed is_sorted
 
   -- a shard's part of the merge
-  part_is : (i : ℕ) (part : Left F) → slice_get parts i ≡ Some part → part.made ≡ filter (λ one. shard_of_entry one.step == i) merge
+  pub part_is : (i : ℕ) (part : Left F) → slice_get parts i ≡ Some part → part.made ≡ filter (λ one. shard_of_entry one.step == i) merge
   part_is i part at =
       let mine : AreOrdered (λ (one : Made). one.step) part.made = rises_ordered 0 (steps_of part.made) (rising_at parts i part rising at) in
       one_order (λ (one : Made). one.step) part.made (filter (λ one. shard_of_entry one.step == i) merge) mine (ordered_filter (λ (one : Made). one.step) (λ one. shard_of_entry one.step == i) merge ordered)
@@ -318,20 +350,20 @@ module _ {F : Type 0} (files : F → Option Files) (faults : F → ℕ) (opened 
       let part_same : w.2 ≡ part = cc (w.3, ap (slice_get parts) same, at) in
       place_has part.made w.1 one (ap (λ (p : Left F). slice_get p.made w.1) (sym part_same) ∙ w.4))
 
-  made_of : (i : ℕ) (part : Left F) → slice_get parts i ≡ Some part → (h : Book (InMemory F)) × (folder : F) × (slice_get books i ≡ Some h) × IsTakenApart files faults h part folder
-  made_of i part at = taken_at files faults books parts folders i part taken at
+  made_of : (i : ℕ) (part : Left F) → slice_get parts i ≡ Some part → (h : Book S) × (slice_get books i ≡ Some h) × (part.made ≡ h.made)
+  made_of i part at = made_at books parts i part have at
 
-  whose : (one : Made) → Has merge one → (q : PassView (InMemory F)) × (o : Own) × Has passes q × (one.step.pass ≡ q.number) × Has (own_of q) o × (o.entry ≡ one.step)
+  whose : (one : Made) → Has merge one → (q : PassView S) × (o : Own) × Has passes q × (one.step.pass ≡ q.number) × Has (own_of q) o × (known_own o ≡ known one)
   whose one h =
       let w = where_is one h in let t = made_of w.0 w.2 w.3 in
-      let made : slice_get t.0.made w.1 ≡ Some one = ap (λ (z : Left F). slice_get z.made w.1) (sym t.3.left_is) ∙ w.4 in
-      let own = owner_of passes seats books w.0 t.0 w.1 one joined ends t.2 made in
+      let there : slice_get t.0.made w.1 ≡ Some one = ap (λ (z : List Made). slice_get z w.1) (sym t.2) ∙ w.4 in
+      let own = owner_of passes seats books w.0 t.0 w.1 one joined ends t.1 there in
       (own.0, record { shard = w.0; place = w.1; entry = one.step; told = one.told }, own.1, own.2, own.3, refl)
 
   once : (n : ℕ) → times n (map number_of passes) ≤ 1
   once n = let is = whole.numbers n in grind (arith, nat_tests)
 
-  there_in_merge : (p : PassView (InMemory F)) (o : Own) → Has passes p → Has (own_of p) o → (one : Made) × Has merge one × (one.step.pass ≡ p.number) × (o.entry ≡ one.step)
+  there_in_merge : (p : PassView S) (o : Own) → Has passes p → Has (own_of p) o → (one : Made) × Has merge one × (one.step.pass ≡ p.number) × (known_own o ≡ known one)
   there_in_merge p o mine h =
       let at = in_from 0 p.seats o (in_sorted (owned_from 0 p.seats) o h) in
       let is = all_at IsPass passes p joined.passes_are mine in
@@ -341,47 +373,39 @@ module _ {F : Type 0} (files : F → Option Files) (faults : F → ℕ) (opened 
       let inside = get_inside p.seats at.shard at.seat at.there in let wide = is.wide in let n = parts_long in
       let part = got parts at.shard (omega arith) in
       let t = made_of at.shard part.0 part.1 in
-      let begins = seen_begins passes seats books p at.shard at.seat t.0 joined ends mine at.there t.2 in
-      let made : slice_get part.0.made at.place ≡ Some at.one = ap (λ (z : Left F). slice_get z.made at.place) t.3.left_is ∙ prefix_get at.seat.seen t.0.made at.place at.one begins at.seen in
-      (at.one, has_one at.shard part.0 at.place at.one part.1 made, ap (λ (z : Made). z.step.pass) (sym same) ∙ own.2, ap (λ (z : Own). z.entry) at.is)
+      let begins = seen_begins passes seats books p at.shard at.seat t.0 joined ends mine at.there t.1 in
+      let there : slice_get part.0.made at.place ≡ Some at.one = ap (λ (z : List Made). slice_get z at.place) t.2 ∙ prefix_get at.seat.seen t.0.made at.place at.one begins at.seen in
+      (at.one, has_one at.shard part.0 at.place at.one part.1 there, ap (λ (z : Made). z.step.pass) (sym same) ∙ own.2, ap known_own at.is)
 
   -- the entries of a pass's number are its own
-  own_is : (p : PassView (InMemory F)) → Has passes p → filter (λ (entry : Entry). entry.pass == p.number) (steps_of merge) ≡ map (λ one. one.entry) (own_of p)
-  own_is p mine =
-      let test : Entry → Bool = λ entry. entry.pass == p.number in
+  own_known : (p : PassView S) → Has passes p → map known (filter (λ (one : Made). one.step.pass == p.number) merge) ≡ map known_own (own_of p)
+  own_known p mine =
+      let test : Made → Bool = λ one. one.step.pass == p.number in
       let is = all_at IsPass passes p joined.passes_are mine in
-      let left : AreOrdered (λ (e : Entry). e) (filter test (steps_of merge)) = ordered_filter (λ (e : Entry). e) test (steps_of merge) (same_order (steps_of merge) ordered) in
-      let right : AreOrdered (λ (e : Entry). e) (map (λ (one : Own). one.entry) (own_of p)) =
-      same_order (map (λ (one : Own). one.entry) (own_of p)) (rises_ordered 0 (map (λ (one : Own). one.entry) (own_of p)) (subst (RisesFrom 0) (sym (stamps-own (own_of p))) is.rises)) in
-      one_order (λ (e : Entry). e) (filter test (steps_of merge)) (map (λ one. one.entry) (own_of p)) left right
-      (λ e h. let f = has_filter test (steps_of merge) e h in let m = map_has (λ (z : Made). z.step) merge e f.0 in let w = whose m.0 m.1 in
-      let t = f.1 in let pass : m.0.step.pass ≡ e.pass = ap (λ (z : Entry). z.pass) m.2 in let q = w.3 in
+      let left : AreOrdered (λ (z : Known). z.0) (map known (filter test merge)) = subst IsInOrder (sym (known_steps (filter test merge))) (ordered_filter (λ (one : Made). one.step) test merge ordered) in
+      let right : AreOrdered (λ (z : Known). z.0) (map known_own (own_of p)) = subst IsInOrder (sym (known_entries (own_of p)))
+      (rises_ordered 0 (map (λ (one : Own). one.entry) (own_of p)) (subst (RisesFrom 0) (sym (stamps-own (own_of p))) is.rises)) in
+      one_order (λ (z : Known). z.0) (map known (filter test merge)) (map known_own (own_of p)) left right
+      (λ z h. let m = map_has known (filter test merge) z h in let f = has_filter test merge m.0 m.1 in let w = whose m.0 f.0 in
+      let t = f.1 in let q = w.3 in
       let number : w.0.number ≡ p.number = grind (arith, nat_tests) in
       let same : w.0 ≡ p = same_number passes w.0 p once w.2 mine number in
-      let there : Has (own_of p) w.1 = subst (λ (z : PassView (InMemory F)). Has (own_of z) w.1) same w.4 in
-      subst (λ (z : Entry). Has (map (λ (one : Own). one.entry) (own_of p)) z) (w.5 ∙ m.2) (has_map (λ (one : Own). one.entry) (own_of p) w.1 there))
-      (λ e h. let m = map_has (λ (one : Own). one.entry) (own_of p) e h in let w = there_in_merge p m.0 mine m.1 in
-      let same : w.0.step ≡ e = sym w.3 ∙ m.2 in
-      let pass : e.pass ≡ p.number = ap (λ (z : Entry). z.pass) (sym same) ∙ w.2 in
-      let yes : test e ≡ true = grind (arith, nat_tests) in
-      filter_has test (steps_of merge) e (subst (λ (z : Entry). Has (steps_of merge) z) same (has_map (λ (z : Made). z.step) merge w.0 w.1)) yes)
+      let there : Has (own_of p) w.1 = subst (λ (y : PassView S). Has (own_of y) w.1) same w.4 in
+      subst (λ (y : Known). Has (map known_own (own_of p)) y) (w.5 ∙ m.2) (has_map known_own (own_of p) w.1 there))
+      (λ z h. let m = map_has known_own (own_of p) z h in let w = there_in_merge p m.0 mine m.1 in
+      let pass = w.2 in
+      let yes : test w.0 ≡ true = grind (arith, nat_tests) in
+      subst (λ (y : Known). Has (map known (filter test merge)) y) (sym w.3 ∙ m.2) (has_map known (filter test merge) w.0 (filter_has test merge w.0 w.1 yes)))
 
-  shard_legal : (shard : ℕ) → shard < 16 → Legal (opening_of shard (openings parts)) opened oldest (part_of shard (steps_of merge))
-  shard_legal shard h =
-      let n = parts_long in
-      let part = got parts shard (omega arith) in
-      let t = made_of shard part.0 part.1 in
-      let opening : opening_of shard (openings parts) ≡ part.0.opening = openings_at 0 parts shard part.0 shard (omega arith) (homed_all files faults opened oldest limits 0 books parts folders taken bases) part.1 in
-      let history : part_of shard (steps_of merge) ≡ untimed part.0.made =
-      ap (map Step) (filter_map_is (λ (z : Made). z.step) (λ (e : Entry). shard_of_entry e == shard) merge) ∙ ap untimed (sym (part_is shard part.0 part.1)) in
-      let when : t.0.begin.opened ≡ opened = base_opened opened oldest limits 0 books shard t.0 bases t.2 in
-      let begins : t.0.begin.first ≡ oldest = base_first opened oldest limits 0 books shard t.0 bases t.2 in
-      let P : Opening × (ℕ × (ℕ × List Item)) → Type 0 = λ z. Legal z.0 z.1.0 z.1.1.0 z.1.1.1 in
-      let all : (part.0.opening, (t.0.begin.opened, (t.0.begin.first, untimed part.0.made))) ≡ (opening_of shard (openings parts), (opened, (oldest, part_of shard (steps_of merge)))) =
-      λ i. (sym opening i, (when i, (begins i, sym history i))) in
-      subst P all (part_legal files faults t.0 part.0 t.1 t.3)
+  own_is : (p : PassView S) → Has passes p → filter (λ (entry : Entry). entry.pass == p.number) (steps_of merge) ≡ map (λ one. one.entry) (own_of p)
+  own_is p mine =
+      filter_map_is (λ (z : Made). z.step) (λ (entry : Entry). entry.pass == p.number) merge
+      ∙ (sym (known_steps (filter (λ (one : Made). one.step.pass == p.number) merge)) ∙ (ap (map (λ (z : Known). z.0)) (own_known p mine) ∙ known_entries (own_of p)))
 
-  pass_rises : (n : ℕ) → RisesFrom 0 (stamps (filter (λ (entry : Entry). entry.pass == n) (steps_of merge)))
+  told_is : (p : PassView S) → Has passes p → told_of (filter (λ (one : Made). one.step.pass == p.number) merge) ≡ told_own (own_of p)
+  told_is p mine = sym (made_told (filter (λ (one : Made). one.step.pass == p.number) merge)) ∙ (ap told_known (own_known p mine) ∙ own_told (own_of p))
+
+  pub pass_rises : (n : ℕ) → RisesFrom 0 (stamps (filter (λ (entry : Entry). entry.pass == n) (steps_of merge)))
   pass_rises n = elim (numbered passes n) as (λ _. RisesFrom 0 (stamps (filter (λ (entry : Entry). entry.pass == n) (steps_of merge)))) [
     | inl some ↦
         let is = all_at IsPass passes some.0 joined.passes_are some.1 in
@@ -396,21 +420,21 @@ module _ {F : Type 0} (files : F → Option Files) (faults : F → ℕ) (opened 
         let number : w.0.number ≡ n = grind (arith, nat_tests) in none w.0 w.2 number))) tt
   ]
 
-  pub legal_host : LegalHost (openings parts) opened oldest (steps_of merge)
-  legal_host = record { ordered = ordered; shards = shard_legal; passes = pass_rises }
-
   pub all_parts : AreParts merge 0 parts
   all_parts = parts_are merge 0 parts (λ i part at. let z : i ≡ 0 + i = omega arith in part_is i part at ∙ ap (λ (n : ℕ). filter (λ (one : Made). shard_of_entry one.step == n) merge) z)
 
   pub all_seen : AllByRecursion (λ pass. AreSeen pass.seats parts) passes
-  all_seen = all_of (λ (p : PassView (InMemory F)). AreSeen p.seats parts) passes (λ p mine.
+  all_seen = all_of (λ (p : PassView S). AreSeen p.seats parts) passes (λ p mine.
       let is = all_at IsPass passes p joined.passes_are mine in
       seen_are p.seats parts (is.wide ∙ sym parts_long) (λ i s part at there.
       let t = made_of i part there in
-      subst (λ (m : List Made). IsPrefix s.seen m) (sym (ap (λ (z : Left F). z.made) t.3.left_is)) (seen_begins passes seats books p i s t.0 joined ends mine at t.2)))
+      subst (λ (m : List Made). IsPrefix s.seen m) (sym t.2) (seen_begins passes seats books p i s t.0 joined ends mine at t.1)))
 
   pub all_own : AllByRecursion (λ pass. filter (λ (entry : Entry). entry.pass == pass.number) (steps_of merge) ≡ map (λ one. one.entry) (own_of pass)) passes
-  all_own = all_of (λ (p : PassView (InMemory F)). filter (λ (entry : Entry). entry.pass == p.number) (steps_of merge) ≡ map (λ one. one.entry) (own_of p)) passes own_is
+  all_own = all_of (λ (p : PassView S). filter (λ (entry : Entry). entry.pass == p.number) (steps_of merge) ≡ map (λ one. one.entry) (own_of p)) passes own_is
+
+  pub all_told : AllByRecursion (λ pass. told_of (filter (λ one. one.step.pass == pass.number) merge) ≡ told_own (own_of pass)) passes
+  all_told = all_of (λ (p : PassView S). told_of (filter (λ (one : Made). one.step.pass == p.number) merge) ≡ told_own (own_of p)) passes told_is
 
   number_below : (n : ℕ) → 1 ≤ times n (map number_of passes) → n < made
   number_below n some = let is = whole.numbers n in grind (arith, nat_tests)
@@ -422,23 +446,52 @@ module _ {F : Type 0} (files : F → Option Files) (faults : F → ℕ) (opened 
       let below = number_below w.0.number (has_times (map number_of passes) w.0.number (has_map number_of passes w.0 w.2)) in
       omega (arith, same, below))
 
+-- what the shards leave is legal, by its openings
+module _ {F : Type 0} (files : F → Option Files) (faults : F → ℕ) (opened oldest : ℕ) (limits : Limits) (books : List (Book (InMemory F))) (parts : List (Left F)) (folders : List F) (merge : List Made)
+    (bases : AreBases opened oldest limits 0 (map as_opened books)) (taken : AreTaken files faults books parts folders) (long : length books ≡ 16) (part_is : (i : ℕ) (part : Left F) → slice_get parts i ≡ Some part → part.made ≡ filter (λ one. shard_of_entry one.step == i) merge) where
+  taken_long : length parts ≡ 16
+  taken_long = made_long books parts (taken_made files faults books parts folders taken) ∙ long
+
+  pub shard_legal : (shard : ℕ) → shard < 16 → Legal (opening_of shard (openings parts)) opened oldest (part_of shard (steps_of merge))
+  shard_legal shard h =
+      let n = taken_long in
+      let part = got parts shard (omega arith) in
+      let t = taken_at files faults books parts folders shard part.0 taken part.1 in
+      let opening : opening_of shard (openings parts) ≡ part.0.opening = openings_at 0 parts shard part.0 shard (omega arith) (homed_all files faults opened oldest limits 0 books parts folders taken bases) part.1 in
+      let history : part_of shard (steps_of merge) ≡ untimed part.0.made =
+      ap (map Step) (filter_map_is (λ (z : Made). z.step) (λ (e : Entry). shard_of_entry e == shard) merge) ∙ ap untimed (sym (part_is shard part.0 part.1)) in
+      let when : t.0.begin.opened ≡ opened = base_opened opened oldest limits 0 books shard t.0 bases t.2 in
+      let begins : t.0.begin.first ≡ oldest = base_first opened oldest limits 0 books shard t.0 bases t.2 in
+      let P : Opening × (ℕ × (ℕ × List Item)) → Type 0 = λ z. Legal z.0 z.1.0 z.1.1.0 z.1.1.1 in
+      let all : (part.0.opening, (t.0.begin.opened, (t.0.begin.first, untimed part.0.made))) ≡ (opening_of shard (openings parts), (opened, (oldest, part_of shard (steps_of merge)))) =
+      λ i. (sym opening i, (when i, (begins i, sym history i))) in
+      subst P all (part_legal files faults t.0 part.0 t.1 t.3)
+
 pub ends_all : {F : Type 0} (files : F → Option Files) (faults : F → ℕ) (host : HostView (InMemory F)) (passes : List (PassView (InMemory F))) (seats : List (Place (InMemory F))) (books : List (Book (InMemory F))) (parts : List (Left F)) (folders : List F) (sorted : List Spot)
     → AreBases host.opened host.first host.limits 0 host.bases → length books ≡ 16 → AllByRecursion (IsPassOf host) passes → IsWhole host.made passes → IsJoinOf passes seats → AreEnds seats books → AreTaken files faults books parts folders
     → IsPermutation (all_spots 0 parts) sorted → IsNonDecreasingBy order_of sorted
     → AreFound parts sorted × Ends files faults host passes (record { opened = host.opened; first = host.first; parts = parts; merge = merge_of parts sorted }) folders
 ends_all files faults host passes seats books parts folders sorted bases long of whole joined ends taken moved up =
     let same : map as_opened books ≡ host.bases = ended_bases seats books host.bases ends (based_on host passes seats of joined.based) in
-    let mine : AreBases host.opened host.first host.limits 0 (map as_opened books) = subst (λ (bs : List (Book _)). AreBases host.opened host.first host.limits 0 bs) (sym same) bases in (
-      spots_found files faults host.opened host.first host.limits host.made passes seats books parts folders sorted whole joined ends mine taken long moved up,
+    let mine : AreBases host.opened host.first host.limits 0 (map as_opened books) = subst (λ (bs : List (Book _)). AreBases host.opened host.first host.limits 0 bs) (sym same) bases in
+    let have = taken_made files faults books parts folders taken in
+    let stand = parts_placed files faults host.opened host.first host.limits 0 books parts folders taken mine in
+    let many : length parts ≡ 16 = made_long books parts have ∙ long in
+    let is = are_sorted parts sorted (omega arith) stand.1 moved up in (
+      sorted_found parts sorted stand.0 is,
       record {
         opened_is = refl;
         first_is = refl;
-        legal = legal_host files faults host.opened host.first host.limits host.made passes seats books parts folders sorted whole joined ends mine taken long moved up;
-        parts = all_parts files faults host.opened host.first host.limits host.made passes seats books parts folders sorted whole joined ends mine taken long moved up;
+        legal = record {
+          ordered = ordered host.made passes seats books parts sorted whole joined ends have long stand.0 stand.1 is;
+          shards = shard_legal files faults host.opened host.first host.limits books parts folders (merge_of parts sorted) mine taken long (part_is host.made passes seats books parts sorted whole joined ends have long stand.0 stand.1 is);
+          passes = pass_rises host.made passes seats books parts sorted whole joined ends have long stand.0 stand.1 is;
+        };
+        parts = all_parts host.made passes seats books parts sorted whole joined ends have long stand.0 stand.1 is;
         ended = subst (λ (bs : List (Book _)). AreEnded files faults host.opened host.first bs parts folders) same (ended_all files faults host.opened host.first host.limits 0 books parts folders taken mine);
-        seen = all_seen files faults host.opened host.first host.limits host.made passes seats books parts folders sorted whole joined ends mine taken long moved up;
-        passes_are = all_made files faults host.opened host.first host.limits host.made passes seats books parts folders sorted whole joined ends mine taken long moved up;
-        own = all_own files faults host.opened host.first host.limits host.made passes seats books parts folders sorted whole joined ends mine taken long moved up;
+        seen = all_seen host.made passes seats books parts sorted whole joined ends have long stand.0 stand.1 is;
+        passes_are = all_made host.made passes seats books parts sorted whole joined ends have long stand.0 stand.1 is;
+        own = all_own host.made passes seats books parts sorted whole joined ends have long stand.0 stand.1 is;
       },
     )
 

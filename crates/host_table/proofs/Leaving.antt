@@ -12,11 +12,14 @@ use Rattle.host_core.specs.Entries.{Made}
 use Rattle.host_core.specs.Opening.{MayKeep}
 use Rattle.host_core.specs.Value.{Book, InMemory, Left}
 use Rattle.host_table.specs.declared.journal.Spot.{Spot}
+use Rattle.host_table.specs.declared.opening.Most.{Most}
+use Rattle.host_table.specs.declared.opening.Most.TheVariants as most
 use Rattle.host_table.specs.Bounds.{AreOpenings, IsKept}
 use Rattle.host_table.specs.Close.{capacity_of, AreTaken}
 use Rattle.host_table.specs.Histories.{as_opened}
 use Rattle.host_table.specs.Journal.{spots_from, all_spots, AreFound}
 use Rattle.host_table.specs.Held.{IsTakenApart, IsWithinCalls}
+use Rattle.host_table.specs.Start.{limits_of}
 use Rattle.host_table.specs.Passes.{HostView, AreByName, AreBases, IsHost}
 use Rattle.host_table.proofs.NewLives.{opening_ordered, opening_kept}
 use Rattle.host_table.proofs.Reading.{merge_length}
@@ -24,6 +27,15 @@ use Rattle.host_table.proofs.Reading.{merge_length}
 spots_long : (shard place : ℕ) (made : List Made) → length (spots_from shard place made) ≡ length made
 spots_long shard place [] = refl
 spots_long shard place (one ∷ made) = let rest = spots_long shard (place + 1) made in omega (arith, rest)
+
+-- shards that take so many calls
+pub calls_kept : (m : Most) (P : ℕ → Type 0) → IsSomeAnd (limits_of m).calls P → (calls : ℕ) × (limits_of m ≡ kept_limits calls) × P calls
+calls_kept (most.Calls calls) P some = (calls, refl, some)
+calls_kept (most.Ids ids) P some = absurd some
+
+pub calls_few : (m : Most) → (limits_of m).ids ≤ 32768 → IfSome (limits_of m).calls (λ calls. calls ≤ 32768)
+calls_few (most.Calls calls) few = few
+calls_few (most.Ids ids) few = tt
 
 -- what a bounded store has taken
 pub within_calls : (calls : Option ℕ) (made most : ℕ) → IsWithinCalls calls made → IsSomeAnd calls (λ n. n < most) → (made ≤ unwrap_or calls 0) × (unwrap_or calls 0 < most)

@@ -9,11 +9,11 @@ use Rattle.host_table.specs.contracts.held.Held as held
 use Rattle.host_table.specs.contracts.pass.Pass as pass
 use Rattle.host_table.specs.contracts.host.Host as host
 
-pub held_send : (F : RattleType) (d e : _) → IsSend F → IsSend (held.the_row F d e)
-held_send F d e f = search (sendable, shard_send) depth 20
+pub held_send : (F : RattleType) (d : _) → IsSend F → IsSend (held.the_row F d)
+held_send F d f = search (sendable, shard_send) depth 20
 
-pub pass_send : (F : RattleType) (d e : _) → IsSend F → IsSend (pass.the_row F d e)
-pass_send F d e f = search (sendable, any.crosses, seat_send, held_send) depth 20
+pub pass_send : (F : RattleType) (d : _) → IsSend F → IsSend (pass.the_row F d)
+pass_send F d f = search (sendable, any.crosses, seat_send, held_send) depth 20
 
-pub host_sync : (F : RattleType) (d e : _) → IsSend F → IsSync (host.the_row F d e)
-host_sync F d e f = search (sendable, any.crosses, lock_sync, held_send) depth 20
+pub host_sync : (F : RattleType) (d : _) → IsSend F → IsSync (host.the_row F d)
+host_sync F d f = search (sendable, any.crosses, lock_sync, held_send) depth 20

@@ -1,5 +1,5 @@
 -- Spots that are sorted, and the entries that stand there.
-use Rattle.std.proofs.Common.{◌≡◌, ◌⊎◌, inl, inr, ℕ, zero, suc, ◌+◌, ◌*◌, ◌≤◌, ◌<◌, ◌==◌, Bool, true, false, if◌then◌else◌, ltb, Option, None, Some, List, [], ◌∷◌, ◌++◌, length, get_or, slice_get, sum_by, refl, ap, sym, subst, ◌∙◌, arith, IsPermutation}
+use Rattle.std.proofs.Common.{◌≡◌, ◌⊎◌, inl, inr, ℕ, zero, suc, ◌+◌, ◌*◌, ◌≤◌, ◌<◌, ◌==◌, Bool, true, false, cond, if◌then◌else◌, ltb, Option, None, Some, List, [], ◌∷◌, ◌++◌, length, get_or, slice_get, sum_by, refl, ap, sym, subst, ◌∙◌, arith, IsPermutation}
 use Rattle.std.proofs.lemmas.Bool.Decides.{nat_tests}
 use Rattle.std.proofs.lemmas.List.Sums.{sum_by-cons}
 use Rattle.std.proofs.lemmas.List.Sorted.{IsPermutation-sym, Contains-permutation, sum_by-IsPermutation}
@@ -81,7 +81,7 @@ module _ {F : Type 0} where
   pub never_twice : (k : ℕ) (parts : List (Left F)) → length parts ≤ 16 → AreRising parts → total (one_if k) (all_spots 0 parts) ≤ 1
   never_twice k parts h r = elim (one_of_all k 0 parts (omega arith) r) as (λ _. total (one_if k) (all_spots 0 parts) ≤ 1) [ inl none ↦ omega (arith, none) | inr one ↦ omega (arith, one.0) ]
 
-abbrev AreStrict : List Spot → Type 0
+abbrev pub AreStrict : List Spot → Type 0
 AreStrict [] = Unit {0}
 AreStrict (s ∷ rest) = AllByRecursion (λ t. order_of s < order_of t) rest × AreStrict rest
 
@@ -207,21 +207,32 @@ good_all all j (part ∷ parts) same placed =
       both_good [] ys a b = b
       both_good (x ∷ xs) ys a b = (a.0, both_good xs ys a.1 b)
 
+-- spots that are those of the shards, in their order
+pub record AreSorted {F : Type 0} (parts : List (Left F)) (sorted : List Spot) : Type 0 where
+  pub strict : AreStrict sorted
+  pub of : (spot : Spot) → Has sorted spot → Has (all_spots 0 parts) spot
+  pub all : (spot : Spot) → Has (all_spots 0 parts) spot → Has sorted spot
+
+-- as a sort leaves them
+pub are_sorted : {F : Type 0} (parts : List (Left F)) (sorted : List Spot) → length parts ≤ 16 → AreRising parts → IsPermutation (all_spots 0 parts) sorted → IsNonDecreasingBy order_of sorted → AreSorted parts sorted
+are_sorted parts sorted few rising moved up = record {
+  strict = strict_of sorted up (λ k. let c = count_permutation k (all_spots 0 parts) sorted moved in let n = never_twice k parts few rising in omega arith);
+  of = λ s h. contained_has (all_spots 0 parts) s (Contains-permutation sorted (all_spots 0 parts) s (IsPermutation-sym (all_spots 0 parts) sorted moved) (has_contained sorted s h));
+  all = λ s h. contained_has sorted s (Contains-permutation (all_spots 0 parts) sorted s moved (has_contained (all_spots 0 parts) s h));
+}
+
 -- the entries at spots that were sorted: they are in order, and just those of the shards
-module _ {F : Type 0} (parts : List (Left F)) (sorted : List Spot) (few : length parts ≤ 16) (rising : AreRising parts) (placed : ArePlaced 0 parts)
-    (moved : IsPermutation (all_spots 0 parts) sorted) (up : IsNonDecreasingBy order_of sorted) where
+module _ {F : Type 0} (parts : List (Left F)) (sorted : List Spot) (placed : ArePlaced 0 parts) (is : AreSorted parts sorted) where
   good_sorted : AllByRecursion (IsGood parts) sorted
   good_sorted =
       let goods = good_all parts 0 parts (λ k. let z : 0 + k ≡ k = omega arith in ap (slice_get parts) z) placed in
-      all_of (IsGood parts) sorted (λ s h. all_at (IsGood parts) (all_spots 0 parts) s goods (contained_has (all_spots 0 parts) s
-      (Contains-permutation sorted (all_spots 0 parts) s (IsPermutation-sym (all_spots 0 parts) sorted moved) (has_contained sorted s h))))
+      all_of (IsGood parts) sorted (λ s h. all_at (IsGood parts) (all_spots 0 parts) s goods (is.of s h))
 
   pub sorted_found : AreFound parts sorted
   sorted_found = good_found parts sorted good_sorted
 
   pub sorted_ordered : IsInOrder (steps_of (merge_of parts sorted))
-  sorted_ordered =
-      merged_ordered parts sorted (strict_of sorted up (λ k. let c = count_permutation k (all_spots 0 parts) sorted moved in let n = never_twice k parts few rising in omega arith)) good_sorted
+  sorted_ordered = merged_ordered parts sorted is.strict good_sorted
 
   pub entry_has : (i : ℕ) (part : Left F) (k : ℕ) (one : Made) → slice_get parts i ≡ Some part → slice_get part.made k ≡ Some one → Has (merge_of parts sorted) one
   entry_has i part k one e f =
@@ -229,8 +240,8 @@ module _ {F : Type 0} (parts : List (Left F)) (sorted : List Spot) (few : length
       let s : Spot = record { stamp = one.step.stamp; shard = i; place = k } in
       let P : ℕ → Type 0 = λ n. Has (all_spots 0 parts) (record { stamp = one.step.stamp; shard = n; place = k }) in
       let there : Has (all_spots 0 parts) s = subst P z (all_have 0 parts i part k one e f) in
-      let is : found parts s ≡ Some one = ap (λ (o : Option (Left F)). made_in o k) e ∙ f in
-      has_merge parts sorted s one good_sorted (contained_has sorted s (Contains-permutation (all_spots 0 parts) sorted s moved (has_contained (all_spots 0 parts) s there))) is
+      let found_is : found parts s ≡ Some one = ap (λ (o : Option (Left F)). made_in o k) e ∙ f in
+      has_merge parts sorted s one good_sorted (is.all s there) found_is
 
   pub has_entry : (one : Made) → Has (merge_of parts sorted) one → (i : ℕ) × (k : ℕ) × (part : Left F) × (slice_get parts i ≡ Some part) × (slice_get part.made k ≡ Some one) × (shard_of_entry one.step ≡ i)
   has_entry one h =
@@ -242,3 +253,80 @@ module _ {F : Type 0} (parts : List (Left F)) (sorted : List Spot) (few : length
         in_part : (o : Option (Left F)) (place : ℕ) (one : Made) → made_in o place ≡ Some one → (part : Left F) × (o ≡ Some part) × (slice_get part.made place ≡ Some one)
         in_part None place one e = absurd (cc e)
         in_part (Some part) place one e = (part, refl, e)
+
+-- into spots in their order
+abbrev put_spot : Spot → List Spot → List Spot
+put_spot s [] = s ∷ []
+put_spot s (x ∷ xs) = if ltb (order_of x) (order_of s) then x ∷ put_spot s xs else s ∷ x ∷ xs
+
+abbrev pub in_order : List Spot → List Spot
+in_order [] = []
+in_order (s ∷ spots) = put_spot s (in_order spots)
+
+spot_put : (s : Spot) (xs : List Spot) (o : Spot) → Has (s ∷ xs) o → Has (put_spot s xs) o
+spot_put s [] o h = h
+spot_put s (x ∷ xs) o h = go (ltb (order_of x) (order_of s)) (λ k. spot_put s xs o k) h where
+  go : (b : Bool) → (Has (s ∷ xs) o → Has (put_spot s xs) o) → Has (s ∷ x ∷ xs) o → Has (cond b (x ∷ put_spot s xs) (s ∷ x ∷ xs)) o
+  go true rec h = elim h as (λ _. Has (x ∷ put_spot s xs) o) [
+    | inl e ↦ inr (rec (inl e))
+    | inr k ↦ elim k as (λ _. Has (x ∷ put_spot s xs) o) [ inl e ↦ inl e | inr l ↦ inr (rec (inr l)) ]
+  ]
+  go false rec h = h
+
+put_from : (s : Spot) (xs : List Spot) (o : Spot) → Has (put_spot s xs) o → Has (s ∷ xs) o
+put_from s [] o h = h
+put_from s (x ∷ xs) o h = go (ltb (order_of x) (order_of s)) (λ k. put_from s xs o k) h where
+  go : (b : Bool) → (Has (put_spot s xs) o → Has (s ∷ xs) o) → Has (cond b (x ∷ put_spot s xs) (s ∷ x ∷ xs)) o → Has (s ∷ x ∷ xs) o
+  go true rec h = elim h as (λ _. Has (s ∷ x ∷ xs) o) [
+    | inl e ↦ inr (inl e)
+    | inr k ↦ elim (rec k) as (λ _. Has (s ∷ x ∷ xs) o) [ inl e ↦ inl e | inr l ↦ inr (inr l) ]
+  ]
+  go false rec h = h
+
+order_has : (xs : List Spot) (o : Spot) → Has xs o → Has (in_order xs) o
+order_has [] o h = h
+order_has (x ∷ xs) o h = spot_put x (in_order xs) o (elim h as (λ _. Has (x ∷ in_order xs) o) [ inl e ↦ inl e | inr k ↦ inr (order_has xs o k) ])
+
+has_order : (xs : List Spot) (o : Spot) → Has (in_order xs) o → Has xs o
+has_order [] o h = h
+has_order (x ∷ xs) o h = elim (put_from x (in_order xs) o h) as (λ _. Has (x ∷ xs) o) [ inl e ↦ inl e | inr k ↦ inr (has_order xs o k) ]
+
+put_counts : (k : ℕ) (s : Spot) (xs : List Spot) → total (one_if k) (put_spot s xs) ≡ one_if k s + total (one_if k) xs
+put_counts k s [] = refl
+put_counts k s (x ∷ xs) = go (ltb (order_of x) (order_of s)) (put_counts k s xs) where
+  go : (b : Bool) → total (one_if k) (put_spot s xs) ≡ one_if k s + total (one_if k) xs → total (one_if k) (cond b (x ∷ put_spot s xs) (s ∷ x ∷ xs)) ≡ one_if k s + (one_if k x + total (one_if k) xs)
+  go true rec = omega (arith, rec)
+  go false rec = refl
+
+order_counts : (k : ℕ) (xs : List Spot) → total (one_if k) (in_order xs) ≡ total (one_if k) xs
+order_counts k [] = refl
+order_counts k (x ∷ xs) = put_counts k x (in_order xs) ∙ ap (λ (n : ℕ). one_if k x + n) (order_counts k xs)
+
+above_put : (n : ℕ) (s : Spot) (xs : List Spot) → n < order_of s → AllByRecursion (λ t. n < order_of t) xs → AllByRecursion (λ t. n < order_of t) (put_spot s xs)
+above_put n s [] h a = (h, tt)
+above_put n s (x ∷ xs) h a = elim (ltb (order_of x) (order_of s)) as (λ b. AllByRecursion (λ t. n < order_of t) (cond b (x ∷ put_spot s xs) (s ∷ x ∷ xs))) [ true ↦ (a.0, above_put n s xs h a.1) | false ↦ (h, a) ]
+
+above_more : (n m : ℕ) (xs : List Spot) → n < m → AllByRecursion (λ t. m < order_of t) xs → AllByRecursion (λ t. n < order_of t) xs
+above_more n m [] h a = tt
+above_more n m (x ∷ xs) h a = (omega (arith, a.0), above_more n m xs h a.1)
+
+put_strict : (s : Spot) (xs : List Spot) → AreStrict xs → total (one_if (order_of s)) xs ≡ 0 → AreStrict (put_spot s xs)
+put_strict s [] a none = (tt, tt)
+put_strict s (x ∷ xs) a none = go (ltb (order_of x) (order_of s)) refl (put_strict s xs a.1 (omega arith)) where
+  differ : one_if (order_of s) x ≡ 0
+  differ = omega (arith, none)
+
+  go : (b : Bool) → ltb (order_of x) (order_of s) ≡ b → AreStrict (put_spot s xs) → AreStrict (cond b (x ∷ put_spot s xs) (s ∷ x ∷ xs))
+  go true e rest = let l : order_of x < order_of s = grind (arith, nat_tests) in (above_put (order_of x) s xs l a.0, rest)
+  go false e rest = let d = differ in let l : order_of s < order_of x = grind (arith, nat_tests) in ((l, above_more (order_of s) (order_of x) xs l a.0), a)
+
+order_strict : (xs : List Spot) → ((k : ℕ) → total (one_if k) xs ≤ 1) → AreStrict (in_order xs)
+order_strict [] once = tt
+order_strict (x ∷ xs) once =
+    let here : one_if (order_of x) x ≡ 1 = grind (arith, nat_tests) in
+    let most = once (order_of x) in let same = order_counts (order_of x) xs in
+    put_strict x (in_order xs) (order_strict xs (λ k. let m = once k in omega arith)) (omega (arith, here, most, same))
+
+-- spots can be put in their order
+pub can_sort : {F : Type 0} (parts : List (Left F)) → length parts ≤ 16 → AreRising parts → AreSorted parts (in_order (all_spots 0 parts))
+can_sort parts few rising = record { strict = order_strict (all_spots 0 parts) (λ k. never_twice k parts few rising); of = has_order (all_spots 0 parts); all = order_has (all_spots 0 parts) }

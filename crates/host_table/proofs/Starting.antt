@@ -1,14 +1,22 @@
 -- Folders that are opened and handed back, one after another.
 use Rattle.std.proofs.Common.{◌≡◌, ℕ, ◌+◌, Option, Some, List, [], ◌∷◌, ◌++◌, map, length, refl, ap, sym, subst, ◌∙◌, append_assoc, arith}
+use Rattle.std.proofs.lemmas.List.{map-append}
 use Rattle.outside.specs.Folder.{Files, Times}
 use Rattle.outside.specs.Faults.{Rose}
 use Rattle.wopi_model.specs.Host.{Limits}
 use Rattle.host_core.specs.declared.opening.StartFault.{StartFault}
 use Rattle.host_core.specs.declared.opening.StartFault.TheVariants as fault
 use Rattle.host_core.specs.Opening.{IsTooLarge, IfTooLarge}
+use Rattle.host_core.specs.Notes.{Notes, LogStart}
 use Rattle.host_core.specs.Value.{Book}
 use Rattle.host_core.proofs.Decisions.{keeps_self}
-use Rattle.host_table.specs.Start.{start_of, AreNew, IsHanded, AreHanded, HaveOpenings, Blames, IsBlamed, IsBegun, AreBegun}
+use Rattle.host_table.specs.Start.{start_of, log_in, AreNew, IsHanded, AreHanded, HaveOpenings, Blames, IsBlamed, IsBegun, AreBegun}
+
+-- one more store has the log that it had
+pub logs_push : {F : Type 0} (notes : F → Notes) (olds news : List F) (old new : F) → map (log_in notes) news ≡ map (log_in notes) olds → (notes new).log ≡ (notes old).log → map (log_in notes) (news ++ new ∷ []) ≡ map (log_in notes) (olds ++ old ∷ [])
+logs_push notes olds news old new same one =
+    let ends : map (log_in notes) news ++ (log_in notes new ∷ []) ≡ map (log_in notes) olds ++ (log_in notes old ∷ []) = λ i. same i ++ (one i ∷ []) in
+    map-append (log_in notes) news (new ∷ []) ∙ (ends ∙ sym (map-append (log_in notes) olds (old ∷ [])))
 
 module _ {F : Type 0} (files : F → Option Files) (faults : F → ℕ) where
   pub handed_push : (olds news : List F) (old new : F) → AreHanded files faults olds news → IsHanded files faults old new → AreHanded files faults (olds ++ old ∷ []) (news ++ new ∷ [])
@@ -85,6 +93,12 @@ module _ {F : Type 0} (files : F → Option Files) (times : F → Option Times) 
         let P : List F × List F → Type 0 = λ z. AreHanded files faults z.0 z.1 in
         let both : (done ++ folder ∷ rest', handed ++ folder' ∷ rest') ≡ (folders, back3) = λ i. (sym all_is i, sym back_is i) in
         subst P both (handed_append files faults done handed (folder ∷ rest') (folder' ∷ rest') done_handed (one, handed_self files faults rest'))
+
+    pub refused_logs : (notes : F → Notes) → map (log_in notes) handed ≡ map (log_in notes) (map start_of shards) → (notes folder').log ≡ (notes folder).log → map (log_in notes) back3 ≡ map (log_in notes) folders
+    refused_logs notes same one =
+        let first : map (log_in notes) handed ≡ map (log_in notes) done = same ∙ ap (map (log_in notes)) (begun_starts opened oldest limits 0 done shards begun) in
+        let all : map (log_in notes) handed ++ (log_in notes folder' ∷ map (log_in notes) rest') ≡ map (log_in notes) done ++ (log_in notes folder ∷ map (log_in notes) rest') = λ i. first i ++ (one i ∷ map (log_in notes) rest') in
+        ap (map (log_in notes)) back_is ∙ (map-append (log_in notes) handed (folder' ∷ rest') ∙ (all ∙ (sym (map-append (log_in notes) done (folder ∷ rest')) ∙ ap (map (log_in notes)) (sym all_is))))
 
     pub refused_blames : (refusal : StartFault) → n ≡ length shards → IfTooLarge refusal (IsTooLarge (Some n) (files folder)) → (refusal ≡ fault.FolderFault → Rose (faults folder) (faults folder')) → IsBlamed files faults folders back3 refusal
     refused_blames refusal number large failed = go refusal large failed where

@@ -1,16 +1,20 @@
 -- How a host ends. (Own.)
 use Rattle.std.specs.Prelude.{◌≡◌, ◌<◌, ⊤, ℕ, ◌+◌, ◌==◌, ◌^◌, List, [], ◌∷◌, ◌++◌, filter, map, Option, None, Some, unwrap_or, slice_get}
-use Rattle.std.specs.List.{AllByRecursion}
+use Rattle.std.specs.List.{AllByRecursion, flat_map}
 use mathlib.Core.List.{IsPrefix}
 use Rattle.turn_lock.specs.Places.{total, AreAllBelow, longer}
 use Rattle.outside.specs.Folder.{Files}
-use Rattle.wopi_model.specs.Begin.{new_life}
-use Rattle.wopi_model.specs.Host.{LegalHost}
+use Rattle.wopi_model.specs.Begin.{Begin, new_life}
+use Rattle.wopi_model.specs.Host.{LegalHost, IsInOrder, part_of, shard_of_entry}
+use Rattle.wopi_model.specs.Shard.{Opening, Entry, LegalFrom, RisesFrom, stamps}
+use Rattle.host_core.specs.Entries.{Made, told_of}
+use Rattle.host_core.specs.Notes.{Notes}
 use Rattle.host_core.specs.Value.{Book, InMemory, Left, IsLawful}
 use Rattle.host_core.specs.Times.{steps_of, last_time, IsTimely}
-use Rattle.host_table.specs.Held.{IsTakenApart}
+use Rattle.host_table.specs.Held.{IsTakenApart, IsGiven}
 use Rattle.host_table.specs.Journal.{JournalView, AreParts, openings}
-use Rattle.host_table.specs.Passes.{Place, PassView, HostView, own_of, base_of, IsPass}
+use Rattle.host_table.specs.Passes.{Place, PassView, HostView, own_of, told_own, base_of, IsPass}
+use Rattle.host_table.specs.Start.{log_in}
 
 module _ {F : Type 0} where
   abbrev pub number_of : PassView F → ℕ
@@ -125,3 +129,68 @@ module _ {F : Type 0} (files : F → Option Files) (faults : F → ℕ) where
     pub seen : AllByRecursion (λ pass. AreSeen pass.seats journal.parts) passes
     pub passes_are : AllByRecursion (λ one. one.step.pass < host.made) journal.merge
     pub own : AllByRecursion (λ pass. filter (λ entry. entry.pass == pass.number) (steps_of journal.merge) ≡ map (λ one. one.entry) (own_of pass)) passes
+
+-- entries that one host may make whose shards began like that
+pub record LegalLives (begins : List Begin) (merge : List Entry) : Type 0 where
+  pub ordered : IsInOrder merge
+  pub shards : (shard : ℕ) (begin : Begin) → slice_get begins shard ≡ Some begin → LegalFrom begin (part_of shard merge)
+  pub passes : (pass : ℕ) → RisesFrom 0 (stamps (filter (λ entry. entry.pass == pass) merge))
+
+module _ {F : Type 0} where
+  abbrev pub begin_of : Book F → Begin
+  begin_of book = book.begin
+
+  -- a shard at its end, with the entries that its store noted
+  abbrev pub noted_book : Book F → List Made → F → Book F
+  noted_book base made store = record base { made = made; time = last_time base.begin.now made; folder = store }
+
+module _ {F : Type 0} (notes : F → Notes) where
+  -- what was seen of each shard begins what its store noted
+  abbrev pub AreSeenIn : {S : Type 0} → List (Place S) → List F → Type 0
+  AreSeenIn [] [] = ⊤
+  AreSeenIn [] (store ∷ stores) = ⊥
+  AreSeenIn (seat ∷ seats) [] = ⊥
+  AreSeenIn (seat ∷ seats) (store ∷ stores) = IsPrefix seat.seen (notes store).made × AreSeenIn seats stores
+
+  -- what each store noted are the entries of the merge that stand in its shard
+  abbrev pub AreNotedParts : List Made → ℕ → List F → Type 0
+  AreNotedParts merge shard [] = ⊤
+  AreNotedParts merge shard (store ∷ stores) = ((notes store).made ≡ filter (λ one. shard_of_entry one.step == shard) merge) × AreNotedParts merge (shard + 1) stores
+
+module _ {F : Type 0} (files : F → Option Files) (faults : F → ℕ) (notes : F → Notes) where
+  -- each shard gave its store
+  abbrev pub AreGiven : List (Book F) → List F → Type 0
+  AreGiven [] [] = ⊤
+  AreGiven [] (store ∷ stores) = ⊥
+  AreGiven (book ∷ books) [] = ⊥
+  AreGiven (book ∷ books) (store ∷ stores) = IsGiven files faults notes book store × AreGiven books stores
+
+  -- A store at the end of the shard that was opened like that. It noted what the shard began with, and entries with which time went on, and none is begun. It is as
+  -- the last step left it: it holds what the entries leave, and its count rose by each store call that failed.
+  pub record IsNoted (base : Book F) (store : F) : Type 0 where
+    pub begin : (notes store).begin ≡ base.begin
+    pub ended : (notes store).begun ≡ None
+    pub timely : IsTimely base.begin.now (notes store).made
+    pub lawful : IsLawful (noted_book base (notes store).made store) (files base.start) (files store) (faults base.start) (faults store)
+
+  abbrev pub AreNoted : List (Book F) → List F → Type 0
+  AreNoted [] [] = ⊤
+  AreNoted [] (store ∷ stores) = ⊥
+  AreNoted (base ∷ bases) [] = ⊥
+  AreNoted (base ∷ bases) (store ∷ stores) = IsNoted base store × AreNoted bases stores
+
+  -- The stores of a host and of all its passes. All that they noted is one list of entries that the host may make, also as one that was opened anew
+  -- where each shard began a new life. It has no entry of another, and a pass was told just those of its own that may be told. The log of each
+  -- store is the one that it was handed in with.
+  pub record Leaves (host : HostView F) (passes : List (PassView F)) (stores : List F) : Type 0 where
+    pub merge : List Made
+    pub legal : LegalLives (map begin_of host.bases) (steps_of merge)
+    pub anew : (stood : List Opening) → map begin_of host.bases ≡ map (λ opening. new_life opening host.opened host.first) stood
+        → LegalHost (flat_map (λ opening. opening) stood) host.opened host.first (steps_of merge)
+    pub parts : AreNotedParts notes merge 0 stores
+    pub noted : AreNoted host.bases stores
+    pub logs : map (log_in notes) stores ≡ map (λ base. (notes base.start).log) host.bases
+    pub seen : AllByRecursion (λ pass. AreSeenIn notes pass.seats stores) passes
+    pub passes_are : AllByRecursion (λ one. one.step.pass < host.made) merge
+    pub own : AllByRecursion (λ pass. filter (λ entry. entry.pass == pass.number) (steps_of merge) ≡ map (λ one. one.entry) (own_of pass)) passes
+    pub told : AllByRecursion (λ pass. told_of (filter (λ one. one.step.pass == pass.number) merge) ≡ told_own (own_of pass)) passes

@@ -11,6 +11,7 @@ use Rattle.host_core.specs.Caller.{entry_of, called_back, IsFullCall, next_stamp
 use Rattle.host_core.specs.Entries.{back_of}
 use Rattle.host_core.specs.Facts.{made_for}
 use Rattle.host_core.specs.LockActs.{is_lock_act}
+use Rattle.host_core.specs.Notes.{Notes, LogStart}
 use Rattle.host_core.specs.Value.{Book, InMemory, Left, IsLawful}
 use Rattle.host_core.specs.Times.{untimed}
 use Rattle.host_table.specs.Editors.{TellsEditor}
@@ -22,12 +23,14 @@ IsWithinCalls None made = ⊤
 IsWithinCalls (Some calls) made = made ≤ calls
 
 -- What each of a host's shards keeps: nobody set its time apart from an entry. Before its first entry the folder holds what it held at the start.
-pub record IsHeld {F : Type 0} (book : Book F) (start now : Option Files) (began count : ℕ) : Type 0 where
+-- The log of its store is the one that the store was handed in with.
+pub record IsHeld {F : Type 0} (book : Book F) (start now : Option Files) (began count : ℕ) (then_log now_log : Option LogStart) : Type 0 where
   pub unticked : book.ticked ≡ false
   pub named : AreNamed book.only book.made
   pub few : IsWithinCalls book.limits.calls (length book.made)
   pub unchanged : book.made ≡ [] → Keeps start now
   pub counts : began ≤ count
+  pub log : now_log ≡ then_log
 
 -- a call that made an entry
 pub record Adds {F : Type 0} (old new : Book F) (call : Call) (pass floor moment : ℕ) (receipt : Receipt) : Type 0 where
@@ -57,5 +60,14 @@ pub record IsTakenApart {F : Type 0} (files : F → Option Files) (faults : F �
   pub left_is : left ≡ record { opening = book.folder.opening; dates = book.dates; made = book.made; start = book.start.folder }
   pub folder_is : folder ≡ book.folder.folder
   pub begin_is : book.begin ≡ new_life book.folder.opening book.begin.opened book.begin.first
-  pub held : IsHeld book (files book.start.folder) (files book.folder.folder) (faults book.start.folder) (faults book.folder.folder)
+  pub held : IsHeld book (files book.start.folder) (files book.folder.folder) (faults book.start.folder) (faults book.folder.folder) book.start.notes.log book.folder.notes.log
   pub lawful : IsLawful book (files book.start.folder) (files book.folder.folder) (faults book.start.folder) (faults book.folder.folder)
+
+-- the store of a shard as the last step left it, and what it noted
+pub record IsGiven {F : Type 0} (files : F → Option Files) (faults : F → ℕ) (notes : F → Notes) (book : Book F) (store : F) : Type 0 where
+  pub is : store ≡ book.folder
+  pub begin : (notes store).begin ≡ book.begin
+  pub made : (notes store).made ≡ book.made
+  pub ended : (notes store).begun ≡ None
+  pub held : IsHeld book (files book.start) (files book.folder) (faults book.start) (faults book.folder) (notes book.start).log (notes book.folder).log
+  pub lawful : IsLawful book (files book.start) (files book.folder) (faults book.start) (faults book.folder)

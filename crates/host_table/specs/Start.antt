@@ -1,5 +1,5 @@
 -- What a host begins with, and what is handed back where it doesn't begin. (Own.)
-use Rattle.std.specs.Prelude.{◌≡◌, ⊤, ℕ, ◌+◌, ◌≤◌, ◌^◌, false, Option, Some, List, [], ◌∷◌, ◌++◌, length, map}
+use Rattle.std.specs.Prelude.{◌≡◌, ⊤, ℕ, ◌+◌, ◌≤◌, ◌^◌, false, Option, None, Some, List, [], ◌∷◌, ◌++◌, length, map}
 use Rattle.std.specs.List.{AllByRecursion}
 use Rattle.atomic_table.specs.Seated.{TableId}
 use Rattle.turn_lock.specs.Seats.{first_seat}
@@ -10,9 +10,21 @@ use Rattle.wopi_model.specs.Host.{Limits, kept_limits}
 use Rattle.wopi_model.specs.Shard.{Opening}
 use Rattle.host_core.specs.declared.opening.StartFault.{StartFault}
 use Rattle.host_core.specs.declared.opening.StartFault.TheVariants as fault
+use Rattle.host_core.specs.Notes.{Notes, LogStart}
 use Rattle.host_core.specs.Opening.{AreDatesOf, IsOpening, Fits, IsTooLarge, IfTooLarge}
 use Rattle.host_core.specs.Value.{Book, InMemory}
+use Rattle.host_table.specs.declared.opening.Most.{Most}
+use Rattle.host_table.specs.declared.opening.Most.TheVariants as most
 use Rattle.host_table.specs.Passes.{Place, HostView, PassView, IsPassOf, top}
+
+-- when a shard is full that has room for that
+abbrev pub limits_of : Most → Limits
+limits_of (most.Calls calls) = kept_limits calls
+limits_of (most.Ids ids) = record { calls = None; ids = ids }
+
+-- the log that a store's entries stand in, as it was taken into use
+abbrev pub log_in : {F : Type 0} → (F → Notes) → F → Option LogStart
+log_in notes store = (notes store).log
 
 module _ {F : Type 0} where
   -- the first seats of locks over shards that were opened like that
@@ -94,14 +106,18 @@ module _ {F : Type 0} (files : F → Option Files) (times : F → Option Times) 
   AreBegun opened first limits number (folder ∷ folders) (base ∷ bases) = IsBegun opened first limits number folder base × AreBegun opened first limits (number + 1) folders bases
 
   -- a host over these folders, and its first pass
-  pub record Starts (folders : List F) (capacity opened first : ℕ) (host : HostView F) (pass : PassView F) : Type 0 where
-    pub bases : AreBegun opened first (kept_limits capacity) 0 folders host.bases
+  pub record StartsWithin (folders : List F) (limits : Limits) (opened first : ℕ) (host : HostView F) (pass : PassView F) : Type 0 where
+    pub bases : AreBegun opened first limits 0 folders host.bases
     pub opened_is : host.opened ≡ opened
     pub first_is : host.first ≡ first
-    pub limits_is : host.limits ≡ kept_limits capacity
+    pub limits_is : host.limits ≡ limits
     pub made : host.made ≡ 1
     pub pass_is : pass ≡ first_pass host
     pub of_host : IsPassOf host pass
+
+  -- one whose shards take so many calls
+  abbrev pub Starts : List F → ℕ → ℕ → ℕ → HostView F → PassView F → Type 0
+  Starts folders capacity opened first host pass = StartsWithin folders (kept_limits capacity) opened first host pass
 
 module _ {F : Type 0} (files : F → Option Files) (times : F → Option Times) (faults : F → ℕ) where
   -- a host over stores in memory over these folders, and its first pass

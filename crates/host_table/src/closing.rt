@@ -3,7 +3,7 @@ ghost use Rattle.std.specs.Prelude.{◌≡◌, ◌+◌, ◌<◌, ◌*◌, ◌≤
 ghost use Rattle.std.specs.List.{AllByRecursion};
 ghost use Rattle.turn_lock.specs.Places.{total};
 ghost use Rattle.host_table.specs.Passes.{lock_of, locks_of, IsPassOf};
-ghost use Rattle.host_table.specs.Close.{capacity_of, AreJoined, AreFree, IsJoinOf, AreTaken, IsWhole, Ends};
+ghost use Rattle.host_table.specs.Close.{capacity_of, AreJoined, AreFree, IsJoinOf, AreGiven, AreTaken, IsWhole, Ends, Leaves};
 ghost use Rattle.host_table.specs.Journal.{spots_from, all_spots};
 
 use crate::held::Held;
@@ -106,6 +106,39 @@ pub(crate) fn take_apart<F: Folder>(
         pasts.push_reserved(past);
         number += 1;
     }
+}
+
+/// Takes the store of each shard.
+fn take_stores<F: Store>(shards: Vec<Held<F>>, stores: &mut Vec<F>)
+    requires room { (stores.old.items ≡ []) × (vec_len shards ≤ vec_capacity stores.old) }
+    ensures given { AreGiven F.files F.faults F.notes shards.items stores.new.items }
+{
+    let mut rest = shards.into_iter();
+    while let Some(held) = rest.next() {
+        stores.push_reserved(held.into_store());
+    }
+}
+
+/// Ends a host by all its passes, in room for its shards and for their stores.
+pub(crate) fn end_stores<F: Store>(
+    host: Host<F>,
+    passes: Vec<Pass<F>>,
+    shards: Vec<Held<F>>,
+    stores: Vec<F>,
+) -> Vec<F>
+    requires of_host { AllByRecursion (IsPassOf host) passes.items }
+    requires whole { IsWhole host.made passes.items }
+    requires shards { (shards.items ≡ []) × (16 ≤ vec_capacity shards) }
+    requires stores { (stores.items ≡ []) × (16 ≤ vec_capacity stores) }
+    ensures { Leaves F.files F.faults F.notes host passes.items result.items }
+{
+    let mut shards = shards;
+    let mut stores = stores;
+    let Host { locks, .. } = host;
+    let seats = join_all(&locks, passes);
+    close_all(locks, seats, &mut shards);
+    take_stores(shards, &mut stores);
+    stores
 }
 
 /// The memory that ending a host takes, all of it before anything ends.

@@ -1,5 +1,5 @@
 //! A shard as it lies under its lock.
-ghost use Rattle.std.specs.Prelude.{◌≡◌, ◌≤◌, ◌<◌, Some, [], false, true, ◌↔◌, map, IfOk, IfErr, IsTrue, not};
+ghost use Rattle.std.specs.Prelude.{◌≡◌, ◌≤◌, ◌<◌, None, Some, [], false, true, ◌↔◌, map, IfOk, IfErr, IsTrue, not};
 ghost use Rattle.outside.specs.Faults.{Rose};
 ghost use Rattle.outside.specs.Folder.{Keeps};
 ghost use Rattle.wopi_model.specs.Begin.{new_life};
@@ -13,8 +13,10 @@ ghost use Rattle.host_core.specs.Opening.{AreDatesOf, IsFirstVersion, IsOpening,
 ghost use Rattle.host_core.specs.Times.{untimed};
 ghost use Rattle.wopi_text.specs.FileName.{shard_of};
 ghost use Rattle.host_table.specs.Histories.{last_stamp, as_opened, IsSeen};
-ghost use Rattle.host_table.specs.Held.{Adds, AddsForEditor, Declines, IsTakenApart};
+ghost use Rattle.host_table.specs.Start.{limits_of};
+ghost use Rattle.host_table.specs.Held.{Adds, AddsForEditor, Declines, IsGiven, IsTakenApart};
 
+use crate::opening::Most;
 use host_core::{
     CallFault, EditorReceipt, Kept, Listing, Past, Receipt, Shard, StartFault, StepFault, Store,
     leave,
@@ -41,7 +43,7 @@ impl<F: Store> Model for Held<F> {
 
     ghost view = { λ held. held.shard };
 
-    ghost invariant = { λ held. IsHeld held.shard (F.files held.shard.start) (F.files held.shard.folder) (F.faults held.shard.start) (F.faults held.shard.folder) };
+    ghost invariant = { λ held. IsHeld held.shard (F.files held.shard.start) (F.files held.shard.folder) (F.faults held.shard.start) (F.faults held.shard.folder) (F.notes held.shard.start).log (F.notes held.shard.folder).log };
 }
 
 impl<F: Store> Grown for Held<F> {
@@ -92,11 +94,105 @@ impl<F: Store> Held<F> {
         ensures too_large { IfErr result (λ refused. IfTooLarge refused.1 (IsTooLarge (Some number) (F.files folder))) }
         ensures failed { IfErr result (λ refused. refused.1 ≡ StartFault.FolderFault → Rose (F.faults folder) (F.faults refused.0)) }
         ensures handed { IfErr result (λ refused. Keeps (F.files folder) (F.files refused.0)) }
+        ensures handed_log { IfErr result (λ refused. (F.notes refused.0).log ≡ (F.notes folder).log) }
         ensures counts { IfErr result (λ refused. F.faults folder ≤ F.faults refused.0) }
     {
         match Shard::start(alloc, folder, Some(number), capacity, opened, first) {
             Ok(shard) => return Ok(Held { shard }),
             Err(refused) => return Err(refused),
+        }
+    }
+
+    /// The same over a store that takes any number of entries. So does the shard of calls, and it has places for so many held locks
+    /// and ids that are refused.
+    pub fn start_endless(
+        alloc: Global,
+        folder: F,
+        number: u8,
+        ids: u32,
+        opened: u64,
+        first: u64,
+    ) -> Result<Held<F>, (F, StartFault)>
+        requires endless { F.endless ≡ true }
+        requires ids { (1 ≤ ids) × (ids ≤ 32768) }
+        requires number { number < 16 }
+        requires opened { IsMoment opened }
+        requires first { IsFirstVersion first }
+        ensures opened { IfOk result (λ held. held ≡ record {
+          only = Some number;
+          begin = held.begin;
+          limits = record { calls = None; ids = ids };
+          dates = held.dates;
+          made = [];
+          time = opened;
+          ticked = false;
+          start = folder;
+          folder = held.folder;
+        }) }
+        ensures opening { IfOk result (λ held. (opening : Opening) × (held.begin ≡ new_life opening opened first) × IsOpening (Some number) (F.files folder) opening × Fits opening) }
+        ensures dates { IfOk result (λ held. map (λ one. one.0) held.dates ≡ map (λ one. one.0) held.begin.files) }
+        ensures told { IfOk result (λ held. AreDatesOf (F.times folder) held.dates) }
+        ensures same { IfOk result (λ held. Keeps (F.files folder) (F.files held.folder)) }
+        ensures never_falls { IfOk result (λ held. F.faults folder ≤ F.faults held.folder) }
+        ensures too_large { IfErr result (λ refused. IfTooLarge refused.1 (IsTooLarge (Some number) (F.files folder))) }
+        ensures failed { IfErr result (λ refused. refused.1 ≡ StartFault.FolderFault → Rose (F.faults folder) (F.faults refused.0)) }
+        ensures handed { IfErr result (λ refused. Keeps (F.files folder) (F.files refused.0)) }
+        ensures handed_log { IfErr result (λ refused. (F.notes refused.0).log ≡ (F.notes folder).log) }
+        ensures counts { IfErr result (λ refused. F.faults folder ≤ F.faults refused.0) }
+    {
+        match Shard::start_endless(alloc, folder, Some(number), ids, opened, first) {
+            Ok(shard) => return Ok(Held { shard }),
+            Err(refused) => return Err(refused),
+        }
+    }
+
+    /// Either of both.
+    pub fn open(
+        alloc: Global,
+        folder: F,
+        number: u8,
+        most: Most,
+        opened: u64,
+        first: u64,
+    ) -> Result<Held<F>, (F, StartFault)>
+        requires endless { (limits_of most).calls ≡ None → F.endless ≡ true }
+        requires most { (1 ≤ (limits_of most).ids) × ((limits_of most).ids ≤ 32768) }
+        requires number { number < 16 }
+        requires opened { IsMoment opened }
+        requires first { IsFirstVersion first }
+        ensures opened { IfOk result (λ held. held ≡ record {
+          only = Some number;
+          begin = held.begin;
+          limits = limits_of most;
+          dates = held.dates;
+          made = [];
+          time = opened;
+          ticked = false;
+          start = folder;
+          folder = held.folder;
+        }) }
+        ensures opening { IfOk result (λ held. (opening : Opening) × (held.begin ≡ new_life opening opened first) × IsOpening (Some number) (F.files folder) opening × Fits opening) }
+        ensures dates { IfOk result (λ held. map (λ one. one.0) held.dates ≡ map (λ one. one.0) held.begin.files) }
+        ensures told { IfOk result (λ held. AreDatesOf (F.times folder) held.dates) }
+        ensures same { IfOk result (λ held. Keeps (F.files folder) (F.files held.folder)) }
+        ensures never_falls { IfOk result (λ held. F.faults folder ≤ F.faults held.folder) }
+        ensures too_large { IfErr result (λ refused. IfTooLarge refused.1 (IsTooLarge (Some number) (F.files folder))) }
+        ensures failed { IfErr result (λ refused. refused.1 ≡ StartFault.FolderFault → Rose (F.faults folder) (F.faults refused.0)) }
+        ensures handed { IfErr result (λ refused. Keeps (F.files folder) (F.files refused.0)) }
+        ensures handed_log { IfErr result (λ refused. (F.notes refused.0).log ≡ (F.notes folder).log) }
+        ensures counts { IfErr result (λ refused. F.faults folder ≤ F.faults refused.0) }
+    {
+        match most {
+            Most::Calls(capacity) => match Held::start(
+                alloc, folder, number, capacity, opened, first,
+            ) {
+                Ok(held) => return Ok(held),
+                Err(refused) => return Err(refused),
+            },
+            Most::Ids(ids) => match Held::start_endless(alloc, folder, number, ids, opened, first) {
+                Ok(held) => return Ok(held),
+                Err(refused) => return Err(refused),
+            },
         }
     }
 
@@ -211,6 +307,7 @@ impl<F: Store> Held<F> {
         ensures same { result.now ≡ self.now.folder }
         ensures begin { (F.notes self.now.folder).begin ≡ self.now.begin }
         ensures made { (F.notes self.now.folder).made ≡ self.now.made }
+        ensures ended { (F.notes self.now.folder).begun ≡ None }
     {
         self.shard.store()
     }
@@ -222,11 +319,21 @@ impl<F: Store> Held<F> {
         self.shard.last()
     }
 
+    /// The store as the last step left it. It needs no memory.
+    pub fn into_store(self) -> F
+        ensures given { IsGiven F.files F.faults F.notes self result }
+    {
+        let Held { shard } = self;
+        let (store, _start) = shard.end();
+        store
+    }
+
     /// The folder of a shard that made no entry.
     pub fn folder(self) -> F
         requires { self.made ≡ [] }
         ensures same { Keeps (F.files self.start) (F.files result) }
         ensures counts { F.faults self.start ≤ F.faults result }
+        ensures log { (F.notes result).log ≡ (F.notes self.start).log }
     {
         let Held { shard } = self;
         let (folder, _) = shard.end();

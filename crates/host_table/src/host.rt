@@ -12,16 +12,16 @@ ghost use Rattle.host_core.specs.Listing.{IsListing, Lists, LooksAt};
 ghost use Rattle.host_core.specs.Times.{untimed};
 ghost use Rattle.host_table.specs.Histories.{as_opened, IsSeen};
 ghost use Rattle.host_table.specs.Passes.{locks_of, own_of, last_seen, top, sight_of, kept_pass, given_pass, IsPassOf, IsSamePass, HasSeen, AreBases};
-ghost use Rattle.host_table.specs.Start.{first_seats, first_pass, AreHanded, IsBlamed, Starts, StartsKept};
-ghost use Rattle.host_table.specs.Close.{IsWhole, Ends};
+ghost use Rattle.host_table.specs.Start.{limits_of, log_in, first_seats, first_pass, AreHanded, IsBlamed, Starts, StartsWithin, StartsKept};
+ghost use Rattle.host_table.specs.Close.{IsWhole, Ends, Leaves};
 ghost use Rattle.host_table.specs.Calls.{Calls, CallsForEditor, Glances, Looks, AreNotesOf, AreSeenAt};
 
-use crate::closing::end_host;
+use crate::closing::{end_host, end_stores};
 use crate::held::Held;
 use crate::journal::Journal;
-use crate::opening::{hand_back, lock_all, open_all};
+use crate::opening::{Most, hand_back, lock_all, open_all};
 use crate::pass::Pass;
-use crate::rooms::{CloseRoom, SplitRoom};
+use crate::rooms::{CloseRoom, EndRoom, SplitRoom};
 use crate::rows::split_all;
 use crate::stores::{free_all, keep_all};
 use crate::whole::{are_numbered, weigh_whole};
@@ -48,7 +48,7 @@ pub struct Host<F: Store> {
     pub(crate) opened: u64,
     /// The version of the files that stood there at the opening.
     pub(crate) first: u64,
-    pub(crate) capacity: u32,
+    pub(crate) most: Most,
     pub(crate) made: u32,
 }
 
@@ -57,12 +57,13 @@ impl<F: Store> Model for Host<F> {
 
     ghost Value = { HostView F };
 
+    ghost use Rattle.std.specs.Prelude.{◌≡◌, None, true};
     ghost use Rattle.host_table.specs.Views.{host_of};
     ghost use Rattle.host_table.specs.Passes.{IsHost};
 
     ghost view = { host_of };
 
-    ghost invariant = { λ host. IsHost (host_of host) };
+    ghost invariant = { λ host. IsHost (host_of host) × ((host_of host).limits.calls ≡ None → F.endless ≡ true) };
 }
 
 /// Why a host wasn't closed.
@@ -133,26 +134,28 @@ fn turn_for_editor<F: Store, R: Wait>(
     (answer, store)
 }
 
-/// A listing in the shard's turn. `last` is the pass's last stamp.
+/// A listing in the shard's turn, and whether it may be told. `last` is the pass's last stamp.
 fn list_in_turn<F: Store, R: Wait>(
     rt: &R,
     lock: &TurnLock<Held<F>>,
     seat: &mut Seat<Held<F>>,
     number: u8,
     last: &mut u64,
-) -> Result<Listing, Memory>
+) -> (Result<Listing, Memory>, bool)
     requires lock { seat.old.lock ≡ lock.now }
     requires free { seat.old.taken ≡ None }
     ensures last { last.new ≡ max last.old (last_seen seat.new) }
     ensures seen { IsSomeAnd seat.old.base (λ base. IsSeen base seat.new.seen) }
     ensures glances { Glances seat.old seat.new }
-    ensures shows { IfOk result (λ listing. IsSomeAnd seat.old.base (λ base. IsListing number base.begin (untimed seat.new.seen) listing)) }
+    ensures shows { IfOk result.0 (λ listing. IsSomeAnd seat.old.base (λ base. IsListing number base.begin (untimed seat.new.seen) listing)) }
+    ensures told { (store : F) × AreSeenAt (F.notes store) seat.new × (result.1 ≡ not (F.lost store)) }
 {
     let held = lock.take(rt, seat);
     let answer = held.list(number);
+    let told = !held.store().is_lost();
     *last = held.last().max(*last);
     lock.give_back(seat, held);
-    answer
+    (answer, told)
 }
 
 /// Whether the shard is nearly full, in its turn. `last` is the pass's last stamp.
@@ -183,18 +186,19 @@ fn begin<F: Store>(
     seats: Vec<Seat<Held<F>>>,
     shards: Snapshot<Vec<Held<F>>>,
     last: u64,
-    capacity: u32,
+    most: Most,
     opened: u64,
     first: u64,
 ) -> (Host<F>, Pass<F>)
     requires seats { seats.items ≡ first_seats locks.items (map as_opened shards.value.items) }
     requires many { (length locks.items ≡ 16) × (length shards.value.items ≡ 16) }
-    requires small { capacity ≤ 32768 }
+    requires endless { (limits_of most).calls ≡ None → F.endless ≡ true }
+    requires small { (limits_of most).ids ≤ 32768 }
     requires opened { IsMoment opened }
     requires first { IsFirstVersion first }
     requires last { last ≡ top (first_seats locks.items (map as_opened shards.value.items)) }
-    requires bases { AreBases opened first (kept_limits capacity) 0 (map as_opened shards.value.items) }
-    ensures host { result.0 ≡ record { locks = locks.items; bases = map as_opened shards.value.items; opened = opened; first = first; limits = kept_limits capacity; made = 1 } }
+    requires bases { AreBases opened first (limits_of most) 0 (map as_opened shards.value.items) }
+    ensures host { result.0 ≡ record { locks = locks.items; bases = map as_opened shards.value.items; opened = opened; first = first; limits = limits_of most; made = 1 } }
     ensures pass { result.1 ≡ first_pass result.0 }
     ensures of_host { IsPassOf result.0 result.1 }
 {
@@ -204,7 +208,7 @@ fn begin<F: Store>(
         weight: 1 << 62,
         opened: Snapshot::of(&opened),
         first: Snapshot::of(&first),
-        capacity: Snapshot::of(&capacity),
+        most: Snapshot::of(&most),
         seats,
     };
     let host = Host {
@@ -213,7 +217,7 @@ fn begin<F: Store>(
         shards,
         opened,
         first,
-        capacity,
+        most,
         made: 1,
     };
     (host, pass)
@@ -238,10 +242,59 @@ impl<F: Store> Host<F> {
         ensures handed { IfErr result (λ refused. AreHanded F.files F.faults folders.items refused.0.items) }
         ensures blamed { IfErr result (λ refused. IsBlamed F.files F.faults folders.items refused.0.items refused.1) }
     {
+        match Host::open(alloc, folders, Most::Calls(capacity), opened, first) {
+            Ok(begun) => return Ok(begun),
+            Err(refused) => return Err(refused),
+        }
+    }
+
+    /// The same over stores that take any number of entries. So do the shards of calls, and each has places for so many held
+    /// locks and ids that are refused.
+    pub fn start_endless(
+        alloc: Global,
+        folders: Vec<F>,
+        ids: u32,
+        opened: u64,
+        first: u64,
+    ) -> Result<(Host<F>, Pass<F>), (Vec<F>, StartFault)>
+        requires endless { F.endless ≡ true }
+        requires ids { (1 ≤ ids) × (ids ≤ 32768) }
+        requires folders { length folders.items ≡ 16 }
+        requires opened { IsMoment opened }
+        requires first { IsFirstVersion first }
+        ensures starts { IfOk result (λ begun. StartsWithin F.files F.times F.faults folders.items (record { calls = None; ids = ids }) opened first begun.0 begun.1) }
+        ensures handed { IfErr result (λ refused. AreHanded F.files F.faults folders.items refused.0.items) }
+        ensures blamed { IfErr result (λ refused. IsBlamed F.files F.faults folders.items refused.0.items refused.1) }
+        ensures logs { IfErr result (λ refused. map (log_in F.notes) refused.0.items ≡ map (log_in F.notes) folders.items) }
+    {
+        match Host::open(alloc, folders, Most::Ids(ids), opened, first) {
+            Ok(begun) => return Ok(begun),
+            Err(refused) => return Err(refused),
+        }
+    }
+
+    /// Either of both.
+    fn open(
+        alloc: Global,
+        folders: Vec<F>,
+        most: Most,
+        opened: u64,
+        first: u64,
+    ) -> Result<(Host<F>, Pass<F>), (Vec<F>, StartFault)>
+        requires endless { (limits_of most).calls ≡ None → F.endless ≡ true }
+        requires most { (1 ≤ (limits_of most).ids) × ((limits_of most).ids ≤ 32768) }
+        requires folders { length folders.items ≡ 16 }
+        requires opened { IsMoment opened }
+        requires first { IsFirstVersion first }
+        ensures starts { IfOk result (λ begun. StartsWithin F.files F.times F.faults folders.items (limits_of most) opened first begun.0 begun.1) }
+        ensures handed { IfErr result (λ refused. AreHanded F.files F.faults folders.items refused.0.items) }
+        ensures blamed { IfErr result (λ refused. IsBlamed F.files F.faults folders.items refused.0.items refused.1) }
+        ensures logs { IfErr result (λ refused. map (log_in F.notes) refused.0.items ≡ map (log_in F.notes) folders.items) }
+    {
         let Ok(mut back) = Vec::with_capacity(alloc, SHARDS) else {
             return Err((folders, StartFault::Memory));
         };
-        match open_all(alloc, folders, &mut back, capacity, opened, first) {
+        match open_all(alloc, folders, &mut back, most, opened, first) {
             Err(fault) => return Err((back, fault)),
             Ok(shards) => {
                 let about = Snapshot::of(&shards);
@@ -251,7 +304,7 @@ impl<F: Store> Host<F> {
                         return Err((back, StartFault::Memory));
                     }
                     Ok((locks, seats)) => {
-                        return Ok(begin(alloc, locks, seats, about, 0, capacity, opened, first));
+                        return Ok(begin(alloc, locks, seats, about, 0, most, opened, first));
                     }
                 }
             }
@@ -305,7 +358,7 @@ impl<F: Store> Host<F> {
             weight: half,
             opened: Snapshot::of(&self.opened),
             first: Snapshot::of(&self.first),
-            capacity: Snapshot::of(&self.capacity),
+            most: Snapshot::of(&self.most),
             seats,
         }
     }
@@ -439,11 +492,19 @@ impl<F: Store> Host<F> {
     }
 
     /// The files of a shard that exist, in a turn that the pass waits for. No entry is made. The pass has then seen what
-    /// the shard's history was, also where there is no memory for the files.
-    pub fn look<R: Wait>(&self, rt: &R, pass: &mut Pass<F>, shard: u8) -> Result<Listing, Memory>
+    /// the shard's history was, also where there is no memory for the files. It also tells whether they may be told: the shard's
+    /// store is not lost.
+    pub fn look<R: Wait>(
+        &self,
+        rt: &R,
+        pass: &mut Pass<F>,
+        shard: u8,
+    ) -> (Result<Listing, Memory>, bool)
         requires host { locks_of pass.old ≡ self.now.locks }
         requires shard { shard < 16 }
-        ensures listed { IfOk result (Lists (sight_of pass.new) shard) }
+        ensures listed { IfOk result.0 (Lists (sight_of pass.new) shard) }
+        ensures told { (store : F) × AreNotesOf (sight_of pass.new) shard (F.notes store) × (result.1 ≡ not (F.lost store)) }
+        ensures loses { result.1 ≡ false → F.loses ≡ true }
         ensures looks { LooksAt (sight_of pass.old) (sight_of pass.new) shard }
         ensures own { own_of pass.new ≡ own_of pass.old }
         ensures same { IsSamePass pass.old pass.new }
@@ -482,6 +543,29 @@ impl<F: Store> Host<F> {
         }
         weigh_whole(passes)
     }
+
+    /// Ends the host by all its passes: gives the stores in the order of the shards, as the last steps left them. All
+    /// that they have noted is one history. Where there is no memory, all is handed back as it was.
+    pub fn end(self, passes: Vec<Pass<F>>) -> Result<Vec<F>, CloseFault<F>>
+        requires of_host { AllByRecursion (IsPassOf self) passes.items }
+        requires whole { IsWhole self.made passes.items }
+        ensures ends { IfOk result (λ stores. Leaves F.files F.faults F.notes self passes.items stores.items) }
+        ensures memory { IfErr result (λ fault. fault ≡ CloseFault.Memory self passes) }
+    {
+        match EndRoom::new(self.alloc) {
+            Err(Memory) => return Err(CloseFault::Memory(self, passes)),
+            Ok(room) => return Ok(self.end_into(passes, room)),
+        }
+    }
+
+    /// The same in room that was taken ahead, so that it wants no memory.
+    pub fn end_into(self, passes: Vec<Pass<F>>, room: EndRoom<F>) -> Vec<F>
+        requires of_host { AllByRecursion (IsPassOf self) passes.items }
+        requires whole { IsWhole self.made passes.items }
+        ensures { Leaves F.files F.faults F.notes self passes.items result.items }
+    {
+        end_stores(self, passes, room.shards, room.stores)
+    }
 }
 
 impl<F: Folder> Host<Kept<F>> {
@@ -516,6 +600,16 @@ impl<F: Folder> Host<Kept<F>> {
         }
     }
 
+    /// How many calls each shard takes.
+    fn capacity(&self) -> u32
+        ensures { self.now.limits ≡ kept_limits result }
+    {
+        match self.most {
+            Most::Calls(capacity) => return capacity,
+            Most::Ids(_) => unreachable!(),
+        }
+    }
+
     /// Ends the host by all its passes: gives its journal, and the folders in the order of the shards, as the last
     /// steps left them. Where there is no memory, all is handed back as it was.
     pub fn close(
@@ -527,7 +621,8 @@ impl<F: Folder> Host<Kept<F>> {
         ensures ends { IfOk result (λ ended. Ends F.files F.faults self passes.items ended.0 ended.1.items) }
         ensures memory { IfErr result (λ fault. fault ≡ CloseFault.Memory self passes) }
     {
-        match CloseRoom::new(self.alloc, self.capacity) {
+        let capacity = self.capacity();
+        match CloseRoom::new(self.alloc, capacity) {
             Err(Memory) => return Err(CloseFault::Memory(self, passes)),
             Ok(room) => return Ok(self.close_into(passes, room)),
         }

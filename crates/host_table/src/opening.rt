@@ -1,11 +1,10 @@
 //! How a host begins: a shard over each folder, and a lock round each shard.
-ghost use Rattle.std.specs.Prelude.{◌≡◌, ◌+◌, ◌≤◌, [], ◌++◌, List, map, length, vec_len, vec_capacity, IfOk, IfErr, OnOk};
+ghost use Rattle.std.specs.Prelude.{◌≡◌, ◌+◌, ◌≤◌, [], ◌++◌, List, None, true, map, length, vec_len, vec_capacity, IfOk, IfErr, OnOk};
 ghost use Rattle.std.specs.Vec.Iter.{into_iter_items, into_iter_len};
-ghost use Rattle.wopi_model.specs.Host.{kept_limits};
 ghost use Rattle.wopi_model.specs.Moment.{IsMoment};
 ghost use Rattle.host_core.specs.Opening.{IsFirstVersion};
 ghost use Rattle.host_table.specs.Histories.{as_opened};
-ghost use Rattle.host_table.specs.Start.{first_seats, start_of, AreNew, AreHanded, IsBlamed, AreBegun};
+ghost use Rattle.host_table.specs.Start.{limits_of, first_seats, start_of, log_in, AreNew, AreHanded, IsBlamed, AreBegun};
 
 use crate::held::Held;
 use crate::host::SHARDS;
@@ -14,6 +13,15 @@ use host_core::{StartFault, Store};
 use std::alloc::Global;
 use std::vec::IntoIter;
 use turn_lock::{NewFault, Seat, TurnLock};
+
+/// What a host's shards have room for.
+#[derive(Clone, Copy)]
+pub(crate) enum Most {
+    /// So many calls each.
+    Calls(u32),
+    /// Any number of calls, and so many held locks and ids that are refused.
+    Ids(u32),
+}
 
 /// Moves the rest behind what is there.
 fn move_all<T: Drop>(mut rest: IntoIter<T, Global>, into: &mut Vec<T>)
@@ -30,7 +38,7 @@ fn move_all<T: Drop>(mut rest: IntoIter<T, Global>, into: &mut Vec<T>)
 pub(crate) fn hand_back<F: Store>(shards: Vec<Held<F>>, back: &mut Vec<F>)
     requires new { AreNew shards.items }
     requires room { vec_len back.old + vec_len shards ≤ vec_capacity back.old }
-    ensures handed { (handed : List F) × (back.new.items ≡ back.old.items ++ handed) × AreHanded F.files F.faults (map start_of shards.items) handed }
+    ensures handed { (handed : List F) × (back.new.items ≡ back.old.items ++ handed) × AreHanded F.files F.faults (map start_of shards.items) handed × (map (log_in F.notes) handed ≡ map (log_in F.notes) (map start_of shards.items)) }
     ensures capacity { vec_capacity back.new ≡ vec_capacity back.old }
     ensures len { vec_len back.new ≡ vec_len back.old + vec_len shards }
 {
@@ -45,19 +53,21 @@ pub(crate) fn open_all<F: Store>(
     alloc: Global,
     folders: Vec<F>,
     back: &mut Vec<F>,
-    capacity: u32,
+    most: Most,
     opened: u64,
     first: u64,
 ) -> Result<Vec<Held<F>>, StartFault>
-    requires capacity { (1 ≤ capacity) × (capacity ≤ 32768) }
+    requires endless { (limits_of most).calls ≡ None → F.endless ≡ true }
+    requires most { (1 ≤ (limits_of most).ids) × ((limits_of most).ids ≤ 32768) }
     requires folders { length folders.items ≡ 16 }
     requires opened { IsMoment opened }
     requires first { IsFirstVersion first }
     requires room { (back.old.items ≡ []) × (16 ≤ vec_capacity back.old) }
-    ensures begun { IfOk result (λ shards. AreBegun F.files F.times F.faults opened first (kept_limits capacity) 0 folders.items shards.items) }
+    ensures begun { IfOk result (λ shards. AreBegun F.files F.times F.faults opened first (limits_of most) 0 folders.items shards.items) }
     ensures back { OnOk result ((back.new.items ≡ []) × (vec_capacity back.new ≡ vec_capacity back.old)) }
     ensures handed { IfErr result (λ fault. AreHanded F.files F.faults folders.items back.new.items) }
     ensures blamed { IfErr result (λ fault. IsBlamed F.files F.faults folders.items back.new.items fault) }
+    ensures logs { IfErr result (λ fault. map (log_in F.notes) back.new.items ≡ map (log_in F.notes) folders.items) }
 {
     let mut rest = folders.into_iter();
     let Ok(mut shards) = Vec::with_capacity(alloc, SHARDS) else {
@@ -65,7 +75,7 @@ pub(crate) fn open_all<F: Store>(
         return Err(StartFault::Memory);
     };
     while let Some(folder) = rest.next() {
-        match Held::start(alloc, folder, shards.len() as u8, capacity, opened, first) {
+        match Held::open(alloc, folder, shards.len() as u8, most, opened, first) {
             Ok(held) => shards.push_reserved(held),
             Err((folder, fault)) => {
                 hand_back(shards, back);

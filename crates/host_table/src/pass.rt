@@ -3,6 +3,7 @@ ghost use Rattle.std.specs.Prelude.{◌≡◌};
 ghost use Rattle.host_table.specs.Passes.{HasSeen};
 
 use crate::held::Held;
+use crate::opening::Most;
 use host_core::Store;
 use std::marker::Model;
 use std::snapshot::Snapshot;
@@ -21,7 +22,7 @@ pub struct Pass<F: Store> {
     /// Those of its host, as contracts see them.
     pub(crate) opened: Snapshot<u64>,
     pub(crate) first: Snapshot<u64>,
-    pub(crate) capacity: Snapshot<u32>,
+    pub(crate) most: Snapshot<Most>,
     pub(crate) seats: Vec<Seat<Held<F>>>,
 }
 

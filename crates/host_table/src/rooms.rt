@@ -31,6 +31,24 @@ impl<F: Store> SplitRoom<F> {
 
 /// The memory that ending a host takes.
 #[derive(Drop)]
+pub struct EndRoom<F: Store> {
+    pub(crate) shards: Vec<Held<F>>,
+    pub(crate) stores: Vec<F>,
+    ghost shards_wide: { (shards.items ≡ []) × (16 ≤ vec_capacity shards) },
+    ghost stores_wide: { (stores.items ≡ []) × (16 ≤ vec_capacity stores) },
+}
+
+impl<F: Store> EndRoom<F> {
+    /// Room for the shards of a host, and for their stores.
+    pub fn new(alloc: Global) -> Result<EndRoom<F>, Memory> {
+        let shards = Vec::with_capacity(alloc, SHARDS)?;
+        let stores = Vec::with_capacity(alloc, SHARDS)?;
+        Ok(EndRoom { shards, stores })
+    }
+}
+
+/// The memory that closing a host takes: its end and its journal.
+#[derive(Drop)]
 pub struct CloseRoom<F: Folder> {
     /// The most entries of a shard.
     pub capacity: u32,

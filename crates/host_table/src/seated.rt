@@ -1,7 +1,7 @@
 //! A pass at its host, as a caller.
 ghost use Rattle.std.specs.Prelude.{◌≡◌, ◌&&◌, not, [], ◌∷◌, true, false};
 ghost use Rattle.host_table.specs.Passes.{locks_of, top, AreBelow, IsPassOf, AreInShards};
-ghost use Rattle.host_table.specs.Seated.{AreInShards-prop};
+ghost use Rattle.host_table.specs.Seated.{AreInShards-prop, told_in};
 
 use crate::host::{Host, SHARDS};
 use crate::pass::Pass;
@@ -18,10 +18,10 @@ pub struct Seated<'a, R: Wait, F: Store> {
     rt: &'a R,
     host: &'a Host<F>,
     pass: &'a mut Pass<F>,
-    /// The shard of the last call, and whether that found or left its store lost.
+    /// The shard of the last call or listing, and whether that found or left its store lost.
     shard: u8,
     lost: bool,
-    /// No call did.
+    /// None did.
     telling: bool,
     ghost of_host: { locks_of pass.now ≡ host.now.locks },
     ghost last_is: { pass.now.last ≡ top pass.now.seats },
@@ -80,6 +80,28 @@ impl<R: Wait, F: Store> Seated<'_, R, F> {
     }
 }
 
+/// Whether what a call was answered may be told.
+fn is_told(answer: &Result<Receipt, CallFault>) -> bool
+    ensures { result ≡ told_in (λ receipt. receipt.told) answer.now }
+{
+    match answer {
+        Ok(receipt) => return receipt.told,
+        Err(CallFault::Lost(_)) => return false,
+        Err(_) => return true,
+    }
+}
+
+/// Whether what an editor's call was answered may be told.
+fn is_told_to_editor(answer: &Result<EditorReceipt, CallFault>) -> bool
+    ensures { result ≡ told_in (λ told. told.receipt.told) answer.now }
+{
+    match answer {
+        Ok(told) => return told.receipt.told,
+        Err(CallFault::Lost(_)) => return false,
+        Err(_) => return true,
+    }
+}
+
 impl<R: Wait, F: Store> Caller for Seated<'_, R, F> {
     ghost use Rattle.std.specs.Prelude.{[], ◌∷◌};
     ghost use Rattle.host_table.specs.Passes.{sight_of};
@@ -110,18 +132,9 @@ impl<R: Wait, F: Store> Caller for Seated<'_, R, F> {
 
     fn call(&mut self, call: Call, moment: u64) -> Result<Receipt, CallFault> {
         let shard = call.name.shard();
-        match self.host.call(self.rt, self.pass, call, moment) {
-            Ok(receipt) => {
-                self.note(shard, receipt.told);
-                return Ok(receipt);
-            }
-            Err(CallFault::Lost(call)) => {
-                self.note(shard, false);
-                return Err(CallFault::Lost(call));
-            }
-            Err(CallFault::Full(call)) => return Err(CallFault::Full(call)),
-            Err(CallFault::Memory(call)) => return Err(CallFault::Memory(call)),
-        }
+        let answer = self.host.call(self.rt, self.pass, call, moment);
+        self.note(shard, is_told(&answer));
+        answer
     }
 
     fn call_for_editor(
@@ -131,21 +144,11 @@ impl<R: Wait, F: Store> Caller for Seated<'_, R, F> {
         moment: u64,
     ) -> Result<EditorReceipt, CallFault> {
         let shard = call.name.shard();
-        match self
+        let answer = self
             .host
-            .call_for_editor(self.rt, self.pass, call, known, moment)
-        {
-            Ok(answer) => {
-                self.note(shard, answer.receipt.told);
-                return Ok(answer);
-            }
-            Err(CallFault::Lost(call)) => {
-                self.note(shard, false);
-                return Err(CallFault::Lost(call));
-            }
-            Err(CallFault::Full(call)) => return Err(CallFault::Full(call)),
-            Err(CallFault::Memory(call)) => return Err(CallFault::Memory(call)),
-        }
+            .call_for_editor(self.rt, self.pass, call, known, moment);
+        self.note(shard, is_told_to_editor(&answer));
+        answer
     }
 
     fn is_telling(&self) -> bool {
@@ -154,7 +157,12 @@ impl<R: Wait, F: Store> Caller for Seated<'_, R, F> {
 }
 
 impl<R: Wait, F: Store> Lister for Seated<'_, R, F> {
-    ghost use Rattle.std.specs.Prelude.{[], ◌∷◌};
+    ghost use Rattle.std.specs.Prelude.{◌≡◌, ◌<◌, ◌&&◌, not, [], ◌∷◌, IfOk};
+    ghost use Rattle.host_core.specs.Caller.{KeepsTelling};
+    ghost use Rattle.host_core.specs.Listing.{Lists, LooksAt};
+    ghost use Rattle.host_table.specs.Calls.{AreNotesOf};
+    ghost use Rattle.host_table.specs.Passes.{sight_of};
+    ghost use Rattle.host_table.specs.Seated.{basis_of};
     ghost use Rattle.host_table.specs.Sights.{home_below, home_reached};
 
     ghost shard_count = { 16 };
@@ -167,7 +175,19 @@ impl<R: Wait, F: Store> Lister for Seated<'_, R, F> {
         SHARDS as u8
     }
 
-    fn list(&mut self, shard: u8) -> Result<Listing, Memory> {
-        self.host.look(self.rt, self.pass, shard)
+    fn list(&mut self, shard: u8) -> Result<Listing, Memory>
+        requires { shard < 16 }
+        ensures listed { IfOk result (Lists (sight_of self.new.pass.now) shard) }
+        ensures looks { LooksAt (sight_of self.old.pass.now) (sight_of self.new.pass.now) shard }
+        ensures telling { KeepsTelling self.old.telling self.new.telling F.loses }
+        ensures basis { basis_of self.new.pass.now ≡ basis_of self.old.pass.now }
+        ensures references { self.new.pass.ghost_name ∷ [] ≡ self.old.pass.ghost_name ∷ [] }
+
+        // Where the shard's store is lost, the caller isn't telling any more.
+        ensures told { (store : F) × AreNotesOf (sight_of self.new.pass.now) shard (F.notes store) × (self.new.telling ≡ (self.old.telling && not (F.lost store))) }
+    {
+        let (listing, told) = self.host.look(self.rt, self.pass, shard);
+        self.note(shard, told);
+        listing
     }
 }

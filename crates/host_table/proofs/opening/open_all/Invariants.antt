@@ -1,17 +1,16 @@
 use Rattle.std.proofs.Common.{◌≡◌, ◌+◌, ◌≤◌, [], ◌++◌, List, length, vec_len, vec_capacity}
 use Rattle.std.specs.Vec.Iter.{into_iter_items, into_iter_len}
-use Rattle.wopi_model.specs.Host.{kept_limits}
-use Rattle.host_table.specs.Start.{AreBegun}
+use Rattle.host_table.specs.Start.{limits_of, AreBegun}
 use Rattle.host_table.proofs.opening.open_all.Given as goal
 
 abbrev pub invariant-loop-folder : goal.invariant-loop-folder
-invariant-loop-folder g l = let F = g.row.F.Denot in let f = g.F.Folder in record {
+invariant-loop-folder g l = let F = g.row.F.Denot in let f = g.F.Store in record {
   len : into_iter_len l.rest ≡ length (into_iter_items l.rest);
   count : vec_len l.shards + into_iter_len l.rest ≡ 16;
   room : 16 ≤ vec_capacity l.shards;
   empty : l.back.items ≡ [];
   capacity : vec_capacity l.back ≡ vec_capacity l.initial.back;
-  begun : (done : List F) × (l.fn.folders.items ≡ done ++ into_iter_items l.rest) × AreBegun f.files f.times f.faults l.opened l.first (kept_limits l.capacity) 0 done l.shards.items;
+  begun : (done : List F) × (l.fn.folders.items ≡ done ++ into_iter_items l.rest) × AreBegun f.files f.times f.faults l.opened l.first (limits_of l.most) 0 done l.shards.items;
 }
 
 abbrev pub decreases-loop-folder : goal.decreases-loop-folder

@@ -10,17 +10,17 @@ use Rattle.host_table.proofs.held.Held.call_for_editor.Goals as goal
 
 pub invariant_of-self : goal.invariant_of-self
 invariant_of-self g c =
-    let F = g.row.F.Denot in let f = g.F.Folder in let old : Book F = c.self.inside.shard in
+    let F = g.row.F.Denot in let f = g.F.Store in let old : Book F = c.self.inside.shard in
     let late : Bool = is_late old.begin old.dates (history_of old.made old.time) c.args.call c.args.known c.args.moment in
     let one : Made = record { time = max old.time c.args.moment; step = record { stamp = c.in-Ok.step.stamp; pass = c.args.pass; moment = c.args.moment; call = made_for late c.args.call; ruling = c.in-Ok.step.ruling }; told = not (g.F.Store.lost c.step_for_editor.new.self.folder) } in
-    let P : Book F → Type 0 = λ b. IsHeld b (f.files b.start) (f.files b.folder) (f.faults b.start) (f.faults b.folder) in
+    let P : Book F → Type 0 = λ b. IsHeld b (f.files b.start) (f.files b.folder) (f.faults b.start) (f.faults b.folder) (f.notes b.start).log (f.notes b.folder).log in
     let only : old.only ≡ Some (shard_of c.args.call.name) = rw c.self.view_is c.requires.only in
     subst P (sym c.in-Ok.ensures.entry)
-    (held_push old c.step_for_editor.new.self.folder one (f.files old.start) (f.files old.folder) (f.files c.step_for_editor.new.self.folder) (f.faults old.start) (f.faults old.folder) (f.faults c.step_for_editor.new.self.folder) c.args.floor
-    (made_for late c.args.call) c.self.invariant (only ∙ ap (λ (name : _). Some (shard_of name)) (sym (name_made late c.args.call))) c.in-Ok.ensures.room c.step_for_editor.ensures.never_falls)
+    (held_push old c.step_for_editor.new.self.folder one (f.files old.start) (f.files old.folder) (f.files c.step_for_editor.new.self.folder) (f.faults old.start) (f.faults old.folder) (f.faults c.step_for_editor.new.self.folder) c.args.floor (f.notes old.start).log (f.notes old.folder).log (f.notes c.step_for_editor.new.self.folder).log
+    (made_for late c.args.call) c.self.invariant (only ∙ ap (λ (name : _). Some (shard_of name)) (sym (name_made late c.args.call))) c.in-Ok.ensures.room c.step_for_editor.ensures.never_falls c.step_for_editor.ensures.log)
 
 pub returns-in-Ok-clause-seen : goal.returns-in-Ok-clause-seen
-returns-in-Ok-clause-seen g c = seen_of c.step_for_editor.new.self _ _ _ _ (invariant_of-self g c) c.step_for_editor.ensures.lawful.alone
+returns-in-Ok-clause-seen g c = seen_of c.step_for_editor.new.self _ _ _ _ _ _ (invariant_of-self g c) c.step_for_editor.ensures.lawful.alone
 
 pub returns-in-Ok-clause-made : goal.returns-in-Ok-clause-made
 returns-in-Ok-clause-made g c =
@@ -31,10 +31,10 @@ returns-in-Ok-clause-made g c =
     (rw c.self.view_is (c.requires.only ∙ ap Some (sym c.shard-shard.ensures))) c.len-place.ensures.count c.in-Ok.ensures.stamp c.in-Ok.ensures.room c.in-Ok.ensures.back c.in-Ok.ensures.late c.in-Ok.ensures.facts c.in-Ok.ensures.moment)
 
 pub returns-in-Err-Full-clause-seen : goal.returns-in-Err-Full-clause-seen
-returns-in-Err-Full-clause-seen g c = seen_stays c.self.inside.shard c.step_for_editor.new.self _ _ _ _ c.self.invariant c.in-Err-Full.ensures.err c.step_for_editor.ensures.lawful.alone
+returns-in-Err-Full-clause-seen g c = seen_stays c.self.inside.shard c.step_for_editor.new.self _ _ _ _ _ _ c.self.invariant c.in-Err-Full.ensures.err c.step_for_editor.ensures.lawful.alone
 
 pub returns-in-Err-Memory-clause-seen : goal.returns-in-Err-Memory-clause-seen
-returns-in-Err-Memory-clause-seen g c = seen_stays c.self.inside.shard c.step_for_editor.new.self _ _ _ _ c.self.invariant c.in-Err-Memory.ensures.err c.step_for_editor.ensures.lawful.alone
+returns-in-Err-Memory-clause-seen g c = seen_stays c.self.inside.shard c.step_for_editor.new.self _ _ _ _ _ _ c.self.invariant c.in-Err-Memory.ensures.err c.step_for_editor.ensures.lawful.alone
 
 pub returns-in-Err-Full-clause-refused : goal.returns-in-Err-Full-clause-refused
 returns-in-Err-Full-clause-refused g c =
@@ -47,7 +47,7 @@ returns-in-Err-Memory-clause-refused g c =
     rw (← c.self.view_is) (held_declines c.self.inside.shard c.step_for_editor.new.self c.args.call c.args.floor c.args.moment (fault.Memory c.in-Err-Memory.call) (c.len-place.ensures.lawful.timely c.self.invariant.unticked) h.err h.full h.call (λ light going. neither (g.F.Store.lost c.self.inside.shard.folder) (h.lost.1) (λ stays. h.light light stays)))
 
 pub returns-in-Err-Lost-clause-seen : goal.returns-in-Err-Lost-clause-seen
-returns-in-Err-Lost-clause-seen g c = seen_stays c.self.inside.shard c.step_for_editor.new.self _ _ _ _ c.self.invariant c.in-Err-Lost.ensures.err c.step_for_editor.ensures.lawful.alone
+returns-in-Err-Lost-clause-seen g c = seen_stays c.self.inside.shard c.step_for_editor.new.self _ _ _ _ _ _ c.self.invariant c.in-Err-Lost.ensures.err c.step_for_editor.ensures.lawful.alone
 
 pub returns-in-Err-Lost-clause-refused : goal.returns-in-Err-Lost-clause-refused
 returns-in-Err-Lost-clause-refused g c =

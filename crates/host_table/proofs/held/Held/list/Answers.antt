@@ -8,10 +8,10 @@ use Rattle.host_table.proofs.Stamps.{steps-long}
 use Rattle.host_table.proofs.held.Held.list.Goals as goal
 
 pub returns-in-Ok-clause-seen : goal.returns-in-Ok-clause-seen
-returns-in-Ok-clause-seen g c = rw (← c.self.view_is) (seen_of c.self.inside.shard _ _ _ _ c.self.invariant c.len-place.ensures.lawful.alone)
+returns-in-Ok-clause-seen g c = rw (← c.self.view_is) (seen_of c.self.inside.shard _ _ _ _ _ _ c.self.invariant c.len-place.ensures.lawful.alone)
 
 pub returns-in-Err-clause-seen : goal.returns-in-Err-clause-seen
-returns-in-Err-clause-seen g c = rw (← c.self.view_is) (seen_of c.self.inside.shard _ _ _ _ c.self.invariant c.len-place.ensures.lawful.alone)
+returns-in-Err-clause-seen g c = rw (← c.self.view_is) (seen_of c.self.inside.shard _ _ _ _ _ _ c.self.invariant c.len-place.ensures.lawful.alone)
 
 pub returns-in-Ok-clause-shows : goal.returns-in-Ok-clause-shows
 returns-in-Ok-clause-shows g c =
