@@ -55,10 +55,10 @@ module _ (loses before after lost : Bool) (old new : Sight) (tells : KeepsTellin
   }
 
 -- the shards were listed
-pub keeps_listed : (loses before after : Bool) (old new : Sight) → after ≡ before → LooksOn old new → KeepsTold loses before after old new
-keeps_listed loses before after old new same looks = record {
+pub keeps_listed : (loses before after : Bool) (old new : Sight) → KeepsTelling before after loses → LooksOn old new → KeepsTold loses before after old new
+keeps_listed loses before after old new keeps looks = record {
   extends = ([], looks.told ∙ sym (append-nil old.told));
   all = λ telling all. looks.told ∙ all ∙ sym looks.own;
-  falls = λ telling. sym same ∙ telling;
-  cause = λ told ended. absurd (true≢false (sym told ∙ sym same ∙ ended));
+  falls = keeps.0;
+  cause = keeps.1;
 }

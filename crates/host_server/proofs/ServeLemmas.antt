@@ -1,5 +1,5 @@
 -- From the messages so far to a whole connection.
-use Rattle.std.proofs.Common.{◌≡◌, ◌≢◌, ◌<◌, ◌+◌, ℕ, false, List, [], ◌∷◌, ◌++◌, Option, None, Some, refl, sym, ap, ◌∙◌, subst, arith, length-append, append-nil}
+use Rattle.std.proofs.Common.{true, ◌≡◌, ◌≢◌, ◌<◌, ◌+◌, ℕ, false, List, [], ◌∷◌, ◌++◌, Option, None, Some, refl, sym, ap, ◌∙◌, subst, arith, length-append, append-nil}
 use Rattle.std.specs.Io.KnownBytes.{Consumes, Appends, prepend_known}
 use Rattle.std.proofs.KnownBytes.{Appends-trans, Appends-nil, Consumes-trans}
 use Rattle.outside.specs.Clock.{GivesAll}
@@ -18,7 +18,7 @@ use Rattle.host_server.specs.Deeds.{Deed, Does, made}
 use Rattle.host_server.specs.Keeping.{AreTold}
 use Rattle.host_server.proofs.DeedLemmas.{Does-nil, Does-join}
 use Rattle.host_server.specs.Turns.{bytes_of, moments_of, parts_of, texts_of, turn_text}
-use Rattle.host_server.specs.Connection.{message_limit, is_last, IsEnd, IsNext, Serves, end_text, end_moments, end_part, next_line, next_moments, next_part}
+use Rattle.host_server.specs.Connection.{message_limit, is_last, IsEnd, IsNext, Serves, end_text, end_moments, end_part, is_reply, next_line, next_moments, next_part}
 use Rattle.host_server.specs.Steps.{StepsOn, StepsOver, Breaks, Steps, Running}
 use Rattle.host_server.proofs.SequenceLemmas.{are_from, GivesAll-trans, GivesAll-nil, flat_map-one, map-one, GoOn-one}
 
@@ -148,10 +148,10 @@ module _ (desk : Desk) (always : Sight → Type 0) (left clock : Option (List �
 
     -- a store was lost behind these messages, all of which may be told
     pub serves_lost : (source clock'' : Option (List ℕ)) (sight'' : Sight) (held'' : Option (List ℕ)) → count < message_limit
-        → (breaks : Breaks desk always count left' clock' clock'' sight' sight'' held' held'') × (breaks.front ≡ next_line breaks.next)
+        → (breaks : Breaks desk always count left' clock' clock'' sight' sight'' held' held'') × (breaks.front ≡ next_line breaks.next) × (is_reply breaks.next ≡ true)
         → (AreTold sight → AreTold sight') → Extends sight'.told sight''.told
         → Serves desk always Lost left source clock clock'' sight sight'' held held''
-    serves_lost source clock'' sight'' held'' few (step, front) keeps extends =
+    serves_lost source clock'' sight'' held'' few (step, front, is) keeps extends =
         let turns = running.turns in
         record {
           input = bytes_of turns ++ step.rest;
@@ -179,6 +179,7 @@ module _ (desk : Desk) (always : Sight → Type 0) (left clock : Option (List �
               output_is = refl;
             },
             front,
+            is,
           );
           sure = parts_of turns;
           are_sure = refl;

@@ -18,7 +18,7 @@ use Rattle.host_server.specs.declared.desk.Desk.{Desk}
 use Rattle.host_server.specs.Deeds.{Does}
 use Rattle.host_server.proofs.DeedLemmas.{Does-nil}
 use Rattle.host_server.specs.Turns.{said_text, Turn, IsTurn}
-use Rattle.host_server.specs.Connection.{is_last, next_line, closed, refused, wanted, line, reply, last}
+use Rattle.host_server.specs.Connection.{is_last, is_reply, next_line, closed, refused, wanted, line, reply, last}
 use Rattle.host_server.specs.Steps.{Replies, StepsOn, StepsOver, Breaks, Steps, as_unsent, broken}
 use Rattle.host_server.proofs.SequenceLemmas.{GivesAll-nil}
 
@@ -128,7 +128,7 @@ module _ (desk : Desk) (always : Sight → Type 0) (count : ℕ) (q : Request) (
   -- a store was lost, and nothing of the reply was written
   pub step_lost : (left left' held mid held' : Option (List ℕ)) (close : Bool) (fault : Unsent) → Reads left left' held mid (Message q)
       → Replies desk always q close clock clock' sight sight' mid held' (Err fault) → is_last count q ≡ close → held' ≡ mid
-      → (breaks : Breaks desk always count left clock clock' sight sight' held held') × (breaks.front ≡ next_line breaks.next)
+      → (breaks : Breaks desk always count left clock clock' sight sight' held held') × (breaks.front ≡ next_line breaks.next) × (is_reply breaks.next ≡ true)
   step_lost left left' held mid held' false fault reads made stays quiet =
       let (t, is, same, used, times, makes, asked, said) = turn_of left left' held mid held' false (Err fault) reads made in
       let (after, whole) = rest_of left left' t.bytes used in
@@ -144,7 +144,7 @@ module _ (desk : Desk) (always : Sight → Type 0) (count : ℕ) (q : Request) (
         parts = refl;
         writes = subst (λ (o : Option (List ℕ)). Appends held o (hundred_text t.hundred)) (sym quiet) asked;
       } in
-      (breaks, refl)
+      (breaks, refl, refl)
   step_lost left left' held mid held' true fault reads made closes quiet =
       let (t, is, same, used, times, makes, asked, said) = turn_of left left' held mid held' true (Err fault) reads made in
       let (after, whole) = rest_of left left' t.bytes used in
@@ -160,7 +160,7 @@ module _ (desk : Desk) (always : Sight → Type 0) (count : ℕ) (q : Request) (
         parts = refl;
         writes = subst (λ (o : Option (List ℕ)). Appends held o (hundred_text t.hundred)) (sym quiet) asked;
       } in
-      (breaks, refl)
+      (breaks, refl, refl)
 
   -- by what became of the reply
   pub step_unsent : (left left' left'' held mid held' : Option (List ℕ)) (close : Bool) (fault : Unsent) → Reads left left' held mid (Message q)

@@ -117,6 +117,15 @@ next_line (last empty) = []
 next_line (last (refused s hundred)) = hundred_text hundred
 next_line (last (wanted hundred)) = hundred_text hundred
 
+-- it is the reply to a message
+abbrev pub is_reply : Next → Bool
+is_reply (line hundred) = false
+is_reply (reply t) = true
+is_reply (last (closed t)) = true
+is_reply (last empty) = false
+is_reply (last (refused s hundred)) = false
+is_reply (last (wanted hundred)) = false
+
 -- Where a fault of writing cuts: what was written is the texts of the first messages, and a front of what comes next.
 pub record Cut (desk : Desk) (input moments : List ℕ) (deeds : List Deed) (output : List ℕ)
     : Type 0 where
@@ -158,7 +167,8 @@ abbrev pub IsConnEnd : Desk → ConnEnd → List ℕ → Option (List ℕ) → L
 IsConnEnd desk Done input left moments deeds output = Conn desk input moments deeds output
 IsConnEnd desk ReadFault input left moments deeds output = Awaits desk input left moments deeds output
 IsConnEnd desk WriteFault input left moments deeds output = Cut desk input moments deeds output
-IsConnEnd desk Lost input left moments deeds output = (cut : Cut desk input moments deeds output) × (cut.front ≡ next_line cut.next)
+IsConnEnd desk Lost input left moments deeds output =
+    (cut : Cut desk input moments deeds output) × (cut.front ≡ next_line cut.next) × (is_reply cut.next ≡ true)
 IsConnEnd desk Memory input left moments deeds output = Are left input × (moments ≡ []) × (deeds ≡ []) × (output ≡ [])
 
 -- The deeds whose replies were written, or may be: all, or, where a store was lost, those for the messages before the last one.

@@ -1,5 +1,5 @@
 -- One message of a connection, and the messages so far.
-use Rattle.std.specs.Prelude.{◌≡◌, ℕ, Bool, false, List, [], ◌∷◌, ◌++◌, length, Option, Result, Ok, Err}
+use Rattle.std.specs.Prelude.{true, ◌≡◌, ℕ, Bool, false, List, [], ◌∷◌, ◌++◌, length, Option, Result, Ok, Err}
 use Rattle.std.specs.Io.KnownBytes.{Consumes, Appends}
 use Rattle.outside.specs.Clock.{GivesAll}
 use Rattle.outside.specs.Stream.{Are}
@@ -19,7 +19,7 @@ use Rattle.host_server.specs.declared.desk.Desk.{Desk}
 use Rattle.host_server.specs.Deeds.{Deed, Does}
 use Rattle.host_server.specs.Texts.{sent_text}
 use Rattle.host_server.specs.Turns.{Said, said_text, IsSaid, Turn, IsTurn, GoOn, turn_text, bytes_of, moments_of, parts_of, texts_of}
-use Rattle.host_server.specs.Connection.{is_last, End, IsEnd, end_moments, end_part, end_text, Next, IsNext, next_line, next_moments, next_part, next_text}
+use Rattle.host_server.specs.Connection.{is_last, End, IsEnd, end_moments, end_part, end_text, Next, IsNext, is_reply, next_line, next_moments, next_part, next_text}
 
 -- what came of sending a reply
 abbrev pub as_unsent : Result (Unit {0}) Failed → Result (Unit {0}) Unsent
@@ -79,7 +79,7 @@ Steps desk always count left left' clock clock' sight sight' held held' (Over Re
 Steps desk always count left left' clock clock' sight sight' held held' (Over WriteFault) =
     Breaks desk always count left clock clock' sight sight' held held'
 Steps desk always count left left' clock clock' sight sight' held held' (Over Lost) =
-    (breaks : Breaks desk always count left clock clock' sight sight' held held') × (breaks.front ≡ next_line breaks.next)
+    (breaks : Breaks desk always count left clock clock' sight sight' held held') × (breaks.front ≡ next_line breaks.next) × (is_reply breaks.next ≡ true)
 Steps desk always count left left' clock clock' sight sight' held held' (Over Memory) = ⊥
 
 -- So many messages were answered, and none of them closed.
