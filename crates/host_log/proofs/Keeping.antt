@@ -6,14 +6,15 @@ use Rattle.std.proofs.lemmas.List.{length-append}
 use Rattle.wopi_model.specs.Act.{is_stored}
 use Rattle.wopi_model.specs.declared.calls.Ruling.{Ruling}
 use Rattle.host_core.specs.Entries.{Asked, Made, ruled, ruled_as}
-use Rattle.host_core.specs.Notes.{Brought, TakesCalls, accepted, told_version}
+use Rattle.host_core.specs.Notes.{Brought, TakesCalls, accepted, opening_listed, told_version}
+use Rattle.outside.specs.Log.{IsFront}
 use Rattle.host_log.specs.declared.logged.Logged.TheInside.{Inside}
 use Rattle.host_log.specs.declared.logged.Saved.{Saved}
 use Rattle.host_log.specs.Lines.{AreLines, LinesView, GoesOn, IsOf}
-use Rattle.host_log.specs.Logs.{AreToldFirst, IsDoubt, IsLogged, MayStand, brought_as}
+use Rattle.host_log.specs.Logs.{AreToldFirst, HasEnded, IsDoubt, IsLogged, MayStand, brought_as, view_of}
 use Rattle.host_log.specs.Rows.{IsInDoubt, IsLog, IsTail}
-use Rattle.host_log.proofs.Standing.{log_of, none_stands}
-use Rattle.host_log.proofs.Telling.{missing_first, more_first}
+use Rattle.host_log.proofs.Standing.{front_of, log_of, none_stands}
+use Rattle.host_log.proofs.Telling.{first_of, missing_first, more_first}
 
 -- nothing was saved
 pub unsaved : (saved : Option Saved) → option_map brought_as saved ≡ None → saved ≡ None
@@ -43,6 +44,11 @@ neither_first false b is = refl
 pub neither_second : (a b : Bool) → (a || b) ≡ false → b ≡ false
 neither_second true b is = absurd (cc (is))
 neither_second false b is = is
+
+-- of two one is, and not the first
+second_of : (a b : Bool) → (a || b) ≡ true → a ≡ false → b ≡ true
+second_of true b is not_first = absurd (cc (not_first))
+second_of false b is not_first = is
 
 neither_is : (a b : Bool) → (not a && not b) ≡ not (a || b)
 neither_is true b = refl
@@ -124,14 +130,16 @@ module _ {F L : Type 0} where
         number = inv.number;
         few = inv.few;
         spare = inv.spare;
+        full = inv.full;
+        head_is = inv.head_is;
         room = λ _. spare;
         may = inv.may;
       }
 
   -- the log was lost, and a call failed for that
-  pub refused_logged : (i : Inside F L) (lines : LinesView) (refused : ℕ) (one : Asked) → IsLogged i → i.begun ≡ Some one → lines.told ≡ i.lines.told → lines.lost ≡ true → lines.standing ≡ None
-      → (i.lines.lost ≡ false → IsOf one lines.doubt) → (i.lines.lost ≡ true → lines.doubt ≡ i.lines.doubt) → IsLogged (record i { lines = lines; refused = refused })
-  refused_logged i lines refused one inv is same lost free at still = record {
+  pub refused_logged : (i : Inside F L) (lines : LinesView) (refused : ℕ) (one : Asked) → IsLogged i → i.begun ≡ Some one → lines.told ≡ i.lines.told → GoesOn i.lines lines → lines.lost ≡ true
+      → lines.standing ≡ None → (i.lines.lost ≡ false → IsOf one lines.doubt) → (i.lines.lost ≡ true → lines.doubt ≡ i.lines.doubt) → IsLogged (record i { lines = lines; refused = refused })
+  refused_logged i lines refused one inv is same goes lost free at still = record {
     told = λ fine. absurd (cc (fine, lost));
     doubt_is = λ _. either i.lines.lost (IsDoubt i.begun i.missing lines.doubt)
         (λ was. doubt_same i.begun i.missing i.lines.doubt lines.doubt (still was) (inv.doubt_is was))
@@ -142,6 +150,8 @@ module _ {F L : Type 0} where
     number = as_many i lines.told same inv;
     few = inv.few;
     spare = inv.spare;
+    full = inv.full;
+    head_is = goes.head ∙ inv.head_is;
     room = inv.room;
     may = may_as i lines.told same inv;
   }
@@ -159,6 +169,8 @@ module _ {F L : Type 0} where
     number = as_many i lines.told same inv;
     few = inv.few;
     spare = inv.spare;
+    full = inv.full;
+    head_is = goes.head ∙ inv.head_is;
     room = inv.room;
     may = may_as i lines.told same inv;
   }
@@ -177,6 +189,8 @@ module _ {F L : Type 0} where
         number = as_many i lines.told same inv;
         few = inv.few;
         spare = inv.spare;
+        full = inv.full;
+        head_is = goes.head ∙ inv.head_is;
         room = inv.room;
         may = may_as i lines.told same inv;
       }
@@ -194,6 +208,8 @@ module _ {F L : Type 0} where
     number = as_many i lines.told (same' ∙ same) inv;
     few = inv.few;
     spare = inv.spare;
+    full = inv.full;
+    head_is = goes'.head ∙ goes.head ∙ inv.head_is;
     room = inv.room;
     may = may_as i lines.told (same' ∙ same) inv;
   }
@@ -212,6 +228,8 @@ module _ {F L : Type 0} where
     number = as_many i lines.told same inv;
     few = inv.few;
     spare = inv.spare;
+    full = inv.full;
+    head_is = goes.head ∙ inv.head_is;
     room = λ some. absurd (cc (some));
     may = may_as i lines.told same inv;
   }
@@ -241,27 +259,61 @@ module _ {F L : Type 0} where
         number = omega (arith, next, number, long);
         few = few;
         spare = λ left. let other = eqb-false count 4611686018427387904 (sym test ∙ left) in omega (arith, few, other);
+        full = λ over. eqb-true count 4611686018427387904 (sym test ∙ over);
+        head_is = goes.head ∙ inv.head_is;
         room = λ some. none_stands begun _ over some;
         may = either lines.lost (AreToldFirst count lines.told missing)
             (λ lost. missing_first i.count count i.lines.told lines.told i.missing missing ruling one inv.may room (stays lost) (late lost))
             (λ fine. more_first count i.lines.told lines.told missing (not spent) ruling one (inv.may.all room) (unspent count spent test) (told fine) (present fine));
       }
 
+  -- what is held and synced is what the log has
+  log_as : (i : Inside F L) (held synced : Option (List ℕ)) (told : List Made) (tail : List ℕ) → held ≡ i.lines.held → synced ≡ i.lines.synced → told ≡ i.lines.told
+      → IsLog i.lines.start i.lines.held i.lines.synced i.lines.head i.lines.told tail → IsLog i.lines.start held synced i.lines.head told tail
+  log_as i held synced told tail same reached made log =
+      let all : IsLog i.lines.start i.lines.held i.lines.synced i.lines.head told tail = subst (λ (l : List Made). IsLog i.lines.start i.lines.held i.lines.synced i.lines.head l tail) (sym made) log in
+      let there : IsLog i.lines.start held i.lines.synced i.lines.head told tail = subst (λ (h : Option (List ℕ)). IsLog i.lines.start h i.lines.synced i.lines.head told tail) (sym same) all in
+      subst (λ (s : Option (List ℕ)). IsLog i.lines.start held s i.lines.head told tail) (sym reached) there
+
   -- unless it was lost, the log has all entries
-  pub told_log : (i : Inside F L) (held synced : Option (List ℕ)) → IsLogged i → AreLines i.lines → held ≡ i.lines.held → synced ≡ i.lines.synced → i.lines.lost ≡ false → i.begun ≡ None
-      → IsLog i.lines.start held synced (i.lines.told ++ i.missing) []
+  told_log : (i : Inside F L) (held synced : Option (List ℕ)) → IsLogged i → AreLines i.lines → held ≡ i.lines.held → synced ≡ i.lines.synced → i.lines.lost ≡ false → i.begun ≡ None
+      → IsLog i.lines.start held synced i.lines.head (i.lines.told ++ i.missing) []
   told_log i held synced inv are same reached fine none =
       let free = no_standing i.begun (option_map brought_as i.saved) i.lines.standing inv.ahead none in
       let made : i.lines.told ++ i.missing ≡ i.lines.told = ap (λ (l : List Made). i.lines.told ++ l) (inv.told fine) ∙ append-nil i.lines.told in
-      let log : IsLog i.lines.start i.lines.held i.lines.synced i.lines.told [] = log_of i.lines are fine None free in
-      let whole : IsLog i.lines.start i.lines.held i.lines.synced (i.lines.told ++ i.missing) [] = subst (λ (l : List Made). IsLog i.lines.start i.lines.held i.lines.synced l []) (sym made) log in
-      let there : IsLog i.lines.start held i.lines.synced (i.lines.told ++ i.missing) [] = subst (λ (h : Option (List ℕ)). IsLog i.lines.start h i.lines.synced (i.lines.told ++ i.missing) []) (sym same) whole in
-      subst (λ (s : Option (List ℕ)). IsLog i.lines.start held s (i.lines.told ++ i.missing) []) (sym reached) there
+      let log : IsLog i.lines.start i.lines.held i.lines.synced i.lines.head i.lines.told [] = log_of i.lines are fine None free in
+      log_as i held synced (i.lines.told ++ i.missing) [] same reached made log
 
   -- and else those that were told, and a front of one line
-  pub lost_log : (i : Inside F L) (held synced : Option (List ℕ)) → AreLines i.lines → held ≡ i.lines.held → synced ≡ i.lines.synced → i.lines.lost ≡ true
-      → (tail : List ℕ) × IsInDoubt i.lines.doubt tail × IsLog i.lines.start held synced i.lines.told tail
+  lost_log : (i : Inside F L) (held synced : Option (List ℕ)) → AreLines i.lines → held ≡ i.lines.held → synced ≡ i.lines.synced → i.lines.lost ≡ true
+      → (tail : List ℕ) × IsInDoubt i.lines.head i.lines.told i.lines.doubt tail × IsLog i.lines.start held synced i.lines.head i.lines.told tail
   lost_log i held synced are same reached lost =
-      let doubt : IsTail true i.lines.standing i.lines.doubt are.tail = subst (λ (b : Bool). IsTail b i.lines.standing i.lines.doubt are.tail) lost are.tail_is in
-      let there : IsLog i.lines.start held i.lines.synced i.lines.told are.tail = subst (λ (h : Option (List ℕ)). IsLog i.lines.start h i.lines.synced i.lines.told are.tail) (sym same) are.log in
-      (are.tail, doubt.1, subst (λ (s : Option (List ℕ)). IsLog i.lines.start held s i.lines.told are.tail) (sym reached) there)
+      let doubt : IsTail i.lines.head i.lines.told true i.lines.standing i.lines.doubt are.tail = subst (λ (b : Bool). IsTail i.lines.head i.lines.told b i.lines.standing i.lines.doubt are.tail) lost are.tail_is in
+      (are.tail, doubt.1, log_as i held synced i.lines.told are.tail same reached refl are.log)
+
+  -- what is left at the end
+  pub left_at_end : (i : Inside F L) (held synced : Option (List ℕ)) (faults : ℕ) → IsLogged i → AreLines i.lines → held ≡ i.lines.held → synced ≡ i.lines.synced → faults ≡ i.lines.faults
+      → HasEnded (view_of i) i.folder held synced faults
+  left_at_end i held synced faults inv are same reached count =
+      let first = first_of i.count i.lines.told i.missing inv.may in
+      record {
+        folder_is = refl;
+        faults_are = count;
+        log = refl;
+        opening = opening_listed i.opening.value.items;
+        begin_is = refl;
+        head_is = inv.head_is;
+        made = refl;
+        rest = first.0;
+        kept = first.1;
+        fine = neither_first i.lines.lost i.spent;
+        whole = inv.told;
+        refusals = inv.refusals;
+        front = subst (λ (h : Option (List ℕ)). IsFront i.lines.start h) (sym same) (front_of i.lines are);
+        told = λ fine none. told_log i held synced inv are same reached fine none;
+        full = λ lost fine. sym inv.number ∙ inv.full (second_of i.lines.lost i.spent lost fine);
+        lost = λ lost. lost_log i held synced are same reached lost;
+        doubt = inv.doubt_is;
+        rose = are.rose;
+        counts = are.counts;
+      }

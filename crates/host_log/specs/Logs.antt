@@ -2,17 +2,21 @@
 use Rattle.std.specs.Prelude.{◌≡◌, ◌≤◌, ◌<◌, ◌^◌, ◌||◌, ⊤, Bool, true, false, ℕ, List, [], ◌∷◌, ◌++◌, length, Option, None, Some, is_some, option_map}
 use Rattle.wopi_model.specs.Act.{is_stored}
 use Rattle.wopi_model.specs.Begin.{new_life}
-use Rattle.wopi_model.specs.Shard.{Entry}
+use Rattle.wopi_model.specs.Shard.{Entry, Opening}
 use Rattle.host_core.specs.Entries.{Asked, Made, asked_in, ruled, told_of}
-use Rattle.host_core.specs.Notes.{Notes, Brought, accepted, opening_listed, told_version}
+use Rattle.outside.specs.Faults.{Rose}
+use Rattle.outside.specs.Log.{IsFront}
+use Rattle.host_core.specs.Notes.{Notes, Brought, LogStart, accepted, opening_listed, told_version}
 use Rattle.host_core.specs.Times.{steps_of}
 use Rattle.host_log.specs.declared.logged.Logged.TheInside.{Inside}
 use Rattle.host_log.specs.declared.logged.Saved.{Saved}
 use Rattle.host_log.specs.Lines.{IsOf, LinesView}
+use Rattle.host_log.specs.Rows.{IsInDoubt, IsLog, head_of}
 
--- The folder, what was noted, and what was told to the log. It's lost where the log is, or where no more entries are counted. `missing` is the
+-- The shard's number, the folder, what was noted, and what was told to the log. It's lost where the log is, or where no more entries are counted. `missing` is the
 -- entry that was ended as the log was lost, and `refused` is how often a call failed for that.
 pub record LogView (F : Type 0) : Type 0 where
+  pub shard : ℕ
   pub folder : F
   pub notes : Notes
   pub lines : LinesView
@@ -23,8 +27,13 @@ pub record LogView (F : Type 0) : Type 0 where
 abbrev pub brought_as : Saved → Brought
 brought_as saved = (Some saved.version, saved.contents.value)
 
+-- the log of the shard of that number, as it was taken into use
+abbrev pub started : ℕ → LinesView → LogStart
+started shard v = record { shard = shard; held = v.start; faults = v.began }
+
 abbrev pub view_of : {F L : Type 0} → Inside F L → LogView F
 view_of l = record {
+  shard = l.shard;
   folder = l.folder;
   notes = record {
     begin = new_life (opening_listed l.opening.value.items) l.opened l.first;
@@ -32,6 +41,7 @@ view_of l = record {
     begun = l.begun;
     saved = option_map brought_as l.saved;
     most = None;
+    log = Some (started l.shard l.lines);
   };
   lines = l.lines;
   lost = l.lines.lost || l.spent;
@@ -39,11 +49,14 @@ view_of l = record {
   refused = l.refused;
 }
 
--- over that folder, with nothing noted and nothing told to the log
-pub record IsAnew {F : Type 0} (folder : F) (v : LogView F) : Type 0 where
+-- for that shard, over that folder, with nothing noted and nothing told to the log
+pub record IsAnew {F : Type 0} (shard : ℕ) (folder : F) (v : LogView F) : Type 0 where
+  pub shard_is : v.shard ≡ shard
   pub folder_is : v.folder ≡ folder
+  pub log : v.notes.log ≡ Some (started v.shard v.lines)
   pub made : v.notes.made ≡ []
   pub begun : v.notes.begun ≡ None
+  pub head : v.lines.head ≡ []
   pub told : v.lines.told ≡ []
   pub missing : v.missing ≡ []
   pub fine : v.lines.lost ≡ false
@@ -68,7 +81,7 @@ pub record AreToldFirst (count : ℕ) (told missing : List Made) : Type 0 where
   pub first : steps_of told ≡ told_of told ++ rest
   pub none : told_of missing ≡ []
 
--- unless the log is lost each entry was told, and the line of what was saved stands
+-- Unless the log is lost each entry was told, and the line of what was saved stands. What was appended first is what was opened.
 pub record IsLogged {F L : Type 0} (l : Inside F L) : Type 0 where
   pub told : l.lines.lost ≡ false → l.missing ≡ []
   pub doubt_is : l.lines.lost ≡ true → IsDoubt l.begun l.missing l.lines.doubt
@@ -78,5 +91,31 @@ pub record IsLogged {F L : Type 0} (l : Inside F L) : Type 0 where
   pub number : l.count ≡ length (l.lines.told ++ l.missing)
   pub few : l.count ≤ 2 ^ 62
   pub spare : l.spent ≡ false → l.count < 2 ^ 62
+  pub full : l.spent ≡ true → l.count ≡ 2 ^ 62
+  pub head_is : l.lines.head ≡ head_of l.shard l.opened l.first (opening_listed l.opening.value.items)
   pub room : is_some l.begun ≡ true → l.count < 2 ^ 62
   pub may : AreToldFirst l.count l.lines.told l.missing
+
+-- What a log holds at the end, has synced, and how often a call of it has failed; and the folder. What was appended is the beginning, then
+-- the lines of the entries that were told, and behind these nothing, or, once it was lost, a front of one line more. The entries that may be
+-- told are the first of those.
+pub record HasEnded {F : Type 0} (v : LogView F) (folder : F) (held synced : Option (List ℕ)) (faults : ℕ) : Type 0 where
+  pub folder_is : folder ≡ v.folder
+  pub faults_are : faults ≡ v.lines.faults
+  pub log : v.notes.log ≡ Some (started v.shard v.lines)
+  pub opening : Opening
+  pub begin_is : v.notes.begin ≡ new_life opening v.notes.begin.opened v.notes.begin.first
+  pub head_is : v.lines.head ≡ head_of v.shard v.notes.begin.opened v.notes.begin.first opening
+  pub made : v.notes.made ≡ v.lines.told ++ v.missing
+  pub rest : List Entry
+  pub kept : steps_of v.lines.told ≡ told_of v.notes.made ++ rest
+  pub fine : v.lost ≡ false → v.lines.lost ≡ false
+  pub whole : v.lines.lost ≡ false → v.missing ≡ []
+  pub refusals : v.lines.lost ≡ false → v.refused ≡ 0
+  pub front : IsFront v.lines.start held
+  pub told : v.lines.lost ≡ false → v.notes.begun ≡ None → IsLog v.lines.start held synced v.lines.head v.notes.made []
+  pub full : v.lost ≡ true → v.lines.lost ≡ false → length v.notes.made ≡ 2 ^ 62
+  pub lost : v.lines.lost ≡ true → (tail : List ℕ) × IsInDoubt v.lines.head v.lines.told v.lines.doubt tail × IsLog v.lines.start held synced v.lines.head v.lines.told tail
+  pub doubt : v.lines.lost ≡ true → IsDoubt v.notes.begun v.missing v.lines.doubt
+  pub rose : v.lines.lost ≡ true → Rose v.lines.began v.lines.faults
+  pub counts : v.lines.began ≤ v.lines.faults

@@ -1,13 +1,40 @@
 -- What stands in a log.
-use Rattle.std.specs.Prelude.{◌≡◌, ◌==◌, ◌&&◌, ℕ, Bool, true, false, List, [], ◌∷◌, ◌++◌, length, Option, None, Some, codes, decimal, option_map}
+use Rattle.std.specs.Prelude.{◌≡◌, ◌==◌, ◌&&◌, ℕ, Bool, true, false, List, [], ◌∷◌, ◌++◌, length, Option, None, Some, codes, decimal, if◌then◌else◌, option_map, unwrap_or}
 use Rattle.std.specs.List.{AllByRecursion, flat_map}
 use Rattle.std.specs.Io.KnownBytes.{Appends}
 use Rattle.wopi_text.specs.FileName.{shard_of}
+use Rattle.wopi_text.specs.Ids.{id_of}
 use Rattle.wopi_model.specs.Act.{is_stored}
 use Rattle.wopi_model.specs.Host.{shard_of_entry}
+use Rattle.wopi_model.specs.Shard.{Opening}
+use Rattle.host_core.specs.declared.file.KeptFile.{KeptFile}
 use Rattle.host_core.specs.Entries.{Asked, Made, accepted_contents, kept_act}
 use Rattle.host_table.specs.Pieces.{place_text}
 use Rattle.host_table.specs.Text.{space, line_feed, act_text, call_text, optional_number, ruling_text, token_fields}
+
+-- ---- the text of a beginning
+
+-- the first line of a segment of that shard, which opened anew then: its time is that moment, and no entry stands before
+unfoldable pub head_line : ℕ → ℕ → ℕ → List ℕ
+head_line shard opened first =
+    codes "wopi journal 3 shard "
+    ++ (decimal shard ++ (codes " opened " ++ (decimal opened ++ (codes " first " ++ (decimal first ++ (codes " now " ++ (decimal opened ++ (codes " last 0" ++ line_feed ∷ []))))))))
+
+-- a file of the opening, by name and contents: its name, its version and its size
+unfoldable pub at_line : ℕ → List ℕ × List ℕ → List ℕ
+at_line first file = codes "at " ++ (id_of file.0 ++ (codes " v" ++ (decimal first ++ (space ∷ (decimal (length file.1) ++ line_feed ∷ [])))))
+
+-- the first line and the files', in the order of the opening
+abbrev pub opening_text : ℕ → ℕ → ℕ → Opening → List ℕ
+opening_text shard opened first files = head_line shard opened first ++ flat_map (at_line first) files
+
+-- the line of a file that the store is given
+abbrev pub kept_line : ℕ → KeptFile → List ℕ
+kept_line first file = at_line first (file.name, unwrap_or file.contents [])
+
+-- That of a shard with files of that version. They have versions from 1 on: at 0 nothing was opened, and nothing stands there.
+abbrev pub head_of : ℕ → ℕ → ℕ → Opening → List ℕ
+head_of shard opened first files = if first == 0 then [] else opening_text shard opened first files
 
 -- ---- the text of an entry
 
@@ -69,28 +96,32 @@ abbrev pub IsIdle : Row → Type 0
 IsIdle (Counts one) = changes one ≡ false
 IsIdle (TakenBack one) = ⊥
 
--- The log grew by the texts of these entries, among which stand some that were taken back, and then by the tail. What was synced of it
--- has all that changed the folder.
-pub record IsLog (start held synced : Option (List ℕ)) (told : List Made) (tail : List ℕ) : Type 0 where
+-- The log grew by the head, by the texts of these entries, among which stand some that were taken back, and then by the tail. What was
+-- synced of it has the head and all that changed the folder.
+pub record IsLog (start held synced : Option (List ℕ)) (head : List ℕ) (told : List Made) (tail : List ℕ) : Type 0 where
   pub sure : List Row
   pub loose : List Row
   pub told_are : counted (sure ++ loose) ≡ told
   pub idle : AllByRecursion IsIdle loose
-  pub grew : Appends start held (rows_text (sure ++ loose) ++ tail)
+  pub grew : Appends start held (head ++ (rows_text (sure ++ loose) ++ tail))
   pub more : List ℕ
-  pub reached : Appends start synced (rows_text sure ++ more)
+  pub reached : Appends start synced (head ++ (rows_text sure ++ more))
 
 -- the text of a call as accepted, where it stands and may yet be taken back
 abbrev pub standing_text : Option Made → List ℕ
 standing_text None = []
 standing_text (Some one) = entry_text one
 
--- a front of the text of that entry, and maybe of what takes it back
-abbrev pub IsInDoubt : Option Made → List ℕ → Type 0
-IsInDoubt None tail = ⊥
-IsInDoubt (Some one) tail = (rest : List ℕ) × (entry_text one ++ off_line ≡ tail ++ rest)
+-- a front of a beginning
+abbrev pub IsOpeningCut : List ℕ → Type 0
+IsOpeningCut tail = (shard : ℕ) × (opened : ℕ) × (first : ℕ) × (files : Opening) × (rest : List ℕ) × (opening_text shard opened first files ≡ tail ++ rest)
+
+-- A front of the text of that entry, and maybe of what takes it back. Where no entry is in doubt the log was lost at its beginning.
+abbrev pub IsInDoubt : List ℕ → List Made → Option Made → List ℕ → Type 0
+IsInDoubt head told None tail = (head ≡ []) × (told ≡ []) × IsOpeningCut tail
+IsInDoubt head told (Some one) tail = (rest : List ℕ) × (entry_text one ++ off_line ≡ tail ++ rest)
 
 -- what stands behind the entries that were told
-abbrev pub IsTail : Bool → Option Made → Option Made → List ℕ → Type 0
-IsTail false standing doubt tail = tail ≡ standing_text standing
-IsTail true standing doubt tail = (standing ≡ None) × IsInDoubt doubt tail
+abbrev pub IsTail : List ℕ → List Made → Bool → Option Made → Option Made → List ℕ → Type 0
+IsTail head told false standing doubt tail = tail ≡ standing_text standing
+IsTail head told true standing doubt tail = (standing ≡ None) × IsInDoubt head told doubt tail

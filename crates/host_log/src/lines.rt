@@ -1,15 +1,16 @@
-//! A log to which the lines of entries are appended.
-ghost use Rattle.std.specs.Prelude.{◌≡◌, ◌++◌, ◌∷◌, [], true, false, is_some, None, Some, OnErr, OnOk, option_map};
+//! A log to which a beginning and then the lines of entries are appended.
+ghost use Rattle.std.specs.Prelude.{◌≡◌, ◌≤◌, ◌++◌, ◌∷◌, [], true, false, is_some, None, Some, OnErr, OnOk, option_map};
 ghost use Rattle.outside.specs.Faults.{Rose};
 ghost use Rattle.host_core.specs.Entries.{accepted_contents, ruled, ruled_as};
-ghost use Rattle.host_core.specs.Notes.{accepted};
-ghost use Rattle.host_log.specs.Rows.{changes, off_line};
-ghost use Rattle.host_log.specs.Lines.{AreLines, GoesOn, IsOf};
+ghost use Rattle.host_core.specs.Notes.{accepted, opening_listed};
+ghost use Rattle.host_log.specs.Rows.{changes, off_line, opening_text};
+ghost use Rattle.host_log.specs.Lines.{AreLines, GoesOn, IsOf, IsUntouched};
 
 use crate::begun::Begun;
+use crate::head::Head;
 use crate::note::Note;
-use crate::writing::write_entry;
-use host_core::Ruling;
+use crate::writing::{keep_opening, write_entry};
+use host_core::{KeptFile, Ruling};
 use host_table::WriteRoom;
 use outside::{Failed, Log, append};
 use std::marker::Model;
@@ -18,13 +19,15 @@ use std::snapshot::Snapshot;
 use story::Story;
 use wopi_text::LockField;
 
-/// A log, room to gather a line in, and what was told to it. The line of a call as accepted may stand ahead of its entry: then
+/// A log, room to gather a line in, and what was told to it. A beginning stands first, if anything does but entries. The line of a call as accepted may stand ahead of its entry: then
 /// it is settled or taken back. Once a call of the log failed it's lost, and nothing more is appended.
 #[derive(Drop)]
 pub struct Lines<L: Log> {
     log: L,
     room: WriteRoom,
     start: Snapshot<L>,
+    untouched: bool,
+    head: Option<Head>,
     told: Story<Note>,
     standing: Option<Note>,
     lost: bool,
@@ -88,6 +91,8 @@ impl<L: Log> Lines<L> {
           start = L.held log;
           held = L.held log;
           synced = L.synced log;
+          untouched = true;
+          head = [];
           told = [];
           standing = None;
           lost = false;
@@ -101,6 +106,8 @@ impl<L: Log> Lines<L> {
             log,
             room,
             start,
+            untouched: true,
+            head: None,
             told: Story::new(),
             standing: None,
             lost: false,
@@ -108,7 +115,7 @@ impl<L: Log> Lines<L> {
         }
     }
 
-    /// The log, to which the lines of the entries that were told were appended.
+    /// The log, to which the beginning and the lines of the entries that were told were appended.
     pub fn into_log(self) -> L
         ensures told { AreLines self }
         ensures held { L.held result ≡ self.held }
@@ -119,6 +126,8 @@ impl<L: Log> Lines<L> {
             log,
             room: _room,
             start: _start,
+            untouched: _untouched,
+            head: _head,
             told: _told,
             standing: _standing,
             lost: _lost,
@@ -135,6 +144,14 @@ impl<L: Log> Lines<L> {
         self.lost
     }
 
+    /// Whether nothing was appended yet.
+    pub fn is_untouched(&self) -> bool
+        ensures value { result ≡ self.now.untouched }
+        ensures fresh { result ≡ true → IsUntouched self.now }
+    {
+        self.untouched
+    }
+
     /// Whether a line stands that may yet be taken back.
     pub fn has_standing(&self) -> bool
         ensures value { result ≡ is_some self.now.standing }
@@ -143,6 +160,40 @@ impl<L: Log> Lines<L> {
         match &self.standing {
             None => return false,
             Some(_) => return true,
+        }
+    }
+
+    /// Appends the beginning of a segment of that shard, which opened then over these files, and syncs it.
+    pub fn begin_with(
+        &mut self,
+        shard: u8,
+        opened: u64,
+        first: u64,
+        files: &Vec<KeptFile>,
+    ) -> Result<(), Failed>
+        requires { self.old.untouched ≡ true }
+        ensures head { OnOk result (self.new.head ≡ opening_text shard opened first (opening_listed files.now.items)) }
+        ensures fine { OnOk result (self.new.lost ≡ false) }
+        ensures none { OnErr result (self.new.head ≡ []) }
+        ensures lost { OnErr result (self.new.lost ≡ true) }
+        ensures failed { OnErr result (Rose self.old.faults self.new.faults) }
+        ensures told { self.new.told ≡ [] }
+        ensures free { self.new.standing ≡ None }
+        ensures doubt { self.new.doubt ≡ None }
+        ensures start { self.new.start ≡ self.old.start }
+        ensures began { self.new.began ≡ self.old.began }
+        ensures never_falls { self.old.faults ≤ self.new.faults }
+    {
+        self.untouched = false;
+        match keep_opening(&mut self.log, &mut self.room, shard, opened, first, files) {
+            Ok(()) => {
+                self.head = Some(Head::of(shard, opened, first, files));
+                return Ok(());
+            }
+            Err(Failed) => {
+                self.lost = true;
+                return Err(Failed);
+            }
         }
     }
 
@@ -157,6 +208,7 @@ impl<L: Log> Lines<L> {
         ensures free { self.new.standing ≡ None }
         ensures goes_on { GoesOn self.old self.new }
     {
+        self.untouched = false;
         match write_entry(&mut self.log, &mut self.room, begun, ruling, None) {
             Ok(()) => {}
             Err(Failed) => {
@@ -202,6 +254,7 @@ impl<L: Log> Lines<L> {
         ensures goes_on { GoesOn self.old self.new }
     {
         let ruling = accepted(version);
+        self.untouched = false;
         match write_entry(&mut self.log, &mut self.room, begun, &ruling, contents) {
             Ok(()) => {}
             Err(Failed) => {

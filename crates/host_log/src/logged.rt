@@ -1,13 +1,11 @@
-//! A folder beside a log of the entries.
+//! A folder beside a log of what a shard began with and of its entries.
 ghost use Rattle.std.specs.Prelude.{◌≡◌, ◌≤◌, ◌&&◌, [], ◌∷◌, ◌++◌, not, true, false, is_some, None, Some, IfErr, IfOk, OnErr, OnOk, option_map};
 ghost use Rattle.outside.specs.Faults.{Rose};
 ghost use Rattle.outside.specs.Log.{IsCutAt, IsFront};
-ghost use Rattle.host_core.specs.Entries.{accepted_contents, ruled, ruled_as, told_of};
+ghost use Rattle.host_core.specs.Entries.{accepted_contents, ruled, ruled_as};
 ghost use Rattle.host_core.specs.Notes.{accepted};
-ghost use Rattle.host_core.specs.Times.{steps_of};
 ghost use Rattle.host_log.specs.Lines.{GoesOn, IsOf};
-ghost use Rattle.host_log.specs.Logs.{IsAnew, IsDoubt};
-ghost use Rattle.host_log.specs.Rows.{IsInDoubt, IsLog};
+ghost use Rattle.host_log.specs.Logs.{HasEnded, IsAnew};
 
 use crate::begun::Begun;
 use crate::lines::{Lines, keep_note};
@@ -20,7 +18,7 @@ use std::marker::Model;
 use std::mem;
 use std::snapshot::Snapshot;
 use story::Story;
-use wopi_text::{Bytes, Memory};
+use wopi_text::Bytes;
 
 /// Contents that the folder took, and the version that is told of them. They lie with their file alone.
 #[derive(Drop)]
@@ -32,9 +30,11 @@ pub struct Saved {
 /// How many entries a log takes: 2^62, of which a machine that makes a million in a second has made half in 73,000 years.
 const MOST_ENTRIES: u64 = 4_611_686_018_427_387_904;
 
-/// A folder and a log, and the call that was begun. No entry is kept.
+/// The folder and the log of the shard of a number, and the call that was begun. Neither an opening file nor an entry is
+/// kept. Versions begin at 1, so `first` is 0 until something was opened.
 #[derive(Drop)]
 pub struct Logged<F: Folder, L: Log> {
+    shard: u8,
     folder: F,
     lines: Lines<L>,
     opening: Snapshot<Vec<KeptFile>>,
@@ -141,20 +141,21 @@ fn conclude<L: Log>(
 }
 
 impl<F: Folder, L: Log> Logged<F, L> {
-    /// Over a folder, and a log all of which is synced. The room is what lines are gathered in.
-    pub fn new(alloc: Global, folder: F, log: L, room: WriteRoom) -> Logged<F, L>
+    /// Of the shard of that number, over a folder, and a log all of which is synced. The room is what lines are gathered in.
+    pub fn new(alloc: Global, shard: u8, folder: F, log: L, room: WriteRoom) -> Logged<F, L>
         requires { L.synced log ≡ L.held log }
-        ensures anew { IsAnew folder result }
+        ensures anew { IsAnew shard folder result }
         ensures start { result.lines.start ≡ L.held log }
         ensures began { result.lines.began ≡ L.write_faults log }
     {
         let none: Vec<KeptFile> = Vec::new(alloc);
         Logged {
+            shard,
             folder,
             lines: Lines::new(log, room),
             opening: Snapshot::of(&none),
             opened: 0,
-            first: 1,
+            first: 0,
             missing: Story::new(),
             count: 0,
             begun: None,
@@ -164,16 +165,17 @@ impl<F: Folder, L: Log> Logged<F, L> {
         }
     }
 
-    /// Over a folder, and a log of which so many bytes are kept: what stands behind them is cut, and they are synced. Where there
-    /// are fewer, or the log fails, both are handed back.
+    /// Of the shard of that number, over a folder, and a log of which so many bytes are kept: what stands behind them is cut,
+    /// and they are synced. Where there are fewer, or the log fails, both are handed back.
     pub fn resume(
         alloc: Global,
+        shard: u8,
         folder: F,
         log: L,
         count: u64,
         room: WriteRoom,
     ) -> Result<Logged<F, L>, (F, L)>
-        ensures anew { IfOk result (λ logged. IsAnew folder logged) }
+        ensures anew { IfOk result (λ logged. IsAnew shard folder logged) }
         ensures start { IfOk result (λ logged. IsCutAt count (L.held log) logged.lines.start) }
         ensures began { IfOk result (λ logged. L.write_faults log ≤ logged.lines.began) }
         ensures handed { IfErr result (λ handed. handed.0 ≡ folder) }
@@ -182,7 +184,7 @@ impl<F: Folder, L: Log> Logged<F, L> {
     {
         let mut log = log;
         match log.resume(count) {
-            Ok(()) => return Ok(Logged::new(alloc, folder, log, room)),
+            Ok(()) => return Ok(Logged::new(alloc, shard, folder, log, room)),
             Err(Failed) => return Err((folder, log)),
         }
     }
@@ -195,18 +197,13 @@ impl<F: Folder, L: Log> Logged<F, L> {
         !self.lines.is_lost()
     }
 
-    /// The folder, and the log. What was appended are the lines of the entries that were told, and behind these nothing, or, once
-    /// it was lost, a front of one line more. The entries that may be told are the first of those.
+    /// The folder, and the log. What was appended is what was opened, then the lines of the entries that were told, and behind
+    /// these nothing, or, once it was lost, a front of one line more. The entries that may be told are the first of those.
     pub fn end(self) -> (F, L)
-        ensures folder { result.0 ≡ self.folder }
-        ensures made { self.notes.made ≡ self.lines.told ++ self.missing }
-        ensures kept { (rest : _) × (steps_of self.lines.told ≡ told_of self.notes.made ++ rest) }
-        ensures whole { self.lost ≡ false → self.missing ≡ [] }
-        ensures doubt { self.lines.lost ≡ true → IsDoubt self.notes.begun self.missing self.lines.doubt }
-        ensures told { self.lines.lost ≡ false → self.notes.begun ≡ None → IsLog self.lines.start (L.held result.1) (L.synced result.1) self.notes.made [] }
-        ensures lost { self.lines.lost ≡ true → (tail : _) × IsInDoubt self.lines.doubt tail × IsLog self.lines.start (L.held result.1) (L.synced result.1) self.lines.told tail }
+        ensures { HasEnded self result.0 (L.held result.1) (L.synced result.1) (L.write_faults result.1) }
     {
         let Logged {
+            shard: _shard,
             folder,
             lines,
             opening: _opening,
@@ -223,14 +220,25 @@ impl<F: Folder, L: Log> Logged<F, L> {
     }
 }
 
-impl<F: Folder, L: Log> Folder for Logged<F, L> {
-    ghost use Rattle.std.specs.Prelude.{◌+◌};
+impl<F: Folder, L: Log> Store for Logged<F, L> {
+    ghost use Rattle.std.specs.Prelude.{◌+◌, true};
+    ghost use Rattle.std.proofs.Common.{refl};
 
     ghost files = { λ logged. F.files logged.folder };
 
     ghost times = { λ logged. F.times logged.folder };
 
     ghost faults = { λ logged. F.faults logged.folder + logged.refused };
+
+    ghost notes = { λ logged. logged.notes };
+
+    ghost lost = { λ logged. logged.lost };
+
+    ghost endless = { true };
+
+    ghost loses = { true };
+
+    ghost loses_is = { λ logged lost. refl };
 
     fn list(&mut self) -> Result<Names, OutFault> {
         self.folder.list()
@@ -244,29 +252,6 @@ impl<F: Folder, L: Log> Folder for Logged<F, L> {
         self.folder.time(name)
     }
 
-    fn replace(&mut self, name: &str, contents: &[u8]) -> Result<(), OutFault> {
-        self.folder.replace(name, contents)
-    }
-
-    fn remove(&mut self, name: &str) -> Result<(), Failed> {
-        self.folder.remove(name)
-    }
-}
-
-impl<F: Folder, L: Log> Store for Logged<F, L> {
-    ghost use Rattle.std.specs.Prelude.{true};
-    ghost use Rattle.std.proofs.Common.{refl};
-
-    ghost notes = { λ logged. logged.notes };
-
-    ghost lost = { λ logged. logged.lost };
-
-    ghost endless = { true };
-
-    ghost loses = { true };
-
-    ghost loses_is = { λ logged lost. refl };
-
     fn open(
         &mut self,
         _alloc: Global,
@@ -274,9 +259,16 @@ impl<F: Folder, L: Log> Store for Logged<F, L> {
         opened: u64,
         first: u64,
         _calls: Option<u32>,
-    ) -> Result<(), Memory> {
-        if self.begun.is_some() || self.count > 0 {
-            return Err(Memory);
+    ) -> Result<(), OutFault> {
+        if first == 0 || self.begun.is_some() || !self.lines.is_untouched() {
+            return Err(OutFault::Memory);
+        }
+        match self.lines.begin_with(self.shard, opened, first, opening) {
+            Ok(()) => {}
+            Err(Failed) => {
+                self.refused = self.refused.saturating_add(1);
+                return Err(OutFault::Failed);
+            }
         }
         self.opening = Snapshot::of(opening);
         self.opened = opened;
