@@ -31,7 +31,7 @@ file_lines file = grind (arith, append_assoc)
 abbrev join : List (List ℕ) → List ℕ
 join words = join_with_byte 32 words
 
-headed : (word : List ℕ) (asked : EntryAct) (next : List ℕ) (words : List (List ℕ))
+pub headed : (word : List ℕ) (asked : EntryAct) (next : List ℕ) (words : List (List ℕ))
     → join (word ∷ (act_words asked ++ next ∷ words)) ≡ word ++ 32 ∷ join (act_words asked ++ next ∷ words)
 headed word act.Info next words = refl
 headed word (act.Get most) next words = refl
@@ -45,7 +45,7 @@ headed word act.Look next words = refl
 headed word (act.Create overwrite size) next words = refl
 headed word act.Delete next words = refl
 
-asked_join : (asked : EntryAct) (next : List ℕ) (words : List (List ℕ)) → join (act_words asked ++ next ∷ words) ≡ act_text asked ++ 32 ∷ join (next ∷ words)
+pub asked_join : (asked : EntryAct) (next : List ℕ) (words : List (List ℕ)) → join (act_words asked ++ next ∷ words) ≡ act_text asked ++ 32 ∷ join (next ∷ words)
 unfolding act_text
 asked_join act.Info next words = refl
 asked_join (act.Get most) next words = refl
