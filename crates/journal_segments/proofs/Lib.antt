@@ -1,0 +1,14 @@
+pub mod Rulings
+pub mod Telling
+pub mod Placing
+pub mod Once
+pub mod Lines
+pub mod Apart
+pub mod Fronts
+pub mod Going
+pub mod Coming
+pub mod Written
+pub mod Texts
+pub mod Logged
+pub mod Stopped
+pub mod Own

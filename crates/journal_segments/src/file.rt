@@ -1,0 +1,291 @@
+//! What is told of one file.
+ghost use Rattle.std.specs.Prelude.{◌≡◌, ◌↔◌, [], None, IfSome, IsTrue, OnOk, option_map};
+ghost use Rattle.wopi_model.specs.Moment.{IsMoment};
+ghost use Rattle.wopi_model.specs.Settle.{still_spent, with_spent};
+ghost use Rattle.wopi_model.specs.LockTable.{lock_after, spent_by};
+ghost use Rattle.lock_machine.specs.Asks.{act_of};
+ghost use Rattle.journal_segments.specs.Told.{asked, fresh_after, placed_after, settled_place, size_after, unmet, version_told};
+ghost use Rattle.journal_segments.specs.Line.{size_in};
+ghost use Rattle.journal_segments.specs.Rows.{held_place, holding, placed_at, spent_place};
+
+use journal_text::{Line, LineAct};
+use lock_machine::{LockAsk, change_by, lock_left, settle, spent_left, spent_until, taken_in};
+use std::alloc::Global;
+use std::marker::Model;
+use wopi_model::{Lock, Spent};
+use wopi_text::{Bytes, Memory};
+
+/// What is told of a file. What it keeps of contents are those that lines brought.
+#[derive(Drop)]
+pub struct ToldFile {
+    version: u64,
+    size: Option<u64>,
+    lock: Option<Lock>,
+    spent: Vec<Spent>,
+    fresh: Option<Bytes>,
+}
+
+impl Model for ToldFile {
+    ghost use Rattle.journal_segments.specs.Told.{Placed};
+
+    ghost Value = { Placed };
+
+    ghost view = { λ f. record { version = f.version; size = f.size; lock = f.lock; spent = f.spent.items; fresh = f.fresh } };
+
+    ghost use Rattle.std.specs.Prelude.{IfSome};
+    ghost use Rattle.wopi_model.specs.Moment.{IsMoment};
+
+    ghost invariant = { λ f. IfSome f.lock (λ held. IsMoment held.since) };
+}
+
+/// What an act asks of a lock. What it does to one doesn't depend on the contents.
+fn ask_of(act: &LineAct) -> LockAsk<'_>
+    ensures { act_of result ≡ asked act.now }
+{
+    match act {
+        LineAct::Put {
+            lock: None,
+            size: _,
+        } => LockAsk::Put {
+            id: None,
+            empty: false,
+        },
+        LineAct::Put {
+            lock: Some(id),
+            size: _,
+        } => LockAsk::Put {
+            id: Some(id),
+            empty: false,
+        },
+        LineAct::Lock { id } => LockAsk::Lock { id },
+        LineAct::GetLock => LockAsk::GetLock,
+        LineAct::Refresh { id } => LockAsk::Refresh { id },
+        LineAct::Unlock { id } => LockAsk::Unlock { id },
+        LineAct::Relock { old, id } => LockAsk::Relock { old, id },
+        LineAct::Create { overwrite, size: _ } => LockAsk::Create {
+            exists: false,
+            overwrite: *overwrite,
+        },
+        LineAct::Delete => LockAsk::Delete,
+        LineAct::Info | LineAct::Get { most: _ } | LineAct::Look => LockAsk::Look,
+    }
+}
+
+/// The lock behind an act that was accepted, and the id that it ends.
+fn judged(
+    lock: &Option<Lock>,
+    act: &LineAct,
+    expires: u64,
+    now: u64,
+) -> (Option<Lock>, Option<Spent>)
+    requires late { IsMoment now }
+    requires since { IfSome lock.now (λ held. IsMoment held.since) }
+    ensures lock { result.0 ≡ lock_after lock.now (asked act.now) expires now }
+    ensures spent { result.1 ≡ spent_by lock.now (asked act.now) expires }
+    ensures moment { IfSome result.0 (λ held. IsMoment held.since) }
+{
+    let ask = ask_of(act);
+    let held = lock.as_ref();
+    let left = lock_left(change_by(held, ask, expires, now), held, taken_in(ask));
+    let ended = spent_left(held, spent_until(held, ask, expires));
+    (left, ended)
+}
+
+/// Puts an id before the others, if there is one.
+fn add_spent(spent: &mut Vec<Spent>, one: Option<Spent>) -> Result<(), Memory>
+    ensures { OnOk result (spent.new.items ≡ with_spent one spent.old.items) }
+{
+    match one {
+        None => return Ok(()),
+        Some(one) => {
+            spent.insert(0, one)?;
+            return Ok(());
+        }
+    }
+}
+
+/// Drops the ids that are no longer refused.
+fn drop_over(spent: &mut Vec<Spent>, now: u64)
+    ensures { spent.new.items ≡ still_spent spent.old.items now }
+{
+    spent.retain(|one| now < one.until);
+}
+
+/// The version behind an act that was accepted.
+fn version_told(old: u64, act: &LineAct, told: Option<u64>) -> u64
+    ensures { result ≡ version_told old act.now told }
+{
+    match act {
+        LineAct::Put { .. } | LineAct::Create { .. } => told.unwrap_or(old),
+        _ => old,
+    }
+}
+
+/// The size behind an act that was accepted.
+fn size_after(old: Option<u64>, act: &LineAct) -> Option<u64>
+    ensures { result ≡ size_after old act.now }
+{
+    match act {
+        LineAct::Put { lock: _, size } => Some(*size),
+        LineAct::Create { overwrite: _, size } => Some(*size),
+        LineAct::Delete => None,
+        _ => old,
+    }
+}
+
+/// The contents that were brought, behind an act that was accepted.
+fn fresh_after(old: Option<Bytes>, act: &LineAct, contents: Option<Bytes>) -> Option<Bytes>
+    ensures { result ≡ fresh_after old act.now contents }
+{
+    match act {
+        LineAct::Put { .. } | LineAct::Create { .. } => contents,
+        LineAct::Delete => None,
+        _ => old,
+    }
+}
+
+/// How many bytes contents have, if there are some.
+fn size_of(contents: &Option<Bytes>) -> Option<u64>
+    ensures { result ≡ size_in contents.now }
+{
+    match contents {
+        None => return None,
+        Some(contents) => return Some(contents.as_slice().len() as u64),
+    }
+}
+
+impl ToldFile {
+    /// A name that was never met.
+    pub fn unmet(alloc: Global, first: u64) -> ToldFile
+        ensures { result ≡ unmet first }
+    {
+        ToldFile {
+            version: first.saturating_sub(1),
+            size: None,
+            lock: None,
+            spent: Vec::new(alloc),
+            fresh: None,
+        }
+    }
+
+    /// A file of that version and size, with no lock and no spent id.
+    pub fn placed(alloc: Global, version: u64, size: Option<u64>) -> ToldFile
+        ensures { result ≡ placed_at version size }
+    {
+        ToldFile {
+            version,
+            size,
+            lock: None,
+            spent: Vec::new(alloc),
+            fresh: None,
+        }
+    }
+
+    /// Gives it a lock.
+    pub fn hold(&mut self, lock: Lock)
+        requires { IsMoment lock.since }
+        ensures { self.new ≡ held_place self.old lock }
+    {
+        self.lock = Some(lock);
+    }
+
+    /// Adds a spent id behind the others.
+    pub fn spend(&mut self, one: Spent) -> Result<(), Memory>
+        ensures { OnOk result (self.new ≡ spent_place self.old one) }
+    {
+        self.spent.push(one)?;
+        Ok(())
+    }
+
+    /// Puts what stands there in the place of its contents.
+    pub(crate) fn stand(&mut self, contents: Option<Bytes>)
+        ensures { self.new ≡ holding self.old contents }
+    {
+        self.size = size_of(&contents);
+        self.fresh = contents;
+    }
+
+    /// Its version.
+    pub fn version(&self) -> u64
+        ensures { result ≡ self.now.version }
+    {
+        self.version
+    }
+
+    /// The size of its contents, if it is there.
+    pub fn size(&self) -> Option<u64>
+        ensures { result ≡ self.now.size }
+    {
+        self.size
+    }
+
+    /// Its lock, which may be over.
+    pub fn lock(&self) -> Option<&Lock>
+        ensures { option_map (λ held. held.now) result ≡ self.now.lock }
+    {
+        self.lock.as_ref()
+    }
+
+    /// Its spent ids, the latest first.
+    pub fn spent(&self) -> &[Spent]
+        ensures { result.now ≡ self.now.spent }
+    {
+        &self.spent
+    }
+
+    /// Whether it has neither a lock nor a spent id.
+    pub fn is_bare(&self) -> bool
+        ensures { IsTrue result ↔ ((self.now.lock ≡ None) × (self.now.spent ≡ [])) }
+    {
+        self.lock.is_none() && self.spent.is_empty()
+    }
+
+    /// Ends its lock where that is over, and drops the ids that are no longer refused.
+    fn settle(&mut self, now: u64) -> Result<(), Memory>
+        ensures { OnOk result (self.new ≡ settled_place self.old now) }
+    {
+        let (lock, ended) = settle(self.lock.take(), now);
+        self.lock = lock;
+        add_spent(&mut self.spent, ended)?;
+        drop_over(&mut self.spent, now);
+        Ok(())
+    }
+
+    /// What an accepted act leaves of it, once it is settled.
+    fn take(&mut self, line: Line) -> Result<(), Memory>
+        requires { IsMoment line.now }
+        ensures { OnOk result (self.new ≡ placed_after self.old line.act line.token.expires line.now line.version line.contents) }
+    {
+        let Line {
+            act,
+            token,
+            now,
+            version,
+            contents,
+            ..
+        } = line;
+        let (lock, ended) = judged(&self.lock, &act, token.expires, now);
+        self.lock = lock;
+        add_spent(&mut self.spent, ended)?;
+        self.version = version_told(self.version, &act, version);
+        self.size = size_after(self.size, &act);
+        self.fresh = fresh_after(self.fresh.take(), &act, contents);
+        Ok(())
+    }
+
+    /// The contents that lines brought, if they did.
+    pub fn fresh(&self) -> Option<&Bytes>
+        ensures { option_map (λ bytes. bytes.now) result ≡ self.now.fresh }
+    {
+        self.fresh.as_ref()
+    }
+
+    /// What an accepted line leaves of it.
+    pub fn accept(&mut self, line: Line) -> Result<(), Memory>
+        requires { IsMoment line.now }
+        ensures { OnOk result (self.new ≡ placed_after (settled_place self.old line.now) line.act line.token.expires line.now line.version line.contents) }
+    {
+        self.settle(line.now)?;
+        self.take(line)
+    }
+}
