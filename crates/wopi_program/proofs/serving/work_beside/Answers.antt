@@ -10,7 +10,7 @@ join_mut-watched-requires-send-F g c κs within =
     let f : IsSend (param 1 g.row.F) = param_send 1 _ c.type_bounds.send-F in
     let k : IsSend (param 4 g.row.K) = param_send 4 _ c.type_bounds.send-K in
     let r : IsSync (param 0 g.row.R) = param_sync 0 _ c.type_bounds.sync-R in
-    param_send 1 _ (arg_send _ no _ (watch_send _ _ _ _ _ _ _ _ g.row.R g.row.F g.row.K g.F.Store g.F.Folder r f k))
+    param_send 1 _ (arg_send _ no _ (watch_send _ _ _ _ _ _ _ _ g.row.R g.row.F g.row.K g.F.Store r f k))
 
 pub join_mut-watched-requires-after_bounds : goal.join_mut-watched-requires-after_bounds
 join_mut-watched-requires-after_bounds g c κs within =
