@@ -32,7 +32,8 @@ fn look_at<R: Wait>(
     requires shard { shard < 16 }
     ensures { IsPassOf host.now pass.new }
 {
-    host.look(rt, pass, shard)
+    let (listing, _is_told) = host.look(rt, pass, shard);
+    listing
 }
 
 #[test]
