@@ -1,3 +1,4 @@
 pub mod Limits
+pub mod LogNames
 pub mod Stopping
 pub mod Telling

@@ -1,26 +1,35 @@
 //! Makes the real streams, folders, listeners, dialer and clocks, hands them to the top call, and ends with its status.
 #![tactic(auto)]
 
-ghost use Rattle.std.specs.Prelude.{◌≡◌, ◌↔◌, IfOk, IfErr, IsErr, drop, vec_len};
+ghost use Rattle.std.specs.Prelude.{◌≡◌, ◌↔◌, ℕ, List, Some, IfOk, IfErr, IsErr, drop, map, string_bytes, vec_len};
 ghost use Rattle.std.specs.Vec.Iter.{into_iter_items};
 ghost use Rattle.std.specs.IoError.{error_kind};
 ghost use Rattle.std.specs.Process.{exit_status};
+ghost use Rattle.wopi_program.specs.ServeWords.{IsServeRow};
+ghost use Rattle.access_tokens.specs.declared.keys.Keys.{Keys};
 
 mod after;
 mod around;
+mod keeping;
 mod making;
 mod reading;
 
 use crate::after::End;
 use crate::around::Around;
+use crate::keeping::{Kept, keep, logs_of, unkept_line};
 use crate::making::{Streams, world};
-use crate::reading::understand;
-use adapters::{StdSink, StdSource, stop_path, wake_path};
+use crate::reading::{Asking, understand};
+use adapters::{StdSink, StdSource, Unopened, stop_path, wake_path};
 use std::alloc::Global;
 use std::env::{self, Args, Env};
+use std::fs::{File, Files};
 use std::io::{self, ErrorKind, IsTerminal, Stderr};
+use std::net::{Net, TcpListener, TcpStream};
 use std::process::ExitCode;
-use wopi_program::{Asked, asked_by, run};
+use std::sync::Wait;
+use std::thread::Threads;
+use std::time;
+use wopi_program::{Asked, ServeAsk, asked_by, note, run};
 use wopi_text::Memory;
 
 /// What arguments come to that could not be read: no words, or want of memory.
@@ -94,6 +103,74 @@ fn streams(rt: &HostRuntime, ready: Option<Stderr>) -> Streams<StdSource, StdSin
     }
 }
 
+/// Tells that no logs could be opened in the folder, and why.
+fn refuse_logs(rt: &HostRuntime, folder: &str, why: Unopened, is_told: bool) -> u8 {
+    let Ok(line) = unkept_line(rt.alloc(), folder, why) else {
+        return 6;
+    };
+    let mut notes = StdSink::notes(rt.stderr());
+    note(&mut notes, b"journal fault\n");
+    let end = End {
+        status: 16,
+        wrong: None,
+        unbound: None,
+        is_told,
+    };
+    end.tell(&mut notes, Some(line.as_str()));
+    16
+}
+
+/// Does what is asked for, with these logs, and tells how it ended.
+fn act<
+    R: Net<Stream = TcpStream, Listener = TcpListener>
+        + Files<File = File>
+        + Threads
+        + Wait
+        + Sync
+        + time::Clock
+        + Copy
+        + Send,
+>(
+    rt: &R,
+    alloc: Global,
+    asking: &Asking,
+    kept: Kept,
+    streams: Streams<StdSource, StdSink>,
+    stop: Option<&str>,
+    wake: Option<&str>,
+) -> u8
+    requires { (keys : Keys) (base : List ℕ) (ask : ServeAsk) (ids : ℕ) → IsServeRow (map string_bytes asking.now.given.words.items) keys base ask → ask.keep ≡ Some ids
+        → vec_len kept.logs ≡ 16 }
+{
+    let words = asking.given.words.as_slice();
+    let Kept { lock: _lock, logs } = kept;
+    let is_told = streams.ready.is_some();
+    let mut unbound = None;
+    let Ok(mut outside) = world(
+        alloc,
+        rt,
+        asked_by(words),
+        Around::of(&asking.given.around),
+        stop,
+        wake,
+        streams,
+        logs,
+        &mut unbound,
+    ) else {
+        return 6;
+    };
+    let status = run(rt, alloc, words, &mut outside);
+    let end = End {
+        status,
+        wrong: asking.line.as_deref(),
+        unbound: unbound.as_ref(),
+        is_told,
+    };
+    let cause = end.cause(alloc, &outside.folders, &outside.logs);
+    end.tell(&mut outside.notes, cause.as_deref());
+    status
+}
+
 fn main(rt: HostRuntime) -> ExitCode {
     let alloc = rt.alloc();
     let Ok(typed) = words(&rt) else {
@@ -105,32 +182,24 @@ fn main(rt: HostRuntime) -> ExitCode {
     let (Ok(stop), Ok(wake)) = (stop_path(&rt), wake_path(&rt)) else {
         return exit_code(6);
     };
-    let words = asking.given.words.as_slice();
-    let asked = asked_by(words);
+    let asked = asked_by(asking.given.words.as_slice());
     let ready = told_at(asked, asking.given.around.verbose, rt.stderr());
-    let mut unbound = None;
-    let Ok(mut outside) = world(
-        alloc,
-        &rt,
-        asked,
-        Around::of(&asking.given.around),
-        stop.as_deref(),
-        wake.as_deref(),
-        streams(&rt, ready),
-        &mut unbound,
-    ) else {
-        return exit_code(6);
-    };
-    let status = run(&rt, alloc, words, &mut outside);
-    let end = End {
-        status,
-        wrong: asking.line.as_deref(),
-        unbound: unbound.as_ref(),
-        is_told: ready.is_some(),
-    };
-    let cause = end.cause(alloc, &outside.folders);
-    end.tell(&mut outside.notes, cause.as_deref());
-    exit_code(status)
+    let folder = logs_of(asked);
+    match keep(alloc, &rt, folder) {
+        Ok(kept) => {
+            let status = act(
+                &rt,
+                alloc,
+                &asking,
+                kept,
+                streams(&rt, ready),
+                stop.as_deref(),
+                wake.as_deref(),
+            );
+            exit_code(status)
+        }
+        Err(why) => exit_code(refuse_logs(&rt, folder.unwrap_or(""), why, ready.is_some())),
+    }
 }
 
 #[cfg(test)]

@@ -50,7 +50,7 @@ at_serve law journal opened first opened_is first_is legal desktop client ending
     law desktop client ending spoken heard (openings journal.parts) journal.opened journal.first (steps_of journal.merge) (shard_of client.token.file) (shard_below client.token.file)
     (journal_legal journal opened first opened_is first_is legal) hears crosses
 
-module _ {S K F N D C L : Type 0} (m : Meanings S K F N D C L) where
+module _ {S K F N D C G L : Type 0} (m : Meanings S K F N D C G L) where
   pub all_legal : (journals : List (JournalView F)) → AllByRecursion (WasServed m) journals → AllByRecursion IsLegal (map journal_of journals)
   all_legal [] served = tt
   all_legal (journal ∷ journals) ((keys, base, origin, ask, ends, old, new, one), served) =

@@ -1,11 +1,8 @@
+use Rattle.std.proofs.Common.{◌≡◌, ◌∙◌, true, is_some, ap, sym}
 use Rattle.mokdrai.proofs.main.Goals as goal
 
-pub run-status-requires-clause-once : goal.run-status-requires-clause-once
-run-status-requires-clause-once g c κs = λ found.
-    c.in-Ok-world.ensures.once found.3.folder (c.asked_by-asked.ensures.once found.0 found.1 found.2 found.3)
-
-pub run-status-requires-clause-serve : goal.run-status-requires-clause-serve
-run-status-requires-clause-serve g c κs = λ keys base ask row. c.in-Ok-world.ensures.serve row.folder ask (c.asked_by-asked.ensures.serve keys base ask row)
-
-pub run-status-requires-clause-has_all_back : goal.run-status-requires-clause-has_all_back
-run-status-requires-clause-has_all_back g c κs = λ row. c.in-Ok-world.ensures.has_all_back
+pub act-status-requires : goal.act-status-requires
+act-status-requires g c κs = λ keys base ask ids row keep.
+    let over = c.asked_by-asked.ensures.serve keys base ask row in
+    let told : is_some c.logs_of-folder.result ≡ true = sym (c.logs_of-folder.ensures c.asked_by-asked.ensures.kept row.folder ask over) ∙ ap is_some keep in
+    c.in-Ok-keep.ensures told

@@ -6,8 +6,8 @@ ghost use Rattle.outside.specs.MemListener.{has_all_back};
 use crate::program::gates::{Flag, FlagLink, GateFolder};
 use crate::program::words_of;
 use outside::{
-    Clock, Dialer, Folder, Link, Listener, MemFolder, MemListener, MemSink, MemSource, Pair,
-    ScriptClock, ScriptDialer, Sink, Source,
+    Clock, Dialer, Folder, Link, Listener, MemFolder, MemListener, MemLog, MemSink, MemSource,
+    Pair, ScriptClock, ScriptDialer, Sink, Source,
 };
 use std::alloc::Global;
 use std::sync::atomic::AtomicU64;
@@ -51,7 +51,15 @@ pub type MemLink = Pair<MemSource, MemSink>;
 pub type Served<F, L> = ServedTo<MemSink, F, L>;
 
 /// The same with an output and notes of this type.
-pub type ServedTo<K, F, L> = Outside<MemSource, K, F, MemListener<L>, ScriptDialer, ScriptClock>;
+pub type ServedTo<K, F, L> = Outside<
+    MemSource,
+    K,
+    F,
+    MemListener<L>,
+    ScriptDialer,
+    ScriptClock,
+    MemLog,
+>;
 
 /// Whether each listener has every link back that it gave.
 fn have_all_back<L: Drop>(listeners: &[MemListener<L>]) -> bool
@@ -186,6 +194,7 @@ pub fn meet<F: Drop, L: Drop>(
         listeners,
         dialer: ScriptDialer::new(alloc, Vec::new(alloc)),
         clocks,
+        logs: Vec::new(alloc),
     })
 }
 

@@ -42,3 +42,9 @@ returns-clause-over_serve g c = λ name ask is.
 
 pub returns-clause-with_host : goal.returns-clause-with_host
 returns-clause-with_host g c = λ name is. ap string_bytes c.new-2.ensures.host ∙ c.in_ok-authority.ensures name is
+
+pub returns-clause-logs : goal.returns-clause-logs
+returns-clause-logs g c =
+    let made = c.in_ok-logs.ensures in
+    let items = c.in_ok-logs.logs.ok.0 in
+    omega (arith, made, items)
