@@ -1,18 +1,19 @@
 -- A folder beside a log, after a call.
 use Rattle.std.proofs.Common.{◌≡◌, ◌≤◌, ◌<◌, ◌+◌, ◌^◌, ◌==◌, ◌||◌, ℕ, Bool, true, false, List, [], ◌∷◌, ◌++◌, length, Option, None, Some, option_map, refl, sym, ap, subst, ◌∙◌, arith, append-nil}
-use Rattle.std.specs.Prelude.{is_some, not, ◌&&◌}
+use Rattle.std.specs.Prelude.{is_some, not, ◌&&◌, if◌then◌else◌}
 use Rattle.std.proofs.lemmas.Bool.{eqb-false, eqb-true}
 use Rattle.std.proofs.lemmas.List.{length-append}
 use Rattle.wopi_model.specs.Act.{is_stored}
 use Rattle.wopi_model.specs.declared.calls.Ruling.{Ruling}
-use Rattle.host_core.specs.Entries.{Asked, Made, ruled, ruled_as}
-use Rattle.host_core.specs.Notes.{Brought, TakesCalls, accepted, opening_listed, told_version}
+use Rattle.host_core.specs.Entries.{Asked, Made, accepted_contents, brought_by, ruled, ruled_as}
+use Rattle.host_core.specs.Notes.{Brought, TakesCalls, accepted, opening_listed, saved_in, told_version}
 use Rattle.outside.specs.Log.{IsFront}
 use Rattle.host_log.specs.declared.logged.Logged.TheInside.{Inside}
 use Rattle.host_log.specs.declared.logged.Saved.{Saved}
 use Rattle.host_log.specs.Lines.{AreLines, LinesView, GoesOn, IsOf}
-use Rattle.host_log.specs.Logs.{AreToldFirst, HasEnded, IsDoubt, IsLogged, MayStand, brought_as, view_of}
+use Rattle.host_log.specs.Logs.{AreToldFirst, AreUnsaved, HasEnded, IsDoubt, IsLogged, MayStand, brought_as, view_of}
 use Rattle.host_log.specs.Rows.{IsInDoubt, IsLog, IsTail}
+use Rattle.host_log.proofs.Noting.{nothing_accepted}
 use Rattle.host_log.proofs.Standing.{front_of, log_of, none_stands}
 use Rattle.host_log.proofs.Telling.{first_of, missing_first, more_first}
 
@@ -65,6 +66,18 @@ ended_made all made made' lost spent ruling one one' more same is =
     more ∙ ap (λ (l : List Made). l ++ ruled_as (not lost && not spent) ruling one ∷ []) same ∙ ap (λ (a : Asked). made' ++ ruled_as (not lost && not spent) ruling a ∷ []) is
     ∙ ap (λ (b : Bool). made' ++ ruled_as b ruling one' ∷ []) (neither_is lost spent)
 
+-- one more is none
+one_more : (made : List Made) (one : Made) → AreUnsaved made → accepted_contents one ≡ None → AreUnsaved (made ++ one ∷ [])
+one_more [] one are is = (is, tt)
+one_more (first ∷ made) one are is = (are.0, one_more made one are.1 is)
+
+-- what was saved was accepted
+saved_status : (one : Made) (saved : Brought) → Some saved ≡ saved_in one → one.step.ruling.status ≡ 200
+saved_status one saved is = go (one.step.ruling.status == 200) refl is where
+  go : (b : Bool) → (one.step.ruling.status == 200) ≡ b → Some saved ≡ (if b then option_map {U = Brought} (λ contents. (one.step.ruling.version, contents)) (brought_by one.step.call.act) else None) → one.step.ruling.status ≡ 200
+  go true test is = eqb-true one.step.ruling.status 200 test
+  go false test is = absurd (cc (is))
+
 -- true or false
 either : (b : Bool) (P : Type 0) → (b ≡ true → P) → (b ≡ false → P) → P
 either true P there away = there refl
@@ -116,6 +129,19 @@ module _ {F L : Type 0} where
   begun_doubt : (i : Inside F L) (one : Asked) → IsLogged i → i.begun ≡ Some one → i.lines.lost ≡ true → (i.missing ≡ []) × IsOf one i.lines.doubt
   begun_doubt i one inv is lost = subst (λ (b : Option Asked). IsDoubt b i.missing i.lines.doubt) is (inv.doubt_is lost)
 
+  -- an entry at whose end the log was lost is no save that was accepted
+  pub missing_bare : (i : Inside F L) (lost : Bool) (ruling : Ruling) (one : Asked) → IsLogged i → option_map brought_as i.saved ≡ saved_in (ruled ruling one)
+      → (i.lines.lost ≡ false → is_some i.lines.standing ≡ true → ruling.status ≡ 200 → lost ≡ false) → lost ≡ true → accepted_contents (ruled_as false ruling one) ≡ None
+  missing_bare i lost ruling one inv kept settled is = go i.saved refl
+    where
+      go : (s : Option Saved) → i.saved ≡ s → accepted_contents (ruled_as false ruling one) ≡ None
+      go None none = nothing_accepted (ruled ruling one) (sym kept ∙ ap (λ (o : Option Saved). option_map brought_as o) none)
+      go (Some saved) some =
+          let there : is_some i.saved ≡ true = ap (λ (o : Option Saved). is_some o) some in
+          let fine : i.lines.lost ≡ false = inv.safe there in
+          let status : ruling.status ≡ 200 = saved_status (ruled ruling one) (brought_as saved) (sym (ap (λ (o : Option Saved). option_map brought_as o) some) ∙ kept) in
+          absurd (cc (is, settled fine (inv.stands fine there) status))
+
   -- a call was begun
   pub begun_logged : (i : Inside F L) (one : Asked) → IsLogged i → i.begun ≡ None → (i.lines.lost || i.spent) ≡ false → IsLogged (record i { begun = Some one; saved = None })
   begun_logged i one inv none going =
@@ -126,6 +152,8 @@ module _ {F L : Type 0} where
         doubt_is = λ lost. absurd (cc (fine, lost));
         ahead = λ some. let (other, is, stored, stands) = inv.ahead some in absurd (cc (is, none));
         stands = λ _ some. absurd (cc (some));
+        safe = λ some. absurd (cc (some));
+        unsaved = inv.unsaved;
         refusals = inv.refusals;
         number = inv.number;
         few = inv.few;
@@ -138,14 +166,16 @@ module _ {F L : Type 0} where
 
   -- the log was lost, and a call failed for that
   pub refused_logged : (i : Inside F L) (lines : LinesView) (refused : ℕ) (one : Asked) → IsLogged i → i.begun ≡ Some one → lines.told ≡ i.lines.told → GoesOn i.lines lines → lines.lost ≡ true
-      → lines.standing ≡ None → (i.lines.lost ≡ false → IsOf one lines.doubt) → (i.lines.lost ≡ true → lines.doubt ≡ i.lines.doubt) → IsLogged (record i { lines = lines; refused = refused })
-  refused_logged i lines refused one inv is same goes lost free at still = record {
+      → lines.standing ≡ None → (i.lines.lost ≡ false → IsOf one lines.doubt) → (i.lines.lost ≡ true → lines.doubt ≡ i.lines.doubt) → i.saved ≡ None → IsLogged (record i { lines = lines; refused = refused })
+  refused_logged i lines refused one inv is same goes lost free at still none = record {
     told = λ fine. absurd (cc (fine, lost));
     doubt_is = λ _. either i.lines.lost (IsDoubt i.begun i.missing lines.doubt)
         (λ was. doubt_same i.begun i.missing i.lines.doubt lines.doubt (still was) (inv.doubt_is was))
         (λ fine. doubt_begun i.begun one i.missing lines.doubt is (inv.told fine) (at fine));
     ahead = λ some. none_stands lines.standing _ free some;
     stands = λ fine. absurd (cc (fine, lost));
+    safe = λ some. none_stands i.saved _ none some;
+    unsaved = inv.unsaved;
     refusals = λ fine. absurd (cc (fine, lost));
     number = as_many i lines.told same inv;
     few = inv.few;
@@ -165,6 +195,8 @@ module _ {F L : Type 0} where
     doubt_is = λ lost. absurd (cc (going, lost));
     ahead = λ _. (one, is, stored, stands);
     stands = λ _ _. ap (λ (o : Option Made). is_some o) stands;
+    safe = λ _. going;
+    unsaved = inv.unsaved;
     refusals = λ fine. inv.refusals (goes.lost fine);
     number = as_many i lines.told same inv;
     few = inv.few;
@@ -185,6 +217,8 @@ module _ {F L : Type 0} where
         doubt_is = λ lost. absurd (cc (going, lost));
         ahead = λ _. (one, is, stored, stands ∙ ap (λ (v : Option ℕ). Some (ruled (accepted v) one)) version);
         stands = λ _ some. none_stands i.saved _ none some;
+        safe = λ some. none_stands i.saved _ none some;
+        unsaved = inv.unsaved;
         refusals = λ fine. inv.refusals (goes.lost fine);
         number = as_many i lines.told same inv;
         few = inv.few;
@@ -204,6 +238,8 @@ module _ {F L : Type 0} where
     doubt_is = λ lost. doubt_begun i.begun one i.missing lines.doubt is (inv.told (goes.lost going)) (ruling, at lost ∙ stood);
     ahead = λ some. none_stands lines.standing _ free some;
     stands = λ _ some. none_stands i.saved _ none some;
+    safe = λ some. none_stands i.saved _ none some;
+    unsaved = inv.unsaved;
     refusals = λ fine. inv.refusals (goes.lost (goes'.lost fine));
     number = as_many i lines.told (same' ∙ same) inv;
     few = inv.few;
@@ -224,6 +260,8 @@ module _ {F L : Type 0} where
         (λ fine. subst (λ (l : List Made). IsDoubt None l lines.doubt) (sym (inv.told fine)) tt);
     ahead = λ some. none_stands lines.standing _ free some;
     stands = λ _ some. absurd (cc (some));
+    safe = λ some. absurd (cc (some));
+    unsaved = inv.unsaved;
     refusals = λ fine. inv.refusals (goes.lost fine);
     number = as_many i lines.told same inv;
     few = inv.few;
@@ -240,8 +278,9 @@ module _ {F L : Type 0} where
       → (lines.lost ≡ false → lines.told ≡ i.lines.told ++ ruled_as (not spent) ruling one ∷ []) → (lines.lost ≡ true → lines.told ≡ i.lines.told) → (lines.lost ≡ false → missing ≡ [])
       → (lines.lost ≡ true → missing ≡ i.missing ++ ruled_as false ruling one ∷ []) → (i.lines.lost ≡ false → lines.lost ≡ true → IsOf one lines.doubt)
       → (i.lines.lost ≡ true → lines.doubt ≡ i.lines.doubt) → lines.standing ≡ None → count ≡ i.count + 1 → spent ≡ (count == 4611686018427387904)
+      → (lines.lost ≡ true → accepted_contents (ruled_as false ruling one) ≡ None)
       → IsLogged (record i { lines = lines; missing = missing; count = count; begun = begun; saved = None; spent = spent })
-  ended_logged i lines missing count spent begun ruling one inv over is goes more told stays present late at still free next test =
+  ended_logged i lines missing count spent begun ruling one inv over is goes more told stays present late at still free next test bare =
       let long : length (lines.told ++ missing) ≡ length (i.lines.told ++ i.missing) + 1 =
       ap (λ (l : List Made). length l) more ∙ length-append (i.lines.told ++ i.missing) (ruled_as (not lines.lost && not spent) ruling one ∷ []) in
       let room : i.count < 2 ^ 62 = inv.room (ap (λ (b : Option Asked). is_some b) is) in
@@ -255,6 +294,10 @@ module _ {F L : Type 0} where
             (λ fine. doubt_ended ruling one i.missing missing lines.doubt (inv.told fine) (late lost) (at fine lost)));
         ahead = λ some. none_stands lines.standing _ free some;
         stands = λ _ some. absurd (cc (some));
+        safe = λ some. absurd (cc (some));
+        unsaved = either lines.lost (AreUnsaved missing)
+            (λ lost. subst AreUnsaved (sym (late lost)) (one_more i.missing (ruled_as false ruling one) inv.unsaved (bare lost)))
+            (λ fine. subst AreUnsaved (sym (present fine)) tt);
         refusals = λ fine. inv.refusals (goes.lost fine);
         number = omega (arith, next, number, long);
         few = few;
@@ -308,6 +351,7 @@ module _ {F L : Type 0} where
         kept = first.1;
         fine = neither_first i.lines.lost i.spent;
         whole = inv.told;
+        unsaved = inv.unsaved;
         refusals = inv.refusals;
         front = subst (λ (h : Option (List ℕ)). IsFront i.lines.start h) (sym same) (front_of i.lines are);
         told = λ fine none. told_log i held synced inv are same reached fine none;

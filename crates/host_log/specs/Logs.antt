@@ -1,9 +1,10 @@
 -- A folder beside a log as the definitions see it.
 use Rattle.std.specs.Prelude.{◌≡◌, ◌≤◌, ◌<◌, ◌^◌, ◌||◌, ⊤, Bool, true, false, ℕ, List, [], ◌∷◌, ◌++◌, length, Option, None, Some, is_some, option_map}
+use Rattle.std.specs.List.{AllByRecursion}
 use Rattle.wopi_model.specs.Act.{is_stored}
 use Rattle.wopi_model.specs.Begin.{new_life}
 use Rattle.wopi_model.specs.Shard.{Entry, Opening}
-use Rattle.host_core.specs.Entries.{Asked, Made, asked_in, ruled, told_of}
+use Rattle.host_core.specs.Entries.{Asked, Made, accepted_contents, asked_in, ruled, told_of}
 use Rattle.outside.specs.Faults.{Rose}
 use Rattle.outside.specs.Log.{IsFront}
 use Rattle.host_core.specs.Notes.{Notes, Brought, LogStart, accepted, opening_listed, told_version}
@@ -81,12 +82,18 @@ pub record AreToldFirst (count : ℕ) (told missing : List Made) : Type 0 where
   pub first : steps_of told ≡ told_of told ++ rest
   pub none : told_of missing ≡ []
 
+-- none of these is a save that was accepted
+abbrev pub AreUnsaved : List Made → Type 0
+AreUnsaved made = AllByRecursion (λ one. accepted_contents one ≡ None) made
+
 -- Unless the log is lost each entry was told, and the line of what was saved stands. What was appended first is what was opened.
 pub record IsLogged {F L : Type 0} (l : Inside F L) : Type 0 where
   pub told : l.lines.lost ≡ false → l.missing ≡ []
   pub doubt_is : l.lines.lost ≡ true → IsDoubt l.begun l.missing l.lines.doubt
   pub ahead : MayStand l.begun (option_map brought_as l.saved) l.lines.standing
   pub stands : l.lines.lost ≡ false → is_some l.saved ≡ true → is_some l.lines.standing ≡ true
+  pub safe : is_some l.saved ≡ true → l.lines.lost ≡ false
+  pub unsaved : AreUnsaved l.missing
   pub refusals : l.lines.lost ≡ false → l.refused ≡ 0
   pub number : l.count ≡ length (l.lines.told ++ l.missing)
   pub few : l.count ≤ 2 ^ 62
@@ -111,6 +118,7 @@ pub record HasEnded {F : Type 0} (v : LogView F) (folder : F) (held synced : Opt
   pub kept : steps_of v.lines.told ≡ told_of v.notes.made ++ rest
   pub fine : v.lost ≡ false → v.lines.lost ≡ false
   pub whole : v.lines.lost ≡ false → v.missing ≡ []
+  pub unsaved : AreUnsaved v.missing
   pub refusals : v.lines.lost ≡ false → v.refused ≡ 0
   pub front : IsFront v.lines.start held
   pub told : v.lines.lost ≡ false → v.notes.begun ≡ None → IsLog v.lines.start held synced v.lines.head v.notes.made []

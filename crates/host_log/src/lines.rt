@@ -327,6 +327,7 @@ impl<L: Log> Lines<L> {
         ensures told { self.new.lost ≡ false → self.new.told ≡ self.old.told ++ ruled_as is_told ruling.now begun.now ∷ [] }
         ensures lost { self.new.lost ≡ true → self.new.told ≡ self.old.told }
         ensures doubt { self.new.lost ≡ true → IsOf begun.now self.new.doubt }
+        ensures settled { is_some self.old.standing ≡ true → ruling.now.status ≡ 200 → self.new.lost ≡ false }
         ensures free { self.new.standing ≡ None }
         ensures goes_on { GoesOn self.old self.new }
     {

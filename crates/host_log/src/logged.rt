@@ -126,6 +126,7 @@ fn conclude<L: Log>(
     ensures late { lines.new.lost ≡ true → missing.new ≡ missing.old ++ ruled_as false ruling.now begun.now ∷ [] }
     ensures doubt { lines.old.lost ≡ false → lines.new.lost ≡ true → IsOf begun.now lines.new.doubt }
     ensures still { lines.old.lost ≡ true → lines.new.doubt ≡ lines.old.doubt }
+    ensures settled { lines.old.lost ≡ false → is_some lines.old.standing ≡ true → ruling.now.status ≡ 200 → lines.new.lost ≡ false }
     ensures free { lines.new.standing ≡ None }
     ensures goes_on { GoesOn lines.old lines.new }
 {
@@ -221,7 +222,9 @@ impl<F: Folder, L: Log> Logged<F, L> {
 }
 
 impl<F: Folder, L: Log> Store for Logged<F, L> {
-    ghost use Rattle.std.specs.Prelude.{◌+◌, true};
+    ghost use Rattle.std.specs.Prelude.{◌+◌, ◌⊎◌, Err, IsErrOf, true};
+    ghost use Rattle.outside.specs.Folder.{Keeps, OpensOnly, Removes, Replaces};
+    ghost use Rattle.host_core.specs.Notes.{IsBegunToRemove, IsBegunWith, StaysNoted};
     ghost use Rattle.std.proofs.Common.{refl};
 
     ghost files = { λ logged. F.files logged.folder };
@@ -288,7 +291,23 @@ impl<F: Folder, L: Log> Store for Logged<F, L> {
         name: &str,
         contents: &mut Bytes,
         _former: Option<&Contents>,
-    ) -> Result<Contents, OutFault> {
+    ) -> Result<Contents, OutFault>
+        requires begun { IsBegunWith self.old.notes name.now contents.old }
+        ensures live { IfOk result (λ live. live ≡ contents.old) }
+        ensures back { OnErr result (contents.new ≡ contents.old) }
+        ensures replaced { OnOk result (Replaces (F.files self.old.folder) (F.files self.new.folder) name.now contents.old) }
+        ensures torn { OpensOnly (F.files self.old.folder) (F.files self.new.folder) name.now }
+        ensures memory { result ≡ Err OutFault.Memory → Keeps (F.files self.old.folder) (F.files self.new.folder) }
+        ensures never_falls { F.faults self.old.folder + self.old.refused ≤ F.faults self.new.folder + self.new.refused }
+        ensures failed { IsErrOf result OutFault.Failed → Rose (F.faults self.old.folder + self.old.refused) (F.faults self.new.folder + self.new.refused) }
+        ensures saved { OnOk result (self.new.notes.saved ≡ Some (Some version, contents.old)) }
+        ensures unsaved { OnErr result (self.new.notes.saved ≡ self.old.notes.saved) }
+        ensures noted { StaysNoted self.old.notes self.new.notes }
+
+        // The line stands, and is synced, before the folder is asked.
+        ensures ahead { OnOk result (is_some self.new.lines.standing ≡ true) }
+        ensures behind { OnErr result (Rose (F.faults self.old.folder) (F.faults self.new.folder) ⊎ Keeps (F.files self.old.folder) (F.files self.new.folder)) }
+    {
         let Some(begun) = &self.begun else {
             unreachable!()
         };
@@ -320,7 +339,18 @@ impl<F: Folder, L: Log> Store for Logged<F, L> {
         }
     }
 
-    fn clear(&mut self, name: &str) -> Result<(), Failed> {
+    fn clear(&mut self, name: &str) -> Result<(), Failed>
+        requires begun { IsBegunToRemove self.old.notes name.now }
+        ensures removed { OnOk result (Removes (F.files self.old.folder) (F.files self.new.folder) name.now) }
+        ensures torn { OpensOnly (F.files self.old.folder) (F.files self.new.folder) name.now }
+        ensures never_falls { F.faults self.old.folder + self.old.refused ≤ F.faults self.new.folder + self.new.refused }
+        ensures failed { OnErr result (Rose (F.faults self.old.folder + self.old.refused) (F.faults self.new.folder + self.new.refused)) }
+        ensures notes { self.new.notes ≡ self.old.notes }
+
+        // So it does here.
+        ensures ahead { OnOk result (is_some self.new.lines.standing ≡ true) }
+        ensures behind { OnErr result (Rose (F.faults self.old.folder) (F.faults self.new.folder) ⊎ Keeps (F.files self.old.folder) (F.files self.new.folder)) }
+    {
         let Some(begun) = &self.begun else {
             unreachable!()
         };

@@ -4,7 +4,7 @@ use Rattle.host_core.specs.Entries.{Asked, ruled}
 use Rattle.host_core.specs.Notes.{IsToldAhead, accepted, saved_in, told_version}
 use Rattle.host_log.specs.declared.logged.Saved.{Saved}
 use Rattle.host_log.specs.Logs.{LogView, brought_as}
-use Rattle.host_log.proofs.Keeping.{ended_logged, ended_made, nothing_saved, own_standing}
+use Rattle.host_log.proofs.Keeping.{ended_logged, ended_made, missing_bare, nothing_saved, own_standing}
 use Rattle.host_log.proofs.Noting.{nothing_accepted}
 use Rattle.host_log.proofs.logged.LoggedStore.end.Goals as goal
 
@@ -35,9 +35,15 @@ conclude-requires-clause-bare g c = λ fine none.
 pub invariant_of-self : goal.invariant_of-self
 invariant_of-self g c =
     let begun : c.self.inside.begun ≡ Some c.in-Some.begun = sym c.in-Some.ensures.value in
+    let (one, is, kept) = c.requires.begun in
+    let was : c.self.inside.begun ≡ Some one = ap (λ (v : LogView _). v.notes.begun) c.self.view_is ∙ is in
+    let same : one ≡ c.in-Some.begun = cc (was, begun) in
+    let here : option_map brought_as c.self.inside.saved ≡ saved_in (ruled c.args.ruling.now one) = ap (λ (v : LogView _). v.notes.saved) c.self.view_is ∙ kept in
+    let saves : option_map brought_as c.self.inside.saved ≡ saved_in (ruled c.args.ruling.now c.in-Some.begun) = here ∙ ap (λ (a : Asked). saved_in (ruled c.args.ruling.now a)) same in
     ended_logged c.self.inside c.conclude.new.lines c.conclude.new.missing _ _ _ c.args.ruling.now c.in-Some.begun c.self.invariant c.replace.ensures.after begun
     c.conclude.ensures.goes_on c.conclude.ensures.made c.conclude.ensures.told c.conclude.ensures.stays c.conclude.ensures.present c.conclude.ensures.late c.conclude.ensures.doubt c.conclude.ensures.still
     c.conclude.ensures.free refl refl
+    (missing_bare c.self.inside c.conclude.new.lines.lost c.args.ruling.now c.in-Some.begun c.self.invariant saves c.conclude.ensures.settled)
 
 pub returns-clause-made : goal.returns-clause-made
 returns-clause-made g c = λ one is.

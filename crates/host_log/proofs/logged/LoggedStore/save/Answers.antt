@@ -18,8 +18,10 @@ stand_ahead-requires-clause-contents g c =
 
 pub invariant_of-self : goal.invariant_of-self
 invariant_of-self g c =
+    let (one, is, none, name, act) = c.requires.begun in
+    let nothing = unsaved c.self.inside.saved (ap (λ (v : LogView _). v.notes.saved) c.self.view_is ∙ none) in
     refused_logged c.self.inside c.stand_ahead.new.lines _ c.in-Some.begun c.self.invariant c.in-Some.is c.stand_ahead.ensures.told c.stand_ahead.ensures.goes_on c.in-Err.ensures.lost
-    c.in-Err.ensures.free c.in-Err.ensures.doubt c.stand_ahead.ensures.still
+    c.in-Err.ensures.free c.in-Err.ensures.doubt c.stand_ahead.ensures.still nothing
 
 pub invariant_of-self-in-Ok-replace : goal.invariant_of-self-in-Ok-replace
 invariant_of-self-in-Ok-replace g c =
