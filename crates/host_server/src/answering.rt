@@ -38,33 +38,38 @@ fn lock_copied(lock: &Option<LockId>) -> Option<LockId>
     ensures { result ≡ lock.now }
 {
     match lock {
-        Some(id) => Some(id.copy()),
-        None => None,
+        Some(id) => return Some(id.copy()),
+        None => return None,
     }
 }
 
-/// The act of an operation, which is no PutRelativeFile, with the request's body.
+/// The act of an operation, which is no PutRelativeFile, with the request's body. Each arm gives its own, since a value in
+/// which arms meet is moved once more.
 fn act_of(op: &Op, body: Bytes) -> Act
     requires { is_copy op.now ≡ false }
     ensures { act_of op.now body ≡ Some result }
 {
     match op {
-        Op::Info => Act::Info,
-        Op::Get { most } => Act::Get { most: *most },
-        Op::Put { lock } => Act::Put {
-            lock: lock_copied(lock),
-            contents: body,
-        },
-        Op::Lock { id } => Act::Lock { id: id.copy() },
-        Op::GetLock => Act::GetLock,
-        Op::Refresh { id } => Act::Refresh { id: id.copy() },
-        Op::Unlock { id } => Act::Unlock { id: id.copy() },
-        Op::Relock { old, id } => Act::Relock {
-            old: old.copy(),
-            id: id.copy(),
-        },
+        Op::Info => return Act::Info,
+        Op::Get { most } => return Act::Get { most: *most },
+        Op::Put { lock } => {
+            return Act::Put {
+                lock: lock_copied(lock),
+                contents: body,
+            };
+        }
+        Op::Lock { id } => return Act::Lock { id: id.copy() },
+        Op::GetLock => return Act::GetLock,
+        Op::Refresh { id } => return Act::Refresh { id: id.copy() },
+        Op::Unlock { id } => return Act::Unlock { id: id.copy() },
+        Op::Relock { old, id } => {
+            return Act::Relock {
+                old: old.copy(),
+                id: id.copy(),
+            };
+        }
         Op::PutRelative { target: _ } => unreachable!(),
-        Op::Delete => Act::Delete,
+        Op::Delete => return Act::Delete,
     }
 }
 

@@ -1,5 +1,5 @@
 //! Pieces of text on their way to a sink: they are gathered, and written in large pieces. It takes no memory.
-ghost use Rattle.std.specs.Prelude.{◌≡◌, ◌≤◌, ◌+◌, ◌++◌, [], OnErr, OnOk, decimal, length, true, vec_len};
+ghost use Rattle.std.specs.Prelude.{◌≡◌, ◌≤◌, ◌+◌, ◌++◌, ◌∷◌, [], OnErr, OnOk, decimal, length, true, vec_len};
 ghost use Rattle.std.specs.List.{flat_map};
 ghost use Rattle.hex.specs.Hex.{encode_lower};
 ghost use Rattle.outside.specs.Faults.{Rose};
@@ -78,6 +78,31 @@ fn put<K: Sink>(sink: &mut K, room: &mut WriteRoom, text: &[u8]) -> Result<(), F
     send_behind(sink, room, text)
 }
 
+/// Gathers a byte that there is room for.
+fn gather_byte(room: &mut WriteRoom, byte: u8)
+    requires { vec_len room.old.bytes + 1 ≤ 65536 }
+    ensures { room.new.bytes.items ≡ room.old.bytes.items ++ byte ∷ [] }
+{
+    match room.bytes.push(byte) {
+        Ok(()) => {}
+        Err(_) => unreachable!(),
+    }
+}
+
+/// Gathers a byte, or writes it where there is no room for it.
+fn put_byte<K: Sink>(sink: &mut K, room: &mut WriteRoom, byte: u8) -> Result<(), Failed>
+    ensures bytes { Gathers (K.held sink.old) (K.held sink.new) room.old.bytes.items room.new.bytes.items result (byte ∷ []) }
+    ensures beside { K.beside_writes sink.new ≡ K.beside_writes sink.old }
+    ensures never_falls { K.write_faults sink.old ≤ K.write_faults sink.new }
+    ensures failed { OnErr result (Rose (K.write_faults sink.old) (K.write_faults sink.new)) }
+{
+    if room.bytes.len() < PIECE {
+        gather_byte(room, byte);
+        return Ok(());
+    }
+    send_behind(sink, room, &[byte])
+}
+
 /// Puts a number in decimal.
 fn put_number<K: Sink>(sink: &mut K, room: &mut WriteRoom, number: u64) -> Result<(), Failed>
     ensures bytes { Gathers (K.held sink.old) (K.held sink.new) room.old.bytes.items room.new.bytes.items result (decimal number) }
@@ -87,6 +112,26 @@ fn put_number<K: Sink>(sink: &mut K, room: &mut WriteRoom, number: u64) -> Resul
 {
     let mut buffer = Buffer::new();
     put(sink, room, buffer.format(number).as_bytes())
+}
+
+/// How many bytes are few, as those of most names and lock ids. Their digits have a place of their own, since a place is
+/// cleared whole.
+const FEW: usize = 64;
+
+/// Puts few bytes in hex.
+fn put_few<K: Sink>(sink: &mut K, room: &mut WriteRoom, bytes: &[u8]) -> Result<(), Failed>
+    requires { length bytes.now ≤ 64 }
+    ensures bytes { Gathers (K.held sink.old) (K.held sink.new) room.old.bytes.items room.new.bytes.items result (encode_lower bytes.now) }
+    ensures beside { K.beside_writes sink.new ≡ K.beside_writes sink.old }
+    ensures never_falls { K.write_faults sink.old ≤ K.write_faults sink.new }
+    ensures failed { OnErr result (Rose (K.write_faults sink.old) (K.write_faults sink.new)) }
+{
+    let mut digits = [0u8; 2 * FEW];
+    let text = &mut digits[..2 * bytes.len()];
+    match hex::encode_to_slice(bytes, text) {
+        Ok(()) => return put(sink, room, text),
+        Err(_) => unreachable!(),
+    }
 }
 
 /// How many bytes are turned into hex at a time.
@@ -115,6 +160,9 @@ fn put_hex<K: Sink>(sink: &mut K, room: &mut WriteRoom, bytes: &[u8]) -> Result<
     ensures never_falls { K.write_faults sink.old ≤ K.write_faults sink.new }
     ensures failed { OnErr result (Rose (K.write_faults sink.old) (K.write_faults sink.new)) }
 {
+    if bytes.len() <= FEW {
+        return put_few(sink, room, bytes);
+    }
     let mut rest = bytes;
     'steps: while !rest.is_empty() {
         let (step, more) = rest.split_at(rest.len().min(STEP));
@@ -128,6 +176,7 @@ fn put_hex<K: Sink>(sink: &mut K, room: &mut WriteRoom, bytes: &[u8]) -> Result<
 }
 
 /// Puts a piece of a line.
+#[tactic(auto, using(crate::proofs::WritingLemmas::gathered_nil))]
 fn put_piece<K: Sink>(sink: &mut K, room: &mut WriteRoom, piece: Piece<'_>) -> Result<(), Failed>
     ensures bytes { Gathers (K.held sink.old) (K.held sink.new) room.old.bytes.items room.new.bytes.items result (piece_text piece.entry) }
     ensures beside { K.beside_writes sink.new ≡ K.beside_writes sink.old }
@@ -135,10 +184,10 @@ fn put_piece<K: Sink>(sink: &mut K, room: &mut WriteRoom, piece: Piece<'_>) -> R
     ensures failed { OnErr result (Rose (K.write_faults sink.old) (K.write_faults sink.new)) }
 {
     match piece {
-        Piece::Nothing => put(sink, room, b""),
-        Piece::Space => put(sink, room, b" "),
-        Piece::Period => put(sink, room, b"."),
-        Piece::LineFeed => put(sink, room, b"\n"),
+        Piece::Nothing => Ok(()),
+        Piece::Space => put_byte(sink, room, b' '),
+        Piece::Period => put_byte(sink, room, b'.'),
+        Piece::LineFeed => put_byte(sink, room, b'\n'),
         Piece::Text(text) => put(sink, room, text),
         Piece::Number(number) => put_number(sink, room, number),
         Piece::Hex(bytes) => put_hex(sink, room, bytes),
