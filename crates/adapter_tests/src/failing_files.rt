@@ -1,5 +1,5 @@
-// A file system that stops after some steps, as at a crash: from then on each call fails with the
-// same fault, and the write that is cut leaves half of its bytes. Each folder begins with some names
+// A file system that stops after some steps, as at a crash or where a disk is full: from then on each call fails with
+// the same fault. A write that is cut takes half of its bytes, and the next one fails. Each folder begins with some names
 // more.
 use std::alloc::Allocator;
 use std::cell::Cell;
@@ -30,6 +30,8 @@ pub struct StoppingFile<'a, F> {
     file: F,
     left: &'a Cell<u32>,
     fault: ErrorKind,
+    // Whether a write of it was cut.
+    cut: bool,
 }
 
 #[derive(Drop)]
@@ -59,11 +61,14 @@ impl<'a, F: Read> Read for StoppingFile<'a, F> {
 
 impl<'a, F: Write> Write for StoppingFile<'a, F> {
     fn write(&mut self, buf: &[u8]) -> io::Result<usize> {
-        if let Err(error) = step(self.left, self.fault) {
-            let _cut = self.file.write(&buf[..buf.len() / 2]);
+        let Err(error) = step(self.left, self.fault) else {
+            return self.file.write(buf);
+        };
+        if self.cut || buf.len() < 2 {
             return Err(error);
         }
-        self.file.write(buf)
+        self.cut = true;
+        self.file.write(&buf[..buf.len() / 2])
     }
 
     fn flush(&mut self) -> io::Result<()> {
@@ -92,6 +97,7 @@ impl<'a, F: OpenFile> OpenFile for StoppingFile<'a, F> {
     }
 
     fn sync_data(&self) -> io::Result<()> {
+        step(self.left, self.fault)?;
         self.file.sync_data()
     }
 
@@ -112,6 +118,7 @@ impl<'a, R: Files> Files for Stopping<'a, R> {
             file: self.rt.open_file(how, path)?,
             left: self.left,
             fault: self.fault,
+            cut: false,
         })
     }
 

@@ -1,2 +1,3 @@
 pub mod ListenerLemmas
+pub mod LogLemmas
 pub mod Sorted

@@ -1,9 +1,11 @@
 //! A log in a file of the file system.
-ghost use Rattle.std.specs.Prelude.{◌≡◌, ◌≤◌, option_map};
+ghost use Rattle.std.specs.Prelude.{◌≡◌, ◌≤◌, IfOk, IfSome, IsTrue, option_map, string_bytes};
+ghost use Rattle.std.specs.Fs.{asks_append, asks_create_new};
 ghost use Rattle.outside.specs.Faults.{Rose};
 
-use crate::directory::sync_folder;
+use crate::directory::{Cause, sync_folder};
 use outside::{Failed, Log, Sink};
+use std::alloc::Global;
 use std::fs::{OpenFile, OpenOptions};
 use std::io::{self, ErrorKind, Write};
 use std::rt::Files;
@@ -15,33 +17,74 @@ use std::rt::Files;
 #[derive(Drop)]
 pub struct FileLog<F> {
     file: F,
+    path: String,
     faults: u64,
     // What the last fault was.
     cause: Option<io::Error>,
 }
 
-/// Opens the file at a path in that folder, or makes one, which lasts from then on.
-pub fn open_log<R: Files>(rt: &R, folder: &str, path: &str) -> io::Result<FileLog<R::File>> {
-    let mut how = OpenOptions::new();
-    let _how = how.append(true).create(true);
-    let file = how.open(rt, path)?;
+/// The plain file at a path, opened so.
+fn opened<R: Files>(rt: &R, how: &OpenOptions, path: String) -> io::Result<FileLog<R::File>>
+    ensures { IfOk result (λ log. string_bytes log.path ≡ string_bytes path) }
+{
+    let file = how.open(rt, path.as_str())?;
     if !file.metadata()?.is_file() {
         return Err(io::Error::from(ErrorKind::InvalidInput));
     }
-    sync_folder(rt, folder)?;
     Ok(FileLog {
         file,
+        path,
         faults: 0,
         cause: None,
     })
 }
 
+/// Opens the file at a path in that folder, or makes one, which lasts from then on.
+pub fn open_log<R: Files>(
+    alloc: Global,
+    rt: &R,
+    folder: &str,
+    path: &str,
+) -> io::Result<FileLog<R::File>>
+    ensures { IfOk result (λ log. string_bytes log.path ≡ path.now) }
+{
+    let mut how = OpenOptions::new();
+    let _how = how.append(true).create(true);
+    let log = opened(rt, &how, String::from_str(alloc, path)?)?;
+    sync_folder(rt, folder)?;
+    Ok(log)
+}
+
+/// How a file is opened that is made anew and appended to.
+fn anew() -> OpenOptions
+    ensures new { IsTrue (asks_create_new result) }
+    ensures appended { IsTrue (asks_append result) }
+{
+    let mut how = OpenOptions::new();
+    let _how = how.append(true).create_new(true);
+    how
+}
+
+/// Makes a file at a path, where nothing may be. It is yet to be made last.
+pub(crate) fn new_log<R: Files>(rt: &R, path: String) -> io::Result<FileLog<R::File>>
+    ensures { IfOk result (λ log. string_bytes log.path ≡ string_bytes path) }
+{
+    opened(rt, &anew(), path)
+}
+
 impl<F> FileLog<F> {
     /// Why the last call that failed did.
-    pub fn cause(&self) -> Option<io::Error>
-        ensures { result ≡ self.now.cause }
+    pub fn cause(&self) -> Option<Cause<'_>>
+        ensures error { option_map (λ cause. cause.error) result ≡ self.now.cause }
+        ensures path { IfSome result (λ cause. cause.path.now ≡ string_bytes self.now.path) }
     {
-        self.cause
+        match self.cause {
+            Some(error) => Some(Cause {
+                path: self.path.as_str(),
+                error,
+            }),
+            None => None,
+        }
     }
 
     // Counts a fault.

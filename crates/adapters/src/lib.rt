@@ -6,12 +6,14 @@
 
 mod appending;
 mod closing;
+mod closing_log;
 mod dialer;
 mod directory;
 mod door;
 mod limits;
 mod link;
 mod listener;
+mod log_folder;
 mod reading;
 mod sharing;
 mod standard;
@@ -21,13 +23,17 @@ mod turns;
 mod wire;
 
 pub use appending::{FileLog, open_log};
+pub use closing_log::ClosingLog;
 pub use dialer::TcpDialer;
 pub use directory::{Cause, DirFolder, LastRead};
 pub use door::{Door, pause_after};
 pub use limits::{Limits, is_too_silent, is_too_slow};
 pub use link::TcpLink;
 pub use listener::TcpListen;
+pub use log_folder::{HeldLogs, Unopened, new_logs, next_logs, open_logs};
 pub use sharing::{Ready, SharedListener, SharedSocket, bind, close_at_byte, close_later, share};
 pub use standard::{StdSink, StdSource, SystemClock};
 pub use stopping::{CloseAll, StopListener, no_path, path_of, stop_path, until_stopped, wake_path};
-pub use telling::{cause_line, folder_line, ready_line, size_line, too_large_line};
+pub use telling::{
+    cause_line, folder_line, log_line, ready_line, size_line, too_large_line, unopened_line,
+};

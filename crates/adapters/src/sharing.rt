@@ -87,6 +87,12 @@ pub fn bind<R: Net<Stream = TcpStream, Listener = TcpListener>>(
     }
 }
 
+impl CloseAll for Arc<SharedSocket, Global> {
+    fn close_all(&self) {
+        self.close();
+    }
+}
+
 // The right to take links. The last that is given up closes the socket.
 struct Taker {
     socket: Arc<SharedSocket, Global>,

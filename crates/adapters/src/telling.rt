@@ -2,7 +2,11 @@
 ghost use Rattle.std.specs.Prelude.{◌≡◌, ◌++◌, IfOk, codes, string_bytes};
 ghost use Rattle.adapters.specs.Telling.{limit_text, size_text};
 
+use crate::appending::FileLog;
+use crate::closing_log::ClosingLog;
 use crate::directory::DirFolder;
+use crate::log_folder::Unopened;
+use crate::stopping::CloseAll;
 use std::alloc::Global;
 use std::fs::Files;
 use std::io;
@@ -25,6 +29,34 @@ pub fn folder_line<R: Files>(
         }
     }
     Ok(None)
+}
+
+/// That of the first log that failed.
+pub fn log_line<F, H: CloseAll + Drop>(
+    alloc: Global,
+    logs: &[ClosingLog<FileLog<F>, H>],
+) -> Result<Option<String>, Memory> {
+    for log in logs {
+        if let Some(cause) = log.below().cause() {
+            return Ok(Some(cause_line(alloc, cause.path, cause.error)?));
+        }
+    }
+    Ok(None)
+}
+
+/// That of a folder of logs that could not be opened.
+pub fn unopened_line(alloc: Global, folder: &str, why: Unopened) -> Result<String, Memory> {
+    match why {
+        Unopened::Held => {
+            let line = format!(in alloc; "{folder}: another host has this folder\n")?;
+            Ok(line)
+        }
+        Unopened::Files => {
+            let line = format!(in alloc; "{folder}: this is the folder of the files\n")?;
+            Ok(line)
+        }
+        Unopened::Failed(error) => cause_line(alloc, folder, error),
+    }
 }
 
 /// The most bytes of one file of a host: 16 MiB.
