@@ -13,7 +13,7 @@ use Rattle.wopi_text.specs.Ids.{id_of}
 use Rattle.access_tokens.specs.Keys.{bare}
 use Rattle.access_tokens.specs.TokenText.{rights_of}
 use Rattle.command_words.specs.Laws.{GoodFrontsGoOn}
-use Rattle.command_words.specs.Lines.{AllFit, Allows, Fits, IsLine, MayFollow, can_end, is_replay, is_single, next_behind, next_of, next_of_editor, next_of_once, next_of_origin, next_of_serve, next_option, next_value, option_rule, ruled_or, rules_of}
+use Rattle.command_words.specs.Lines.{AllFit, Allows, Fits, IsLine, MayFollow, can_end, is_replay, is_single, next_behind, next_of, next_of_editor, next_of_keep, next_of_options, next_of_once, next_of_origin, next_of_serve, next_option, next_value, option_rule, ruled_or, rules_of}
 use Rattle.command_words.specs.Rules.{Keeps}
 use Rattle.command_words.specs.declared.lines.Next.{Next}
 use Rattle.command_words.specs.declared.lines.Next.TheVariants as next
@@ -68,6 +68,8 @@ sample rule.Journal = 49 ∷ []
 sample rule.Each = 49 ∷ []
 sample rule.First = 49 ∷ []
 sample rule.Links = 49 ∷ []
+sample rule.Ids = 49 ∷ []
+sample rule.Logs = letter
 sample rule.Origin = codes "http://a"
 
 sample_keeps : (r : Rule) → Keeps r (sample r)
@@ -94,6 +96,8 @@ sample_keeps rule.Journal = refl
 sample_keeps rule.Each = refl
 sample_keeps rule.First = refl
 sample_keeps rule.Links = refl
+sample_keeps rule.Ids = refl
+sample_keeps rule.Logs = lit< tt
 sample_keeps rule.Origin = record {
   secure = false;
   host = letter;
@@ -199,28 +203,42 @@ option_kinds [] = inl refl
 option_kinds (name ∷ []) = value_kinds (option_rule name)
 option_kinds (name ∷ value ∷ options) = option_kinds options
 
+keep_kinds : (words : List (List ℕ)) → Kinds (next_of_keep words) (λ v. next_of_keep (words ++ v ∷ []))
+keep_kinds [] = inr (rule.Logs, refl, λ v. refl)
+keep_kinds (logs ∷ words) = option_kinds words
+
+options_kinds : (words : List (List ℕ)) → Kinds (next_of_options words) (λ v. next_of_options (words ++ v ∷ []))
+options_kinds [] = inl refl
+options_kinds (name ∷ words) =
+    elim (bytes_eq name (codes "--keep"))
+    as (λ b. Kinds (if b then next_of_keep words else next_option (name ∷ words))
+    (λ v. if b then next_of_keep (words ++ v ∷ []) else next_option (name ∷ (words ++ v ∷ [])))) [
+      | true ↦ keep_kinds words
+      | false ↦ option_kinds (name ∷ words)
+    ]
+
 origin_kinds : (words : List (List ℕ)) → Kinds (next_of_origin words) (λ v. next_of_origin (words ++ v ∷ []))
 origin_kinds [] = inr (rule.Origin, refl, λ v. refl)
-origin_kinds (origin ∷ words) = option_kinds words
+origin_kinds (origin ∷ words) = options_kinds words
 
 editor_kinds : (words : List (List ℕ)) → Kinds (next_of_editor words) (λ v. next_of_editor (words ++ v ∷ []))
 editor_kinds [] = inl refl
 editor_kinds (name ∷ words) =
     elim (bytes_eq name (codes "--origin"))
-    as (λ b. Kinds (if b then next_of_origin words else next_option (name ∷ words))
-    (λ v. if b then next_of_origin (words ++ v ∷ []) else next_option (name ∷ (words ++ v ∷ [])))) [
+    as (λ b. Kinds (if b then next_of_origin words else next_of_options (name ∷ words))
+    (λ v. if b then next_of_origin (words ++ v ∷ []) else next_of_options (name ∷ (words ++ v ∷ [])))) [
       | true ↦ origin_kinds words
-      | false ↦ option_kinds (name ∷ words)
+      | false ↦ options_kinds (name ∷ words)
     ]
 
 serve_kinds : (words : List (List ℕ)) → Kinds (next_of_serve words) (λ v. next_of_serve (words ++ v ∷ []))
 serve_kinds [] = inl refl
 serve_kinds (word ∷ words) =
     elim (bytes_eq word (codes "--editor"))
-    as (λ b. Kinds (if b then next_of_editor words else next_option (word ∷ words))
-    (λ v. if b then next_of_editor (words ++ v ∷ []) else next_option (word ∷ (words ++ v ∷ [])))) [
+    as (λ b. Kinds (if b then next_of_editor words else next_of_options (word ∷ words))
+    (λ v. if b then next_of_editor (words ++ v ∷ []) else next_of_options (word ∷ (words ++ v ∷ [])))) [
       | true ↦ editor_kinds words
-      | false ↦ option_kinds (word ∷ words)
+      | false ↦ options_kinds (word ∷ words)
     ]
 
 once_kinds : (words : List (List ℕ)) → Kinds (next_of_once words) (λ v. next_of_once (words ++ v ∷ []))

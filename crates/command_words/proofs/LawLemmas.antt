@@ -5,13 +5,13 @@ use Rattle.std.specs.Str.{bytes_eq}
 use Rattle.command_words.specs.declared.around.Around.{Around}
 use Rattle.command_words.specs.declared.options.Kind.{Kind}
 use Rattle.command_words.specs.declared.options.Kind.TheVariants as kind
-use Rattle.command_words.specs.Meaning.{IsAround, IsDefault, MeansBehind, MeansEdit, MeansOf, MeansServe, MeansShort, MeansWhole, kind_of, short_for, origin_words, run_options_of}
+use Rattle.command_words.specs.Meaning.{IsAround, IsDefault, MeansBehind, MeansEdit, MeansOf, MeansServe, MeansShort, MeansWhole, kind_of, short_for, front_words, run_options_of}
 use Rattle.command_words.specs.Options.{is_flag, takes}
 use Rattle.command_words.specs.Parts.{Parts, halved, lacks_value, parted_of}
 use Rattle.command_words.specs.Values.{number_of, text_of}
 use Rattle.command_words.specs.Laws.{AreRunOptions, IsAsBefore, IsPlain, NothingOfBeforeChanges, NothingOfBeforeIsRefused}
 use Rattle.command_words.proofs.OptionLemmas.{not_true, plain_no_flag, plain_untaken, same_bytes}
-use Rattle.command_words.proofs.PartLemmas.{no_origin, no_values, options_halved, options_parted, plain_halved, plain_parted, run_no_flag, run_options_stay, run_taken, second}
+use Rattle.command_words.proofs.PartLemmas.{no_front, no_values, options_halved, options_parted, plain_halved, plain_parted, run_no_flag, run_options_stay, run_taken, second}
 use Rattle.command_words.proofs.PartingSteps.{lacks_place}
 
 abbrev parts_as : List (List ℕ) → List (List ℕ) → Parts
@@ -32,10 +32,10 @@ plain_parts k places plain =
 -- of these options the adapters take nothing
 as_default : (options : List (List ℕ)) (verbose : Bool) (around : Around) → AreRunOptions options → IsAround options verbose around → IsAround [] verbose around
 as_default options verbose around are is = record {
-  listen = subst (λ (l : List (List ℕ)). text_of (codes "127.0.0.1") l ≡ Some (string_bytes around.listen)) (no_values (codes "--listen") refl refl refl refl options are) is.listen;
-  idle = subst (λ (l : List (List ℕ)). number_of 60 l ≡ Some around.idle) (no_values (codes "--idle") refl refl refl refl options are) is.idle;
-  patience = subst (λ (l : List (List ℕ)). number_of 120 l ≡ Some around.patience) (no_values (codes "--patience") refl refl refl refl options are) is.patience;
-  grace = subst (λ (l : List (List ℕ)). number_of 30 l ≡ Some around.grace) (no_values (codes "--grace") refl refl refl refl options are) is.grace;
+  listen = subst (λ (l : List (List ℕ)). text_of (codes "127.0.0.1") l ≡ Some (string_bytes around.listen)) (no_values (codes "--listen") refl refl refl refl refl options are) is.listen;
+  idle = subst (λ (l : List (List ℕ)). number_of 60 l ≡ Some around.idle) (no_values (codes "--idle") refl refl refl refl refl options are) is.idle;
+  patience = subst (λ (l : List (List ℕ)). number_of 120 l ≡ Some around.patience) (no_values (codes "--patience") refl refl refl refl refl options are) is.patience;
+  grace = subst (λ (l : List (List ℕ)). number_of 30 l ≡ Some around.grace) (no_values (codes "--grace") refl refl refl refl refl options are) is.grace;
   verbose_is = is.verbose_is;
 }
 
@@ -64,9 +64,9 @@ abbrev Stays : List (List ℕ) → List (List ℕ) → Around → Type 0
 Stays words meant around = (meant ≡ words) × IsDefault around
 
 -- those options are the words that the program reads itself
-run_words_stay : (places options : List (List ℕ)) → AreRunOptions options → codes "serve" ∷ (places ++ (origin_words options ++ run_options_of options)) ≡ codes "serve" ∷ (places ++ options)
+run_words_stay : (places options : List (List ℕ)) → AreRunOptions options → codes "serve" ∷ (places ++ (front_words options ++ run_options_of options)) ≡ codes "serve" ∷ (places ++ options)
 run_words_stay places options are =
-    ap (λ (l : List (List ℕ)). codes "serve" ∷ (places ++ (l ++ run_options_of options))) (no_origin options are)
+    ap (λ (l : List (List ℕ)). codes "serve" ∷ (places ++ (l ++ run_options_of options))) (no_front options are)
     ∙ ap (λ (l : List (List ℕ)). codes "serve" ∷ (places ++ l)) (run_options_stay options are)
 
 serve_stays : (places options : List (List ℕ)) (meant : List (List ℕ)) (around : Around) → AreRunOptions options → MeansServe (parts_as places options) meant around
@@ -143,10 +143,10 @@ all_lack k places options plain = ap (λ (l : List (List ℕ)). lacks_value k l)
 
 of_default : (options : List (List ℕ)) (around : Around) → AreRunOptions options → IsAround [] false around → IsAround options false around
 of_default options around are is = record {
-  listen = subst (λ (l : List (List ℕ)). text_of (codes "127.0.0.1") l ≡ Some (string_bytes around.listen)) (sym (no_values (codes "--listen") refl refl refl refl options are)) is.listen;
-  idle = subst (λ (l : List (List ℕ)). number_of 60 l ≡ Some around.idle) (sym (no_values (codes "--idle") refl refl refl refl options are)) is.idle;
-  patience = subst (λ (l : List (List ℕ)). number_of 120 l ≡ Some around.patience) (sym (no_values (codes "--patience") refl refl refl refl options are)) is.patience;
-  grace = subst (λ (l : List (List ℕ)). number_of 30 l ≡ Some around.grace) (sym (no_values (codes "--grace") refl refl refl refl options are)) is.grace;
+  listen = subst (λ (l : List (List ℕ)). text_of (codes "127.0.0.1") l ≡ Some (string_bytes around.listen)) (sym (no_values (codes "--listen") refl refl refl refl refl options are)) is.listen;
+  idle = subst (λ (l : List (List ℕ)). number_of 60 l ≡ Some around.idle) (sym (no_values (codes "--idle") refl refl refl refl refl options are)) is.idle;
+  patience = subst (λ (l : List (List ℕ)). number_of 120 l ≡ Some around.patience) (sym (no_values (codes "--patience") refl refl refl refl refl options are)) is.patience;
+  grace = subst (λ (l : List (List ℕ)). number_of 30 l ≡ Some around.grace) (sym (no_values (codes "--grace") refl refl refl refl refl options are)) is.grace;
   verbose_is = is.verbose_is;
 }
 

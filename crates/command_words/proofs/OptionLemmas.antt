@@ -21,24 +21,26 @@ pub not_true : (b : Bool) → (b ≡ true → ⊥) → b ≡ false
 not_true true never = absurd (never refl)
 not_true false never = refl
 
--- what holds of the four names holds of an option that the program reads itself
-pub of_run_name : (P : List ℕ → Type 0) → P (codes "--journal") → P (codes "--each") → P (codes "--first") → P (codes "--links")
+-- what holds of the five names holds of an option that the program reads itself
+pub of_run_name : (P : List ℕ → Type 0) → P (codes "--journal") → P (codes "--each") → P (codes "--first") → P (codes "--links") → P (codes "--ids")
     → (word : List ℕ) → is_run_option word ≡ true → P word
 unfolding is_run_option
-of_run_name P journal each first links word is =
+of_run_name P journal each first links ids word is =
     let at : (name : List ℕ) → P name → bytes_eq word name ≡ true → P word = λ name p e. subst P (sym (same_bytes word name e)) p in
-    or_cases (bytes_eq word (codes "--journal") || bytes_eq word (codes "--each") || bytes_eq word (codes "--first")) (bytes_eq word (codes "--links"))
+    or_cases (bytes_eq word (codes "--journal") || bytes_eq word (codes "--each") || bytes_eq word (codes "--first") || bytes_eq word (codes "--links")) (bytes_eq word (codes "--ids"))
+    (or_cases (bytes_eq word (codes "--journal") || bytes_eq word (codes "--each") || bytes_eq word (codes "--first")) (bytes_eq word (codes "--links"))
     (or_cases (bytes_eq word (codes "--journal") || bytes_eq word (codes "--each")) (bytes_eq word (codes "--first"))
     (or_cases (bytes_eq word (codes "--journal")) (bytes_eq word (codes "--each")) (at (codes "--journal") journal) (at (codes "--each") each))
     (at (codes "--first") first))
-    (at (codes "--links") links) is
+    (at (codes "--links") links))
+    (at (codes "--ids") ids) is
 
 -- it begins with a hyphen
 abbrev HasHyphen : List ℕ → Type 0
 HasHyphen word = slice_index word 0 ≡ 45
 
 run_hyphen : (word : List ℕ) → is_run_option word ≡ true → HasHyphen word
-run_hyphen word is = of_run_name HasHyphen refl refl refl refl word is
+run_hyphen word is = of_run_name HasHyphen refl refl refl refl refl word is
 
 named_hyphen : (word name : List ℕ) → HasHyphen name → bytes_eq word name ≡ true → HasHyphen word
 named_hyphen word name has is = subst HasHyphen (sym (same_bytes word name is)) has
@@ -55,8 +57,10 @@ around_hyphen word is =
 takes_hyphen : (k : Kind) (word : List ℕ) → takes k word ≡ true → HasHyphen word
 unfolding takes
 takes_hyphen kind.Serve word is =
-    or_cases (is_run_option word || is_around_option word) (bytes_eq word (codes "--origin"))
-    (or_cases (is_run_option word) (is_around_option word) (run_hyphen word) (around_hyphen word)) (named_hyphen word (codes "--origin") refl) is
+    or_cases (is_run_option word || is_around_option word || bytes_eq word (codes "--origin")) (bytes_eq word (codes "--keep"))
+    (or_cases (is_run_option word || is_around_option word) (bytes_eq word (codes "--origin"))
+    (or_cases (is_run_option word) (is_around_option word) (run_hyphen word) (around_hyphen word)) (named_hyphen word (codes "--origin") refl))
+    (named_hyphen word (codes "--keep") refl) is
 takes_hyphen kind.Edit word is =
     or_cases (bytes_eq word (codes "--file") || bytes_eq word (codes "--nonce")) (bytes_eq word (codes "--idle"))
     (or_cases (bytes_eq word (codes "--file")) (bytes_eq word (codes "--nonce")) (named_hyphen word (codes "--file") refl) (named_hyphen word (codes "--nonce") refl))

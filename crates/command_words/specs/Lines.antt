@@ -40,6 +40,7 @@ option_rule name =
     else if bytes_eq name (codes "--each") then Some rule.Each
     else if bytes_eq name (codes "--first") then Some rule.First
     else if bytes_eq name (codes "--links") then Some rule.Links
+    else if bytes_eq name (codes "--ids") then Some rule.Ids
     else None
 
 -- the words behind `--origin` and its value, where these stand at their front, or all of them
@@ -69,20 +70,30 @@ next_option [] = next.Option
 next_option (name ∷ []) = next_value (option_rule name)
 next_option (name ∷ value ∷ words) = next_option words
 
+-- behind `--keep` of `serve`
+abbrev pub next_of_keep : List (List ℕ) → Next
+next_of_keep [] = next.Word rule.Logs
+next_of_keep (logs ∷ words) = next_option words
+
+-- behind the words for editors
+abbrev pub next_of_options : List (List ℕ) → Next
+next_of_options [] = next.KeepOrOption
+next_of_options (name ∷ words) = if bytes_eq name (codes "--keep") then next_of_keep words else next_option (name ∷ words)
+
 -- behind `--origin` of `serve`
 abbrev pub next_of_origin : List (List ℕ) → Next
 next_of_origin [] = next.Word rule.Origin
-next_of_origin (origin ∷ words) = next_option words
+next_of_origin (origin ∷ words) = next_of_options words
 
 -- behind `--editor` of `serve`
 abbrev pub next_of_editor : List (List ℕ) → Next
 next_of_editor [] = next.OriginOrOption
-next_of_editor (name ∷ words) = if bytes_eq name (codes "--origin") then next_of_origin words else next_option (name ∷ words)
+next_of_editor (name ∷ words) = if bytes_eq name (codes "--origin") then next_of_origin words else next_of_options (name ∷ words)
 
 -- behind WORKERS of `serve`
 abbrev pub next_of_serve : List (List ℕ) → Next
 next_of_serve [] = next.EditorOrOption
-next_of_serve (word ∷ words) = if bytes_eq word (codes "--editor") then next_of_editor words else next_option (word ∷ words)
+next_of_serve (word ∷ words) = if bytes_eq word (codes "--editor") then next_of_editor words else next_of_options (word ∷ words)
 
 -- behind BASE of `once`
 abbrev pub next_of_once : List (List ℕ) → Next
@@ -109,19 +120,31 @@ abbrev pub next_of : List (List ℕ) → Next
 next_of [] = next.Command
 next_of (name ∷ words) = next_in name words
 
+-- no journal is written where logs are kept, and no number of ids stands where none are
+abbrev pub goes_with : Bool → List ℕ → Bool
+goes_with keeps word = if keeps then not (bytes_eq word (codes "--journal")) else not (bytes_eq word (codes "--ids"))
+
+abbrev pub is_keep_or_option : List ℕ → Bool
+is_keep_or_option word = bytes_eq word (codes "--keep") || (is_some (option_rule word) && goes_with false word)
+
 abbrev pub is_editor_or_option : List ℕ → Bool
-is_editor_or_option word = bytes_eq word (codes "--editor") || is_some (option_rule word)
+is_editor_or_option word = bytes_eq word (codes "--editor") || is_keep_or_option word
 
 abbrev pub is_origin_or_option : List ℕ → Bool
-is_origin_or_option word = bytes_eq word (codes "--origin") || is_some (option_rule word)
+is_origin_or_option word = bytes_eq word (codes "--origin") || is_keep_or_option word
 
 -- the options among the words of `serve`, behind those that have rules
 abbrev pub options_of : List (List ℕ) → List (List ℕ)
 options_of words = behind_editor (drop 6 words)
 
--- an option of `serve` that isn't among these
+-- `--keep` stands at their front
+abbrev pub keeps_logs : List (List ℕ) → Bool
+keeps_logs [] = false
+keeps_logs (word ∷ words) = bytes_eq word (codes "--keep")
+
+-- an option of `serve` that goes with these and isn't among them
 abbrev pub is_new_option : List (List ℕ) → List ℕ → Bool
-is_new_option options word = is_some (option_rule word) && not (list_any (bytes_eq word) (names_of options))
+is_new_option options word = is_some (option_rule word) && (goes_with (keeps_logs options) word && not (list_any (bytes_eq word) (names_of options)))
 
 -- the word may be this next one, behind these words
 abbrev pub Allows : Next → List (List ℕ) → List ℕ → Type 0
@@ -131,6 +154,7 @@ Allows next.Editor words word = IsTrue (bytes_eq word (codes "--editor"))
 Allows next.EditorOrOption words word = IsTrue (is_editor_or_option word)
 Allows next.Origin words word = IsTrue (bytes_eq word (codes "--origin"))
 Allows next.OriginOrOption words word = IsTrue (is_origin_or_option word)
+Allows next.KeepOrOption words word = IsTrue (is_keep_or_option word)
 Allows next.Option words word = IsTrue (is_new_option (options_of words) word)
 Allows next.End words word = ⊥
 
@@ -145,6 +169,7 @@ can_end next.Editor = true
 can_end next.EditorOrOption = true
 can_end next.Origin = true
 can_end next.OriginOrOption = true
+can_end next.KeepOrOption = true
 can_end next.Option = true
 can_end next.End = true
 

@@ -39,15 +39,19 @@ has_flag wanted flags = list_any (λ flag. bytes_eq flag wanted) flags
 abbrev pub editor_words : List (List ℕ) → List (List ℕ)
 editor_words flags = if has_flag (codes "--editor") flags then codes "--editor" ∷ [] else []
 
--- `--origin` and its value, which the program reads itself, as often as it stands among the options
-abbrev pub origin_words : List (List ℕ) → List (List ℕ)
-origin_words [] = []
-origin_words (option ∷ []) = []
-origin_words (option ∷ value ∷ options) = if bytes_eq option (codes "--origin") then option ∷ value ∷ origin_words options else origin_words options
+-- the option of that name and its value, as often as it stands among the options
+abbrev pub option_words : List ℕ → List (List ℕ) → List (List ℕ)
+option_words name [] = []
+option_words name (option ∷ []) = []
+option_words name (option ∷ value ∷ options) = if bytes_eq option name then option ∷ value ∷ option_words name options else option_words name options
+
+-- `--origin` and then `--keep`, which the program reads itself in front of its other options
+abbrev pub front_words : List (List ℕ) → List (List ℕ)
+front_words options = option_words (codes "--origin") options ++ option_words (codes "--keep") options
 
 -- `serve`: the words that have a place, and then the options that the program reads itself
 pub record MeansServe (parts : Parts) (words : List (List ℕ)) (around : Around) : Type 0 where
-  pub words_are : words ≡ codes "serve" ∷ (parts.places ++ (editor_words parts.flags ++ (origin_words parts.options ++ run_options_of parts.options)))
+  pub words_are : words ≡ codes "serve" ∷ (parts.places ++ (editor_words parts.flags ++ (front_words parts.options ++ run_options_of parts.options)))
   pub around_is : IsAround parts.options (has_flag (codes "--verbose") parts.flags) around
 
 -- the id of a file that `--file` names stands behind AUTHORITY

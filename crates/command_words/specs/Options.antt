@@ -6,7 +6,7 @@ use Rattle.command_words.specs.declared.options.Kind.TheVariants as kind
 
 -- those of `serve` that the program reads itself
 unfoldable pub is_run_option : List ℕ → Bool
-is_run_option word = bytes_eq word (codes "--journal") || bytes_eq word (codes "--each") || bytes_eq word (codes "--first") || bytes_eq word (codes "--links")
+is_run_option word = bytes_eq word (codes "--journal") || bytes_eq word (codes "--each") || bytes_eq word (codes "--first") || bytes_eq word (codes "--links") || bytes_eq word (codes "--ids")
 
 -- those of `serve` that the adapters take
 unfoldable pub is_around_option : List ℕ → Bool
@@ -14,7 +14,7 @@ is_around_option word = bytes_eq word (codes "--listen") || bytes_eq word (codes
 
 -- behind it a value stands
 unfoldable pub takes : Kind → List ℕ → Bool
-takes kind.Serve word = is_run_option word || is_around_option word || bytes_eq word (codes "--origin")
+takes kind.Serve word = is_run_option word || is_around_option word || bytes_eq word (codes "--origin") || bytes_eq word (codes "--keep")
 takes kind.Edit word = bytes_eq word (codes "--file") || bytes_eq word (codes "--nonce") || bytes_eq word (codes "--idle")
 takes kind.Token word = bytes_eq word (codes "--file") || bytes_eq word (codes "--user") || bytes_eq word (codes "--for")
 takes kind.Ctoken word = bytes_eq word (codes "--user") || bytes_eq word (codes "--for")

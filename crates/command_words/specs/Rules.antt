@@ -67,4 +67,6 @@ Keeps rule.Journal word = IsTrue (is_number 1 32768 word)
 Keeps rule.Each word = IsTrue (is_number 1 1000000 word)
 Keeps rule.First word = IsTrue (is_number 1 1000000000000000000 word)
 Keeps rule.Links word = IsTrue (is_number 1 1024 word)
+Keeps rule.Ids word = IsTrue (is_number 1 32768 word)
+Keeps rule.Logs word = 0 < length word
 Keeps rule.Origin word = IsOrigin word

@@ -3,7 +3,7 @@ ghost use Rattle.std.specs.Prelude.{◌≡◌, ◌↔◌, ◌<◌, IsTrue, lengt
 ghost use Rattle.std.specs.List.{list_any};
 ghost use Rattle.std.specs.Str.{bytes_eq};
 ghost use Rattle.command_words.specs.Names.{name_of};
-ghost use Rattle.command_words.specs.Lines.{Allows, can_end, is_command, is_editor_or_option, is_new_option, is_replay, is_single, behind_editor, behind_origin, is_origin_or_option, may_end, names_of, next_behind, next_in, next_of, next_of_editor, next_of_once, next_of_origin, next_of_serve, next_option, next_value, option_rule, options_of, rules_of};
+ghost use Rattle.command_words.specs.Lines.{Allows, can_end, is_command, goes_with, is_editor_or_option, is_keep_or_option, is_new_option, keeps_logs, next_of_keep, next_of_options, is_replay, is_single, behind_editor, behind_origin, is_origin_or_option, may_end, names_of, next_behind, next_in, next_of, next_of_editor, next_of_once, next_of_origin, next_of_serve, next_option, next_value, option_rule, options_of, rules_of};
 
 use crate::rules::Rule;
 
@@ -22,6 +22,8 @@ pub(crate) enum Next {
     Origin,
     /// `--origin`, or an option of `serve`, or no word.
     OriginOrOption,
+    /// `--keep`, or an option of `serve`, or no word.
+    KeepOrOption,
     /// An option of `serve` that doesn't stand there yet, or no word.
     Option,
     /// No word.
@@ -120,6 +122,8 @@ fn option_rule(name: &str) -> Option<Rule>
         Some(Rule::First)
     } else if name == "--links" {
         Some(Rule::Links)
+    } else if name == "--ids" {
+        Some(Rule::Ids)
     } else {
         None
     }
@@ -181,12 +185,37 @@ fn next_option(options: &[String]) -> Next
     }
 }
 
+/// What may stand behind `--keep` of `serve` and these.
+fn next_of_keep(words: &[String]) -> Next
+    ensures { result ≡ next_of_keep (map string_bytes words.now) }
+{
+    match words {
+        [_, rest @ ..] => next_option(rest),
+        [] => Next::Word(Rule::Logs),
+    }
+}
+
+/// What may stand behind the words for editors and these.
+fn next_of_options(words: &[String]) -> Next
+    ensures { result ≡ next_of_options (map string_bytes words.now) }
+{
+    match words {
+        [name, rest @ ..] => {
+            if name.as_str() == "--keep" {
+                return next_of_keep(rest);
+            }
+            next_option(words)
+        }
+        [] => Next::KeepOrOption,
+    }
+}
+
 /// What may stand behind `--origin` of `serve` and these.
 fn next_of_origin(words: &[String]) -> Next
     ensures { result ≡ next_of_origin (map string_bytes words.now) }
 {
     match words {
-        [_, rest @ ..] => next_option(rest),
+        [_, rest @ ..] => next_of_options(rest),
         [] => Next::Word(Rule::Origin),
     }
 }
@@ -200,7 +229,7 @@ fn next_of_editor(words: &[String]) -> Next
             if name.as_str() == "--origin" {
                 return next_of_origin(rest);
             }
-            next_option(words)
+            next_of_options(words)
         }
         [] => Next::OriginOrOption,
     }
@@ -215,7 +244,7 @@ fn next_of_serve(words: &[String]) -> Next
             if word.as_str() == "--editor" {
                 return next_of_editor(rest);
             }
-            next_option(words)
+            next_of_options(words)
         }
         [] => Next::EditorOrOption,
     }
@@ -268,25 +297,52 @@ pub(crate) fn next_of(words: &[String]) -> Next
     }
 }
 
-/// Whether the word is an option of `serve`, or `--editor`.
+/// Whether the option goes with logs that are kept, or with none.
+fn goes_with(keeps: bool, word: &str) -> bool
+    ensures { result ≡ goes_with keeps word.now }
+{
+    if keeps {
+        return word != "--journal";
+    }
+    word != "--ids"
+}
+
+/// Whether the word is `--keep`, or an option of `serve` that stands without it.
+fn is_keep_or_option(word: &str) -> bool
+    ensures { result ≡ is_keep_or_option word.now }
+{
+    word == "--keep" || (option_rule(word).is_some() && goes_with(false, word))
+}
+
+/// Whether the word is one of these, or `--editor`.
 fn is_editor_or_option(word: &str) -> bool
     ensures { result ≡ is_editor_or_option word.now }
 {
-    word == "--editor" || option_rule(word).is_some()
+    word == "--editor" || is_keep_or_option(word)
 }
 
-/// Whether the word is an option of `serve`, or `--origin`.
+/// Whether the word is one of these, or `--origin`.
 fn is_origin_or_option(word: &str) -> bool
     ensures { result ≡ is_origin_or_option word.now }
 {
-    word == "--origin" || option_rule(word).is_some()
+    word == "--origin" || is_keep_or_option(word)
 }
 
-/// Whether the word is an option of `serve` that isn't among these.
+/// Whether `--keep` stands at the front of these.
+fn keeps_logs(options: &[String]) -> bool
+    ensures { result ≡ keeps_logs (map string_bytes options.now) }
+{
+    match options {
+        [word, ..] => word.as_str() == "--keep",
+        [] => false,
+    }
+}
+
+/// Whether the word is an option of `serve` that goes with these and isn't among them.
 fn is_new_option(options: &[String], word: &str) -> bool
     ensures { result ≡ is_new_option (map string_bytes options.now) word.now }
 {
-    option_rule(word).is_some() && !is_told(options, word)
+    option_rule(word).is_some() && goes_with(keeps_logs(options), word) && !is_told(options, word)
 }
 
 /// The options among the words of `serve`, behind those that have rules.
@@ -311,6 +367,7 @@ impl Next {
             Next::EditorOrOption => return is_editor_or_option(word),
             Next::Origin => return word == "--origin",
             Next::OriginOrOption => return is_origin_or_option(word),
+            Next::KeepOrOption => return is_keep_or_option(word),
             Next::Option => return is_new_option(options_of(words), word),
             Next::End => return false,
         }
@@ -328,6 +385,7 @@ impl Next {
             Next::EditorOrOption => "an option",
             Next::Origin => "the word",
             Next::OriginOrOption => "an option",
+            Next::KeepOrOption => "an option",
             Next::Option => "an option",
             Next::End => "the word",
         }
@@ -342,6 +400,7 @@ impl Next {
             Next::EditorOrOption => OPTIONS,
             Next::Origin => ONLY_ORIGIN,
             Next::OriginOrOption => OPTIONS,
+            Next::KeepOrOption => OPTIONS,
             Next::Option => OPTIONS,
             Next::End => NO_WORD,
         }
@@ -358,6 +417,7 @@ impl Next {
             Next::EditorOrOption => true,
             Next::Origin => true,
             Next::OriginOrOption => true,
+            Next::KeepOrOption => true,
             Next::Option => true,
             Next::End => true,
         }
@@ -370,7 +430,7 @@ const COMMANDS: &str =
 
 /// That of an option of `serve`.
 const OPTIONS: &str =
-    "--journal, --each, --first, --links, --listen, --idle, --patience, --grace, --verbose, --editor or, beside --editor, --origin, each once";
+    "--journal, --each, --first, --links, --listen, --idle, --patience, --grace, --verbose, --editor and beside it --origin, or --keep and beside it, in place of --journal, --ids, each once";
 
 /// That of a word behind the last one.
 const NO_WORD: &str = "no word stands there";

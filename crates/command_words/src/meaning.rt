@@ -1,7 +1,7 @@
 //! What words mean, as people write them.
 ghost use Rattle.std.specs.Prelude.{◌≡◌, ◌++◌, ◌∷◌, [], ℕ, List, IfErr, IfOk, IfSome, IfNone, None, OnOk, Some, codes, false, map, string_bytes};
 ghost use Rattle.hex.specs.Hex.{encode_lower};
-ghost use Rattle.command_words.specs.Meaning.{IsDefault, Means, MeansCtoken, MeansEdit, MeansOf, MeansServe, editor_words, kind_of, origin_words, run_options_of, short_for};
+ghost use Rattle.command_words.specs.Meaning.{IsDefault, Means, MeansCtoken, MeansEdit, MeansOf, MeansServe, editor_words, kind_of, front_words, option_words, run_options_of, short_for};
 ghost use Rattle.command_words.specs.Parts.{halved, lacks_value, parted_of, parts_of};
 ghost use Rattle.command_words.specs.Refusals.{IsFor, MeansNothing};
 
@@ -96,20 +96,34 @@ fn push_editor(alloc: Global, words: &mut Vec<String>, flags: &[String]) -> Resu
     Ok(())
 }
 
-/// Puts `--origin` and its value behind the words that the program reads itself, as often as it stands among the options.
-fn push_origin(alloc: Global, words: &mut Vec<String>, options: &[String]) -> Result<(), Memory>
-    ensures { OnOk result (map string_bytes words.new.items ≡ map string_bytes words.old.items ++ origin_words (map string_bytes options.now)) }
+/// Puts the option of that name and its value behind the words that the program reads itself, as often as it stands among
+/// the options.
+fn push_option(
+    alloc: Global,
+    words: &mut Vec<String>,
+    name: &str,
+    options: &[String],
+) -> Result<(), Memory>
+    ensures { OnOk result (map string_bytes words.new.items ≡ map string_bytes words.old.items ++ option_words name.now (map string_bytes options.now)) }
 {
     match options {
         [option, value, rest @ ..] => {
-            if option.as_str() == "--origin" {
+            if option.as_str() == name {
                 push_word(alloc, words, option.as_str())?;
                 push_word(alloc, words, value.as_str())?;
             }
-            push_origin(alloc, words, rest)
+            push_option(alloc, words, name, rest)
         }
         _ => Ok(()),
     }
+}
+
+/// Puts those there that stand in front of the others.
+fn push_front(alloc: Global, words: &mut Vec<String>, options: &[String]) -> Result<(), Memory>
+    ensures { OnOk result (map string_bytes words.new.items ≡ map string_bytes words.old.items ++ front_words (map string_bytes options.now)) }
+{
+    push_option(alloc, words, "--origin", options)?;
+    push_option(alloc, words, "--keep", options)
 }
 
 /// What the words of `serve` mean.
@@ -123,7 +137,7 @@ fn serve_meant(alloc: Global, parted: &Parted) -> Result<Given, Refused>
     push_word(alloc, &mut words, "serve")?;
     push_words(alloc, &mut words, &parted.places)?;
     push_editor(alloc, &mut words, &parted.flags)?;
-    push_origin(alloc, &mut words, &parted.options)?;
+    push_front(alloc, &mut words, &parted.options)?;
     push_run_options(alloc, &mut words, &parted.options)?;
     Ok(Given { words, around })
 }

@@ -16,7 +16,11 @@ pub enum Kind {
 pub(crate) fn is_run_option(word: &str) -> bool
     ensures { result ≡ is_run_option word.now }
 {
-    word == "--journal" || word == "--each" || word == "--first" || word == "--links"
+    word == "--journal"
+        || word == "--each"
+        || word == "--first"
+        || word == "--links"
+        || word == "--ids"
 }
 
 /// Whether it is an option of `serve` that the adapters take.
@@ -33,7 +37,9 @@ pub(crate) fn takes(kind: Kind, word: &str) -> bool
     ensures { result ≡ takes kind word.now }
 {
     match kind {
-        Kind::Serve => is_run_option(word) || is_around_option(word) || word == "--origin",
+        Kind::Serve => {
+            is_run_option(word) || is_around_option(word) || word == "--origin" || word == "--keep"
+        }
         Kind::Edit => word == "--file" || word == "--nonce" || word == "--idle",
         Kind::Token => word == "--file" || word == "--user" || word == "--for",
         Kind::Ctoken => word == "--user" || word == "--for",

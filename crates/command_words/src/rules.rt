@@ -40,6 +40,8 @@ pub(crate) enum Rule {
     Each,
     First,
     Links,
+    Ids,
+    Logs,
     Origin,
 }
 
@@ -210,6 +212,8 @@ impl Rule {
             Rule::Each => return is_number(word, 1, 1_000_000),
             Rule::First => return is_number(word, 1, 1_000_000_000_000_000_000),
             Rule::Links => return is_number(word, 1, 1024),
+            Rule::Ids => return is_number(word, 1, 32_768),
+            Rule::Logs => return !word.is_empty(),
             Rule::Origin => return is_origin(word),
         }
     }
@@ -242,6 +246,8 @@ impl Rule {
             Rule::Each => "--each",
             Rule::First => "--first",
             Rule::Links => "--links",
+            Rule::Ids => "--ids",
+            Rule::Logs => "--keep",
             Rule::Origin => "--origin",
         }
     }
@@ -274,6 +280,8 @@ impl Rule {
             Rule::Each => "a number from 1 to 1000000, without leading zeros",
             Rule::First => "a number from 1 to 1000000000000000000, without leading zeros",
             Rule::Links => "a number from 1 to 1024, without leading zeros",
+            Rule::Ids => "a number from 1 to 32768, without leading zeros",
+            Rule::Logs => "the path of a folder, which isn't empty",
             Rule::Origin =>
                 "http:// or https://, a host in lower case, and a port where it isn't the scheme's own; at most 200 characters, and no path",
         }

@@ -32,7 +32,7 @@ fn line_of(alloc: Global, given: &Given) -> Result<String, Memory> {
 }
 
 /// Lines, and the words that the program reads.
-const MEANT: [[&str; 2]; 22] = [
+const MEANT: [[&str; 2]; 24] = [
     ["once . 4a http://localhost", "once . 4a http://localhost"],
     [
         "serve . 8880 4a http://localhost 2 --first 7 --each 3",
@@ -53,6 +53,14 @@ const MEANT: [[&str; 2]; 22] = [
     [
         "once . 4a http://localhost --editor",
         "once . 4a http://localhost --editor",
+    ],
+    [
+        "serve . --ids=9 8880 4a --keep /srv/logs http://localhost 2 --first 7 --editor",
+        "serve . 8880 4a http://localhost 2 --editor --keep /srv/logs --ids 9 --first 7",
+    ],
+    [
+        "serve --keep=logs . 8880 4a --each 3 http://localhost 2 --editor --origin http://cloud",
+        "serve . 8880 4a http://localhost 2 --editor --origin http://cloud --keep logs --each 3",
     ],
     [
         "serve --origin https://cloud.example . 8880 --each=3 4a http://localhost 2 --editor",
@@ -150,7 +158,7 @@ fn told(alloc: Global, line: &str) -> Result<Vec<u8>, Memory> {
 }
 
 /// Lines that are no command, and what begins the line that is told.
-const TOLD: [[&str; 2]; 32] = [
+const TOLD: [[&str; 2]; 39] = [
     ["frob", "a command frob: once, serve, edit"],
     ["once", "FOLDER is missing: the path of a folder"],
     ["once . 4a6 http://localhost", "KEY: 1 to 64 bytes in hex"],
@@ -185,6 +193,34 @@ const TOLD: [[&str; 2]; 32] = [
     [
         "serve . 8880 4a http://localhost 2 --frob 1",
         "an option --frob: --journal",
+    ],
+    [
+        "serve . 8880 4a http://localhost 2 --ids 9",
+        "an option --ids: --journal",
+    ],
+    [
+        "serve . 8880 4a http://localhost 2 --journal 9 --keep logs",
+        "an option --journal: --journal",
+    ],
+    [
+        "serve . 8880 4a http://localhost 2 --keep logs --ids 32769",
+        "--ids 32769: a number from 1 to 32768",
+    ],
+    [
+        "serve . 8880 4a http://localhost 2 --keep logs --ids 0",
+        "--ids 0: a number from 1 to 32768",
+    ],
+    [
+        "serve . 8880 4a http://localhost 2 --keep= --ids 9",
+        "--keep: the path of a folder",
+    ],
+    [
+        "serve . 8880 4a http://localhost 2 --keep",
+        "the value of the last option is missing",
+    ],
+    [
+        "serve . 8880 4a http://localhost 2 --keep logs --keep logs",
+        "an option --keep: --journal",
     ],
     [
         "serve . 8880 4a http://localhost 2 --editor --links 1025",
