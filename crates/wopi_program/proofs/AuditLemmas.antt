@@ -43,9 +43,9 @@ looked_up-not-3 held name version text status output output' (inl (contents, had
 looked_up-not-3 held name version text status output output' (inl (contents, had, inr (four, front))) three = absurd (omega (arith, four, three))
 looked_up-not-3 held name version text status output output' (inr (fifteen, same, none)) three = absurd (omega (arith, fifteen, three))
 
-module _ {S K F N D C L : Type 0} (m : Meanings S K F N D C L) where
+module _ {S K F N D C G L : Type 0} (m : Meanings S K F N D C G L) where
   -- what became of a journal says nothing of the notes
-  pub takes_noted : (Does : JournalText → ℕ → K → K → Type 0) (status : ℕ) (old new : Outside S K F N D C) (notes : K) → TakesJournal m Does status old new
+  pub takes_noted : (Does : JournalText → ℕ → K → K → Type 0) (status : ℕ) (old new : Outside S K F N D C G) (notes : K) → TakesJournal m Does status old new
       → TakesJournal m Does status old (record new { notes = notes })
   takes_noted Does status old new notes h =
       record {
@@ -63,7 +63,7 @@ module _ {S K F N D C L : Type 0} (m : Meanings S K F N D C L) where
       }
 
   takes-not-2 : (Does : JournalText → ℕ → K → K → Type 0) → ((text : JournalText) (status : ℕ) (output output' : K) → Does text status output output' → status ≢ 2) →
-      (status : ℕ) (old new : Outside S K F N D C) → Takes m Does status old new → status ≢ 2
+      (status : ℕ) (old new : Outside S K F N D C G) → Takes m Does status old new → status ≢ 2
   takes-not-2 Does apart status old new (inl unrun) two = elim unrun.statuses [
     | inl three ↦ absurd (omega (arith, three, two))
     | inr six ↦ absurd (omega (arith, six, two))
@@ -74,7 +74,7 @@ module _ {S K F N D C L : Type 0} (m : Meanings S K F N D C L) where
   takes-not-2 Does apart status old new (inr (inr (inr done))) two = apart done.text status old.output new.output done.does two
 
   -- what was found of a journal was written
-  pub found_takes : (name : List ℕ) (version : ℕ) (found : Option (List ℕ)) (status : ℕ) (old new : Outside S K F N D C) → IsFoundIn (m.left old.input) (m.left new.input) name version found
+  pub found_takes : (name : List ℕ) (version : ℕ) (found : Option (List ℕ)) (status : ℕ) (old new : Outside S K F N D C G) → IsFoundIn (m.left old.input) (m.left new.input) name version found
       → ((name : List ℕ) (version : ℕ) (text : JournalText) → IsFound name version text found → IsLookedUp m.held name version text status old.output new.output)
       → m.read_faults new.input ≡ m.read_faults old.input → (status ≡ 4 → Rose (m.write_faults old.output) (m.write_faults new.output))
       → new ≡ record old { input = new.input; output = new.output; notes = new.notes } → TakesJournal m (IsLookedUp m.held name version) status old new
@@ -90,9 +90,9 @@ module _ {S K F N D C L : Type 0} (m : Meanings S K F N D C L) where
         others = others;
       }
 
-  pub AuditEnds-known : (status : ℕ) (old new : Outside S K F N D C) → AuditEnds m status old new → status ≢ 2
+  pub AuditEnds-known : (status : ℕ) (old new : Outside S K F N D C G) → AuditEnds m status old new → status ≢ 2
   AuditEnds-known status old new ends = takes-not-2 (IsJudged m.held) (judged-not-2 m.held) status old new ends.audits.takes
 
-  pub ContentsEnds-known : (words : List (List ℕ)) (status : ℕ) (old new : Outside S K F N D C) → ContentsEnds m words status old new → status ≢ 2
+  pub ContentsEnds-known : (words : List (List ℕ)) (status : ℕ) (old new : Outside S K F N D C G) → ContentsEnds m words status old new → status ≢ 2
   ContentsEnds-known words status old new ends =
       takes-not-2 (IsLookedUp m.held ends.name ends.version) (looked_up-not-2 m.held ends.name ends.version) status old new ends.finds.takes

@@ -51,7 +51,7 @@ pub row_of : (words rest : List (List ℕ)) (word key_word user rights user' rig
     → words ≡ codes "ctoken" ∷ key_word ∷ told
 row_of words rest word key_word user rights user' rights' told are is a b same = cc
 
-module _ {S K F N D C L : Type 0} (m : Meanings S K F N D C L) (words : List (List ℕ)) (status : ℕ) (old new : Outside S K F N D C) where
+module _ {S K F N D C G L : Type 0} (m : Meanings S K F N D C G L) (words : List (List ℕ)) (status : ℕ) (old new : Outside S K F N D C G) where
   pub CtokenEnds-told : (keys : Keys) (token : ContainerToken) (text : List ℕ) → IsCtokenRow words keys token → text ≡ container_line keys token
       → TextEnds m text status old new → CtokenEnds m words status old new
   CtokenEnds-told keys token text row text_is ends =

@@ -45,9 +45,9 @@ tells-not-2 held held' status wanted lines last other (inl (is, grew)) two = oth
 tells-not-2 held held' status wanted lines last other (inr (some, inl (is, front, rest, same, more))) two = absurd (omega (arith, is, two))
 tells-not-2 held held' status wanted lines last other (inr (some, inr (is, more))) two = absurd (omega (arith, is, two))
 
-module _ {S K F N D C L : Type 0} (m : Meanings S K F N D C L) where
+module _ {S K F N D C G L : Type 0} (m : Meanings S K F N D C G L) where
   -- a script that was read from the input, and then run
-  pub run_of : (first : Editor) (commands : List Command) (status : ℕ) (old mid new : Outside S K F N D C) → mid.output ≡ old.output → mid.dialer ≡ old.dialer
+  pub run_of : (first : Editor) (commands : List Command) (status : ℕ) (old mid new : Outside S K F N D C G) → mid.output ≡ old.output → mid.dialer ≡ old.dialer
       → new ≡ record mid { output = new.output; dialer = new.dialer } → IsScript (m.left old.input) commands → IsAtEnd (m.left mid.input)
       → HasRun m first commands status mid new → IsRun m first status old new
   run_of first commands status old mid new output_is dialer_is others script whole ran =
@@ -69,7 +69,7 @@ module _ {S K F N D C L : Type 0} (m : Meanings S K F N D C L) where
       }
 
   -- what became of a script says nothing of the notes
-  pub edits_noted : (first : Editor) (status : ℕ) (old new : Outside S K F N D C) (notes : K) → Edits m first status old new
+  pub edits_noted : (first : Editor) (status : ℕ) (old new : Outside S K F N D C G) (notes : K) → Edits m first status old new
       → Edits m first status old (record new { notes = notes })
   edits_noted first status old new notes (inl unread) =
       inl (record { statuses = unread.statuses; output_is = unread.output_is; dialer_is = unread.dialer_is })
@@ -93,7 +93,7 @@ module _ {S K F N D C L : Type 0} (m : Meanings S K F N D C L) where
         };
       }))
 
-pub EditEnds-known : {S K F N D C L : Type 0} (m : Meanings S K F N D C L) (words : List (List ℕ)) (status : ℕ) (old new : Outside S K F N D C)
+pub EditEnds-known : {S K F N D C G L : Type 0} (m : Meanings S K F N D C G L) (words : List (List ℕ)) (status : ℕ) (old new : Outside S K F N D C G)
     → EditEnds m words status old new → status ≢ 2
 EditEnds-known m words status old new (inl wants) two = let six = wants.status_is in absurd (omega (arith, six, two))
 EditEnds-known m words status old new (inr ran) two = elim ran.edits [

@@ -1,5 +1,5 @@
 -- An `edit` and the `serve` or `once` that it speaks with, from the laws of both ends.
-use Rattle.std.proofs.Common.{◌≡◌, ℕ, ◌<◌, List, [], ◌∷◌, map, refl, sym, subst, ◌∙◌, arith}
+use Rattle.std.proofs.Common.{◌≡◌, ℕ, ◌<◌, List, [], ◌∷◌, map, inl, inr, refl, sym, subst, ◌∙◌, arith}
 use Rattle.std.proofs.lemmas.Nat.{mod_below}
 use Rattle.std.specs.List.{AllByRecursion}
 use Rattle.std.specs.Prelude.{sum}
@@ -50,8 +50,10 @@ at_serve law journal opened first opened_is first_is legal desktop client ending
     law desktop client ending spoken heard (openings journal.parts) journal.opened journal.first (steps_of journal.merge) (shard_of client.token.file) (shard_below client.token.file)
     (journal_legal journal opened first opened_is first_is legal) hears crosses
 
-module _ {S K F N D C L : Type 0} (m : Meanings S K F N D C L) where
+module _ {S K F N D C G L : Type 0} (m : Meanings S K F N D C G L) where
   pub all_legal : (journals : List (JournalView F)) → AllByRecursion (WasServed m) journals → AllByRecursion IsLegal (map journal_of journals)
   all_legal [] served = tt
-  all_legal (journal ∷ journals) ((keys, base, origin, ask, ends, old, new, one), served) =
+  all_legal (journal ∷ journals) (inl (keys, base, origin, ask, ends, old, new, one), served) =
+      (journal_legal journal one.desk.opened ask.first one.journal_is.opened_is one.journal_is.first_is one.journal_is.legal, all_legal journals served)
+  all_legal (journal ∷ journals) (inr (keys, base, origin, ask, ids, ends, shards, old, new, one), served) =
       (journal_legal journal one.desk.opened ask.first one.journal_is.opened_is one.journal_is.first_is one.journal_is.legal, all_legal journals served)

@@ -32,6 +32,7 @@ use Rattle.wopi_program.specs.Meanings.{Meanings}
 use Rattle.wopi_program.specs.Serve.{HasServed, HasWritten, ServeRuns}
 use Rattle.wopi_program.specs.EditorWords.{origin_told}
 use Rattle.wopi_program.specs.ServeEnds.{ServeEnds, ServeFinishes}
+use Rattle.wopi_program.specs.ServeWords.{IsServeRow}
 
 -- a status is none of the two at which a journal is written whole
 neither : (status other : ℕ) → 0 < other → other ≢ 10 → status ≡ other → (status ≡ 0) ⊎ (status ≡ 10) → ⊥
@@ -45,7 +46,7 @@ none_before : (entries : List Entry) → AllByRecursion (ComesBehind None) entri
 none_before [] = tt
 none_before (entry ∷ entries) = (tt, none_before entries)
 
-module _ {S K F N D C L : Type 0} (m : Meanings S K F N D C L) where
+module _ {S K F N D C G L : Type 0} (m : Meanings S K F N D C G L) where
   -- each shard's time goes on with its entries
   timely_from : (opened first shard n : ℕ) (merge : List Made) (folders : List F) (parts : List (Left F)) (folders' : List F) → AreParts merge shard parts →
       AreLeft m opened first shard folders parts folders' → shard ≤ n → n < shard + length folders → IsTimely opened (made_in n merge)
@@ -76,13 +77,13 @@ module _ {S K F N D C L : Type 0} (m : Meanings S K F N D C L) where
       (subst (λ (n : ℕ). GoesOn (opened_host (openings journal.parts) opened n) journal.merge) (sym is.first_is) goes)
 
   module _ (tells : (begun : Begun) (made : List Made) → GoesOn begun made → LegalLines begun (map line_of made)) where
-    pub served_legal : (keys : Keys) (base : List ℕ) (origin : Option (List ℕ)) (ask : ServeAsk) (ends : List WorkEnd) (journal : JournalView F) (old new : Outside S K F N D C) → length old.folders.items ≡ 16 →
+    pub served_legal : (keys : Keys) (base : List ℕ) (origin : Option (List ℕ)) (ask : ServeAsk) (ends : List WorkEnd) (journal : JournalView F) (old new : Outside S K F N D C G) → length old.folders.items ≡ 16 →
         HasServed m keys base origin ask ends journal old new → LegalText (told_by journal)
     served_legal keys base origin ask ends journal old new many served =
         tells (opened_host (openings journal.parts) journal.opened journal.first) journal.merge
         (goes_on served.desk.opened ask.first old.folders.items new.folders.items journal many served.journal_is served.folders_are)
 
-    module _ (reads : (journal : JournalView F) → KeepsBounds journal → IsReading (journal_text journal) (told_by journal)) (old new : Outside S K F N D C) (before : List ℕ)
+    module _ (reads : (journal : JournalView F) → KeepsBounds journal → IsReading (journal_text journal) (told_by journal)) (old new : Outside S K F N D C G) (before : List ℕ)
         (many : length old.folders.items ≡ 16) (held : m.held old.output ≡ Some before) where
       -- the output grew by a legal journal
       abbrev Written : Type 0
@@ -108,11 +109,14 @@ module _ {S K F N D C L : Type 0} (m : Meanings S K F N D C L) where
       of_end status keys base origin ask notes end.FolderFault runs finishes is = absurd (neither status 5 (omega arith) (omega arith) finishes.0 is)
       of_end status keys base origin ask notes (end.TooLarge name) runs (inl told) is = absurd (neither status 12 (omega arith) (omega arith) told.0 is)
       of_end status keys base origin ask notes (end.TooLarge name) runs (inr want) is = absurd (neither status 6 (omega arith) (omega arith) want.0 is)
+      of_end status keys base origin ask notes end.JournalFault runs finishes is = absurd runs
       of_end status keys base origin ask notes end.Memory runs finishes is = absurd (neither status 6 (omega arith) (omega arith) finishes.0 is)
 
-      pub written : (words : List (List ℕ)) (status : ℕ) → ServeEnds m words status old new → (status ≡ 0) ⊎ (status ≡ 10) → Written
-      written words status (inl want) is = absurd (neither status 6 (omega arith) (omega arith) want.status_is is)
-      written words status (inr ran) is = of_end status ran.keys ran.base (origin_told ran.row.options) ran.ask ran.notes ran.end ran.runs ran.finishes is
+      pub written : (words : List (List ℕ)) (status : ℕ) → ((keys : Keys) (base : List ℕ) (ask : ServeAsk) → IsServeRow words keys base ask → ask.keep ≡ None) → ServeEnds m words status old new
+          → (status ≡ 0) ⊎ (status ≡ 10) → Written
+      written words status plain (inl want) is = absurd (neither status 6 (omega arith) (omega arith) want.status_is is)
+      written words status plain (inr (inr kept)) is = absurd (cc (sym (plain kept.keys kept.base kept.ask kept.row) ∙ kept.keeps))
+      written words status plain (inr (inl ran)) is = of_end status ran.keys ran.base (origin_told ran.row.options) ran.ask ran.notes ran.end ran.runs ran.finishes is
 
 -- ---- a run of `audit`
 
@@ -134,10 +138,10 @@ told_not held held' status other last high (inl (zero, whole)) is = absurd (omeg
 told_not held held' status other last high (inr (some, inl cut)) is = let four = cut.0 in absurd (omega (arith, high, four, is))
 told_not held held' status other last high (inr (some, inr (six, more))) is = absurd (omega (arith, high, six, is))
 
-module _ {S K F N D C L : Type 0} (m : Meanings S K F N D C L)
+module _ {S K F N D C G L : Type 0} (m : Meanings S K F N D C G L)
     (one_reading : (bytes : List ℕ) (text other : JournalText) → IsReading bytes text → IsReading bytes other → text ≡ other)
     (illegal : (text : JournalText) (number : ℕ) (wrong : AuditFault) → IsBadLine text number wrong → LegalText text → ⊥)
-    (bytes : List ℕ) (text : JournalText) (is : IsLegalJournal bytes text) (status : ℕ) (old new : Outside S K F N D C) (given : m.left old.input ≡ Some bytes) where
+    (bytes : List ℕ) (text : JournalText) (is : IsLegalJournal bytes text) (status : ℕ) (old new : Outside S K F N D C G) (given : m.left old.input ≡ Some bytes) where
   -- a run that ends so at another status than these
   ends_at : (at : ℕ) → status ≡ at → at ≢ 0 → at ≢ 7 → at ≢ 14 → CallsLegal m text status old new
   ends_at at ended not_0 not_7 not_14 = record {

@@ -28,8 +28,8 @@ use Rattle.wopi_program.proofs.ListingLemmas.{all_shown}
 pub lawful_over : {F : Type 0} (book : Book (InMemory F)) (start now : Option Files) (began count : ℕ) → IsLawful book start now began count → IsLawful (over_folder book) start now began count
 lawful_over book start now began count l = record { legal = l.legal; folder = l.folder; faults = l.faults; timely = l.timely; alone = l.alone }
 
-module _ {S K F N D C L : Type 0} (m : Meanings S K F N D C L) where
-  pub shard_serves : (desk : Desk) (end : ConnEnd) (first began ended last : Book F) (folder : F) (clock clock' : C) (old new : Outside S K F N D C)
+module _ {S K F N D C G L : Type 0} (m : Meanings S K F N D C G L) where
+  pub shard_serves : (desk : Desk) (end : ConnEnd) (first began ended last : Book F) (folder : F) (clock clock' : C) (old new : Outside S K F N D C G)
       → began ≡ first → last ≡ ended
       → Serves desk SeesItsOwn end (m.left old.input) (m.left new.input) (m.work.moments clock) (m.work.moments clock') (sight_of began) (sight_of ended) (m.held old.output) (m.held new.output)
       → ended.start ≡ began.start → last.only ≡ None
@@ -50,7 +50,7 @@ module _ {S K F N D C L : Type 0} (m : Meanings S K F N D C L) where
       }
 
   -- the entries of a connection over a fresh shard are legal by themselves
-  legal_alone : (desk : Desk) (end : ConnEnd) (first : Book F) (folder : F) (clock clock' : C) (old new : Outside S K F N D C) → first.made ≡ [] → first.ticked ≡ false
+  legal_alone : (desk : Desk) (end : ConnEnd) (first : Book F) (folder : F) (clock clock' : C) (old new : Outside S K F N D C G) → first.made ≡ [] → first.ticked ≡ false
       → (s : ServesShard m desk end first folder clock clock' old new) → LegalFrom first.begin (map Step (made s.serves.deeds))
   legal_alone desk end first folder clock clock' old new none unticked s =
       let last = s.last in
@@ -65,13 +65,13 @@ module _ {S K F N D C L : Type 0} (m : Meanings S K F N D C L) where
       (subst (λ (l : List Item). LegalFrom last.begin l) items (s.lawful.alone calm))
 
   -- each listing of a connection over a fresh shard shows it after the entries that were made before
-  shown_alone : (desk : Desk) (end : ConnEnd) (stood : Opening) (opened : ℕ) (first : Book F) (folder : F) (clock clock' : C) (old new : Outside S K F N D C) → first.begin ≡ new_life stood opened 1 → first.made ≡ [] → first.ticked ≡ false
+  shown_alone : (desk : Desk) (end : ConnEnd) (stood : Opening) (opened : ℕ) (first : Book F) (folder : F) (clock clock' : C) (old new : Outside S K F N D C G) → first.begin ≡ new_life stood opened 1 → first.made ≡ [] → first.ticked ≡ false
       → (s : ServesShard m desk end first folder clock clock' old new) → AreShownIn stood opened 1 [] s.serves.deeds
   shown_alone desk end stood opened first folder clock clock' old new life none unticked s =
       all_shown stood opened 1 (sight_of s.last) (sight_of first) [] s.serves.deeds
       (record { begin_is = life; calm = unticked; own_is = ap (λ (l : List Made). entries (items_of l)) none }) s.serves.makes.met
 
-  pub opens_and_serves : (desk : Desk) (keys : Keys) (base : List ℕ) (editor : Bool) (origin : Option (List ℕ)) (opened : ℕ) (end : ConnEnd) (folder folder' : F) (clock mid clock' : C) (old new : Outside S K F N D C)
+  pub opens_and_serves : (desk : Desk) (keys : Keys) (base : List ℕ) (editor : Bool) (origin : Option (List ℕ)) (opened : ℕ) (end : ConnEnd) (folder folder' : F) (clock mid clock' : C) (old new : Outside S K F N D C G)
       (stood : Opening) (first : Book F) → desk.keys ≡ keys → desk.base ≡ base → desk.editor ≡ editor → desk.origin ≡ origin → desk.opened ≡ opened → Gives (m.work.moments clock) (m.work.moments mid) opened
       → first ≡ record {
         only = None;
@@ -107,7 +107,7 @@ module _ {S K F N D C L : Type 0} (m : Meanings S K F N D C L) where
   }
 
   -- the same where the shard was opened over a store round the folder
-  pub kept_and_served : (desk : Desk) (keys : Keys) (base : List ℕ) (editor : Bool) (origin : Option (List ℕ)) (opened : ℕ) (end : ConnEnd) (folder kept folder' : F) (clock mid clock' : C) (old new : Outside S K F N D C)
+  pub kept_and_served : (desk : Desk) (keys : Keys) (base : List ℕ) (editor : Bool) (origin : Option (List ℕ)) (opened : ℕ) (end : ConnEnd) (folder kept folder' : F) (clock mid clock' : C) (old new : Outside S K F N D C G)
       (stood : Opening) (first : Book F) → kept ≡ folder → desk.keys ≡ keys → desk.base ≡ base → desk.editor ≡ editor → desk.origin ≡ origin → desk.opened ≡ opened → Gives (m.work.moments clock) (m.work.moments mid) opened
       → first ≡ record {
         only = None;
@@ -128,7 +128,7 @@ module _ {S K F N D C L : Type 0} (m : Meanings S K F N D C L) where
       (opens_and_serves desk keys base editor origin opened end kept folder' clock mid clock' old new stood first keys_are base_is editor_is origin_is opened_is times book opening fits dated told serves)
 
   -- a run speaks of the streams alone, and of the folder and the clock that it was given
-  module _ (keys : Keys) (base : List ℕ) (editor : Bool) (origin : Option (List ℕ)) (folder folder' : F) (clock clock' : C) (old new old' new' : Outside S K F N D C)
+  module _ (keys : Keys) (base : List ℕ) (editor : Bool) (origin : Option (List ℕ)) (folder folder' : F) (clock clock' : C) (old new old' new' : Outside S K F N D C G)
       (input_is : old.input ≡ old'.input) (input_then : new.input ≡ new'.input) (output_is : old.output ≡ old'.output) (output_then : new.output ≡ new'.output) where
     moved : (end : ConnEnd) → OpensAndServes m keys base editor origin end folder folder' clock clock' old new → OpensAndServes m keys base editor origin end folder folder' clock clock' old' new'
     moved end served =
@@ -162,10 +162,10 @@ module _ {S K F N D C L : Type 0} (m : Meanings S K F N D C L) where
     runs_moved Memory none = none
 
   -- nor does it speak of the notes
-  pub once_noted : (keys : Keys) (base base' : List ℕ) (editor : Bool) (origin origin' : Option (List ℕ)) (end : OnceEnd) (old new : Outside S K F N D C) (notes : K) → base ≡ base' → origin ≡ origin' → OnceRunsIn m keys base editor origin end old new
+  pub once_noted : (keys : Keys) (base base' : List ℕ) (editor : Bool) (origin origin' : Option (List ℕ)) (end : OnceEnd) (old new : Outside S K F N D C G) (notes : K) → base ≡ base' → origin ≡ origin' → OnceRunsIn m keys base editor origin end old new
       → OnceRunsIn m keys base' editor origin' end old (record new { notes = notes })
   once_noted keys base base' editor origin origin' end old new notes is same ran =
-      let new' : Outside S K F N D C = record new { notes = notes } in
+      let new' : Outside S K F N D C G = record new { notes = notes } in
       let noted : OnceRunsIn m keys base editor origin end old new' = record {
         folder = ran.folder;
         folder' = ran.folder';
@@ -180,7 +180,7 @@ module _ {S K F N D C L : Type 0} (m : Meanings S K F N D C L) where
       in
       subst (λ o. OnceRunsIn m keys base' editor o end old new') same (subst (λ b. OnceRunsIn m keys b editor origin end old new') is noted)
 
-pub untouched_noted : {S K F N D C : Type 0} (end : OnceEnd) (old new : Outside S K F N D C) (notes : K) → Untouched end old new
+pub untouched_noted : {S K F N D C G : Type 0} (end : OnceEnd) (old new : Outside S K F N D C G) (notes : K) → Untouched end old new
     → Untouched end old (record new { notes = notes })
 untouched_noted (Served end) old new notes same = tt
 untouched_noted FolderFault old new notes same = same
@@ -238,7 +238,7 @@ Finishes-known held count status old new (TooLarge name) (inr want) two = absurd
 Finishes-known held count status old new Memory is two = absurd (omega (arith, is.0, two))
 
 -- a run of `once` doesn't end as words that are no command
-pub OnceEnds-known : {S K F N D C L : Type 0} (m : Meanings S K F N D C L) (words : List (List ℕ)) (status : ℕ) (old new : Outside S K F N D C)
+pub OnceEnds-known : {S K F N D C G L : Type 0} (m : Meanings S K F N D C G L) (words : List (List ℕ)) (status : ℕ) (old new : Outside S K F N D C G)
     → OnceEnds m words status old new → status ≢ 2
 OnceEnds-known m words status old new (inl want) = λ two. let six = want.status_is in absurd (omega (arith, six, two))
 OnceEnds-known m words status old new (inr ran) = Finishes-known m.held m.write_faults status old.notes new.notes ran.end ran.finishes

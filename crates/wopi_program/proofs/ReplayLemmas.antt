@@ -44,20 +44,20 @@ bad-not n other held held' status last (inl (seven, grew)) is = other.3 (sym is 
 bad-not n other held held' status last (inr (some, inl (four, front, rest, same, more))) is = other.1 (sym is ∙ four)
 bad-not n other held held' status last (inr (some, inr (six, more))) is = other.2 (sym is ∙ six)
 
-module _ {S K F N D C L : Type 0} (m : Meanings S K F N D C L) where
-  inputs_noted : (status : ℕ) (old new : Outside S K F N D C) (notes : K) → InputReplays m status old new → InputReplays m status old (record new { notes = notes })
+module _ {S K F N D C G L : Type 0} (m : Meanings S K F N D C G L) where
+  inputs_noted : (status : ℕ) (old new : Outside S K F N D C G) (notes : K) → InputReplays m status old new → InputReplays m status old (record new { notes = notes })
   inputs_noted status old new notes (inl unrun) = inl (record { statuses = unrun.statuses; output_is = unrun.output_is })
   inputs_noted status old new notes (inr (inl bad)) = inr (inl (record { number = bad.number; bad = bad.bad; told = bad.told }))
   inputs_noted status old new notes (inr (inr traced)) =
       inr (inr (record { lines = traced.lines; read = traced.read; whole = traced.whole; told = traced.told }))
 
   -- what became of a schedule says nothing of the notes
-  pub asks_noted : (ask : ReplayAsk) (status : ℕ) (old new : Outside S K F N D C) (notes : K) → AskReplays m ask status old new
+  pub asks_noted : (ask : ReplayAsk) (status : ℕ) (old new : Outside S K F N D C G) (notes : K) → AskReplays m ask status old new
       → AskReplays m ask status old (record new { notes = notes })
   asks_noted Input status old new notes replays = inputs_noted status old new notes replays
   asks_noted (Generated seed count) status old new notes replays = replays
 
-  input-not-2 : (status : ℕ) (old new : Outside S K F N D C) → InputReplays m status old new → status ≢ 2
+  input-not-2 : (status : ℕ) (old new : Outside S K F N D C G) → InputReplays m status old new → status ≢ 2
   input-not-2 status old new (inl unrun) two = elim unrun.statuses [
     | inl three ↦ absurd (omega (arith, three, two))
     | inr six ↦ absurd (omega (arith, six, two))
@@ -66,11 +66,11 @@ module _ {S K F N D C L : Type 0} (m : Meanings S K F N D C L) where
   input-not-2 status old new (inr (inr traced)) two =
       told-not 2 two_is_other trace_text traced.lines status (m.held old.output) (m.held new.output) traced.told two
 
-  ask-not-2 : (ask : ReplayAsk) (status : ℕ) (old new : Outside S K F N D C) → AskReplays m ask status old new → status ≢ 2
+  ask-not-2 : (ask : ReplayAsk) (status : ℕ) (old new : Outside S K F N D C G) → AskReplays m ask status old new → status ≢ 2
   ask-not-2 Input status old new replays two = input-not-2 status old new replays two
   ask-not-2 (Generated seed count) status old new replays two = replays-not 2 two_is_other m.held _ _ status old.output new.output replays.1 two
 
-  pub ReplayEnds-known : (words : List (List ℕ)) (status : ℕ) (old new : Outside S K F N D C) → ReplayEnds m words status old new → status ≢ 2
+  pub ReplayEnds-known : (words : List (List ℕ)) (status : ℕ) (old new : Outside S K F N D C G) → ReplayEnds m words status old new → status ≢ 2
   ReplayEnds-known words status old new ends two = ask-not-2 ends.asked status old new ends.replays two
 
 -- ---- a text that was written
@@ -97,7 +97,7 @@ pub replays_not_3 : {K : Type 0} (held : K → Option (List ℕ)) (lines : Lines
 replays_not_3 held lines status output output' replays is = replays-not 3 three_is_other held trace_text lines status output output' replays is
 
 -- the trace of an input that was read
-pub traced_of : {S K F N D C L : Type 0} (m : Meanings S K F N D C L) (lines : Lines) (status : ℕ) (old new : Outside S K F N D C)
+pub traced_of : {S K F N D C G L : Type 0} (m : Meanings S K F N D C G L) (lines : Lines) (status : ℕ) (old new : Outside S K F N D C G)
     → IsWholeInput (m.left old.input) lines → IsAtEnd (m.left new.input) → Replays m.held trace_text lines status old.output new.output → InputReplays m status old new
 traced_of m lines status old new read whole (inl wanting) = inl (record { statuses = inr wanting.0; output_is = wanting.1 })
 traced_of m lines status old new read whole (inr told) = inr (inr (record { lines = lines; read = read; whole = whole; told = told }))

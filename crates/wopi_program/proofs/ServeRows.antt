@@ -1,14 +1,14 @@
 -- The row of `serve` in the table of words.
-use Rattle.std.proofs.Common.{◌≡◌, ◌↔◌, ℕ, suc, ◌<◌, ◌≤◌, ◌+◌, Bool, true, false, if◌then◌else◌, List, [], ◌∷◌, None, Some, Option, IfSome, length, map, get_or, drop, codes, refl, sym, ap, ◌∙◌, subst, arith}
-use Rattle.std.specs.Option.{option_len}
+use Rattle.std.proofs.Common.{◌≡◌, ◌↔◌, ℕ, suc, ◌<◌, ◌≤◌, ◌+◌, Bool, true, false, if◌then◌else◌, List, [], ◌∷◌, None, Some, Option, IfSome, is_some, length, map, get_or, drop, codes, refl, sym, ap, ◌∙◌, subst, arith, Bor}
+use Rattle.std.specs.Option.{option_copied, option_len}
 use Rattle.std.specs.Str.{bytes_eq}
 use Rattle.access_tokens.specs.Keys.{IsWordOf}
 use Rattle.host_core.specs.Opening.{most_first}
 use Rattle.access_tokens.specs.Addresses.{is_base}
 use Rattle.wopi_program.specs.declared.serve_words.ServeAsk.{ServeAsk}
 use Rattle.wopi_program.specs.declared.serve_words.ServeOptions.{ServeOptions}
-use Rattle.wopi_program.specs.EditorWords.{TellsOrigin, origin_told}
-use Rattle.wopi_program.specs.ServeWords.{IsServe, IsServeRow, asked_of, before_others, number_in, option_before, options_of, unless_told, with_each, with_first, with_journal, with_links}
+use Rattle.wopi_program.specs.EditorWords.{TellsOrigin, behind_editor, origin_told, serves_editors}
+use Rattle.wopi_program.specs.ServeWords.{IsServe, IsServeRow, ask_of, asked, asked_of, before_others, behind_keep, goes_with, kept_ids, logs_told, number_in, option_before, options_of, unless_told, with_each, with_first, with_ids, with_journal, with_links}
 use Rattle.access_tokens.specs.declared.keys.Keys.{Keys}
 
 -- a list with these six things at its front
@@ -25,15 +25,15 @@ six_items (p ∷ q ∷ r ∷ s ∷ t ∷ o ∷ xs) u v w x y z some a b c d e f 
 
 -- how many options were told
 abbrev told_many : ServeOptions → ℕ
-told_many told = option_len told.journal + (option_len told.each + (option_len told.first + option_len told.links))
+told_many told = option_len told.journal + (option_len told.each + (option_len told.first + (option_len told.links + option_len told.ids)))
 
 few_len : (number : Option ℕ) → option_len number ≤ 1
 few_len None = omega arith
 few_len (Some number) = omega arith
 
-few_told : (told : ServeOptions) → told_many told ≤ 4
+few_told : (told : ServeOptions) → told_many told ≤ 5
 few_told told =
-    let a = few_len told.journal in let b = few_len told.each in let c = few_len told.first in let d = few_len told.links in omega (arith, a, b, c, d)
+    let a = few_len told.journal in let b = few_len told.each in let c = few_len told.first in let d = few_len told.links in let e = few_len told.ids in omega (arith, a, b, c, d, e)
 
 -- what is told with one option more
 abbrev IsMore : ServeOptions → Option ServeOptions → Type 0
@@ -59,6 +59,11 @@ links_more (Some told) number options is = tt
 links_more None None options is = tt
 links_more None (Some number) options is = let none : option_len options.links ≡ 0 = ap option_len is in omega (arith, none)
 
+ids_more : (ids number : Option ℕ) (options : ServeOptions) → options.ids ≡ ids → IsMore options (with_ids options (unless_told ids number))
+ids_more (Some told) number options is = tt
+ids_more None None options is = tt
+ids_more None (Some number) options is = let none : option_len options.ids ≡ 0 = ap option_len is in omega (arith, none)
+
 either : {X : Type 0} (P : X → Type 0) (test : Bool) (x y : X) → P x → P y → P (if test then x else y)
 either P true x y p q = p
 either P false x y p q = q
@@ -68,7 +73,8 @@ before_more name word options =
     either (IsMore options) (bytes_eq name (codes "--journal")) _ _ (journal_more options.journal (number_in 32768 word) options refl)
     (either (IsMore options) (bytes_eq name (codes "--each")) _ _ (each_more options.each (number_in 1000000 word) options refl)
     (either (IsMore options) (bytes_eq name (codes "--first")) _ _ (first_more options.first (number_in (most_first) word) options refl)
-    (either (IsMore options) (bytes_eq name (codes "--links")) _ _ (links_more options.links (number_in 1024 word) options refl) tt)))
+    (either (IsMore options) (bytes_eq name (codes "--links")) _ _ (links_more options.links (number_in 1024 word) options refl)
+    (either (IsMore options) (bytes_eq name (codes "--ids")) _ _ (ids_more options.ids (number_in 32768 word) options refl) tt))))
 
 -- each option has two words
 abbrev HaveTwo : ℕ → Option ServeOptions → Type 0
@@ -88,7 +94,7 @@ have_two [] = refl
 have_two (name ∷ []) = tt
 have_two (name ∷ word ∷ words) = two_before name word (options_of words) (length words) (have_two words)
 
-none_told : (result : Option ServeOptions) (words : ℕ) → 8 < words → HaveTwo words result → None ≡ result
+none_told : (result : Option ServeOptions) (words : ℕ) → 10 < words → HaveTwo words result → None ≡ result
 none_told None words many two = refl
 none_told (Some told) words many two = let few = few_told told in absurd (omega (arith, many, two, few))
 
@@ -97,9 +103,9 @@ module _ {A : Type 0} (f : A → List ℕ) where
   many_mapped [] = refl
   many_mapped (x ∷ xs) = ap suc (many_mapped xs)
 
-  -- more words than those of four options are no options, nor is one
-  pub many_words : (xs : List A) → 8 < length xs → None ≡ options_of (map f xs)
-  many_words xs many = none_told (options_of (map f xs)) (length (map f xs)) (subst (λ n. 8 < n) (sym (many_mapped xs)) many) (have_two (map f xs))
+  -- more words than those of five options are no options, nor is one
+  pub many_words : (xs : List A) → 10 < length xs → None ≡ options_of (map f xs)
+  many_words xs many = none_told (options_of (map f xs)) (length (map f xs)) (subst (λ n. 10 < n) (sym (many_mapped xs)) many) (have_two (map f xs))
 
   pub one_word : (xs : List A) → 0 < length xs → length xs < 2 → None ≡ options_of (map f xs)
   one_word [] some few = absurd (omega (arith, some))
@@ -115,7 +121,7 @@ module _ {A : Type 0} (f : A → List ℕ) where
 pub refused : (words : List (List ℕ)) (word folder port key_word base workers : List ℕ) (rest : List (List ℕ))
     → words ≡ word ∷ folder ∷ port ∷ key_word ∷ base ∷ workers ∷ rest
     → ((keys : Keys) (ask : ServeAsk) → word ≡ codes "serve" → 0 < length folder → IsWordOf keys key_word → is_base base ≡ true
-    → TellsOrigin rest → asked_of port workers rest ≡ Some ask → ⊥) → IsServe words → ⊥
+    → TellsOrigin rest → IfSome (logs_told rest) (λ logs. 0 < length logs) → asked_of port workers rest ≡ Some ask → ⊥) → IsServe words → ⊥
 refused words word folder port key_word base workers rest are denied (keys, base', ask, row) =
     let same : word ∷ folder ∷ port ∷ key_word ∷ base ∷ workers ∷ rest ≡ codes "serve" ∷ row.folder ∷ row.port ∷ row.key_word ∷ base' ∷ row.workers ∷ row.options =
     sym are ∙ row.words_are in
@@ -127,13 +133,37 @@ refused words word folder port key_word base workers rest are denied (keys, base
     let w : row.workers ≡ workers = cc same in
     let o : row.options ≡ rest = cc same in
     denied keys ask a (subst (λ (l : List ℕ). 0 < length l) b row.folder_is) (subst (IsWordOf keys) d row.keys_are) (ap is_base (sym e) ∙ row.base_is)
-    (subst TellsOrigin o row.origin_is)
+    (subst TellsOrigin o row.origin_is) (subst (λ (l : List (List ℕ)). IfSome (logs_told l) (λ logs. 0 < length logs)) o row.logs_are)
     (ap (λ (l : List ℕ). asked_of l workers rest) (sym p) ∙ ap (λ (l : List ℕ). asked_of row.port l rest) (sym w)
     ∙ ap (λ (l : List (List ℕ)). asked_of row.port row.workers l) (sym o) ∙ row.ask_is)
 
 -- what they tell of a page is read off them
 pub serve_page : (words : List (List ℕ)) (keys : Keys) (base : List ℕ) (ask : ServeAsk) (row : IsServeRow words keys base ask) → origin_told (drop 6 words) ≡ origin_told row.options
 serve_page words keys base ask row = ap (λ (l : List (List ℕ)). origin_told (drop 6 l)) row.words_are
+
+-- and what they tell of logs
+pub serve_logs : (words : List (List ℕ)) (keys : Keys) (base : List ℕ) (ask : ServeAsk) (row : IsServeRow words keys base ask) → logs_told (drop 6 words) ≡ logs_told row.options
+serve_logs words keys base ask row = ap (λ (l : List (List ℕ)). logs_told (drop 6 l)) row.words_are
+
+ids_kept : (keeps : Bool) (ids : Option ℕ) → is_some (kept_ids keeps ids) ≡ keeps
+ids_kept true ids = refl
+ids_kept false ids = refl
+
+chosen_kept : (b keeps : Bool) (one ask : ServeAsk) → is_some one.keep ≡ keeps → (if b then Some one else None) ≡ Some ask → is_some ask.keep ≡ keeps
+chosen_kept true keeps one ask is same = let are : one ≡ ask = cc same in subst (λ (a : ServeAsk). is_some a.keep ≡ keeps) are is
+chosen_kept false keeps one ask is same = absurd (cc same)
+
+asked_kept : (port workers : Option ℕ) (editor keeps : Bool) (options : Option ServeOptions) (ask : ServeAsk) → asked port workers editor keeps options ≡ Some ask → is_some ask.keep ≡ keeps
+asked_kept None workers editor keeps options ask is = absurd (cc is)
+asked_kept (Some port) None editor keeps options ask is = absurd (cc is)
+asked_kept (Some port) (Some workers) editor keeps None ask is = absurd (cc is)
+asked_kept (Some port) (Some workers) editor keeps (Some options) ask is =
+    chosen_kept (goes_with keeps options) keeps (ask_of port workers editor keeps options) ask (ids_kept keeps options.ids) is
+
+-- where they name a folder of logs, and there alone, logs are kept
+pub row_kept : (words : List (List ℕ)) (keys : Keys) (base : List ℕ) (ask : ServeAsk) (row : IsServeRow words keys base ask) → is_some ask.keep ≡ is_some (logs_told row.options)
+row_kept words keys base ask row =
+    asked_kept (number_in 65535 row.port) (number_in 16 row.workers) (serves_editors row.options) (is_some (logs_told row.options)) (options_of (behind_keep (behind_editor row.options))) ask row.ask_is
 
 -- the words have these numbers alone
 pub ask_same : (words : List (List ℕ)) (keys : Keys) (base : List ℕ) (keys' : Keys) (base' : List ℕ) (ask ask' : ServeAsk) → IsServeRow words keys base ask → IsServeRow words keys' base' ask'
@@ -155,3 +185,7 @@ ask_exact words keys base ask row = λ other.
 pub ask_none : (words : List (List ℕ)) → (IsServe words → ⊥) → (other : ServeAsk)
     → (None ≡ Some other) ↔ ((keys : Keys) × (base : List ℕ) × IsServeRow words keys base other)
 ask_none words none = λ other. ((λ e. absurd (cc e)), λ all. absurd (none (all.0, all.1, other, all.2)))
+
+pub copied_some : {X : Type 0} (found : Option (Bor X)) → is_some (option_copied found) ≡ is_some found
+copied_some None = refl
+copied_some (Some x) = refl

@@ -61,7 +61,7 @@ get_behind front one later whole e = subst (λ (l : List _). slice_get l (length
     there [] = refl
     there (x ∷ xs) = there xs
 
-module _ {S K F N D C L : Type 0} (m : Meanings S K F N D C L) (desk : Desk)
+module _ {S K F N D C G L : Type 0} (m : Meanings S K F N D C G L) (desk : Desk)
     (come : (end : ConnEnd) (input : List ℕ) (left : Option (List ℕ)) (moments : List ℕ) (deeds : List Deed) (output : List ℕ) → IsConnEnd desk end input left moments deeds output →
     AllByRecursion (IsOfMessage desk input deeds) (made deeds))
     (all : List (List (Visit L))) where

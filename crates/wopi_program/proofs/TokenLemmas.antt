@@ -8,7 +8,7 @@ use Rattle.wopi_program.specs.Telling.{TextEnds}
 use Rattle.wopi_program.specs.Token.{TokenEnds, token_line}
 use Rattle.wopi_program.specs.Words.{IsTokenRow}
 
-module _ {S K F N D C L : Type 0} (m : Meanings S K F N D C L) (words : List (List ℕ)) (status : ℕ) (old new : Outside S K F N D C) where
+module _ {S K F N D C G L : Type 0} (m : Meanings S K F N D C G L) (words : List (List ℕ)) (status : ℕ) (old new : Outside S K F N D C G) where
   pub TokenEnds-told : (keys : Keys) (token : Token) (text : List ℕ) → IsTokenRow words keys token → text ≡ token_line keys token
       → TextEnds m text status old new → TokenEnds m words status old new
   TokenEnds-told keys token text row text_is ends =

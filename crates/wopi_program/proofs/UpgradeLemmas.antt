@@ -10,8 +10,8 @@ rewritten-not-2 : (text : JournalText) (status : ℕ) (held held' : Option (List
 rewritten-not-2 text status held held' (inl (zero, whole)) two = absurd (omega (arith, zero, two))
 rewritten-not-2 text status held held' (inr (four, front)) two = absurd (omega (arith, four, two))
 
-module _ {S K F N D C L : Type 0} (m : Meanings S K F N D C L) where
-  upgrades-not-2 : (status : ℕ) (old new : Outside S K F N D C) → Upgrades m status old new → status ≢ 2
+module _ {S K F N D C G L : Type 0} (m : Meanings S K F N D C G L) where
+  upgrades-not-2 : (status : ℕ) (old new : Outside S K F N D C G) → Upgrades m status old new → status ≢ 2
   upgrades-not-2 status old new (inl unrun) two = elim unrun.statuses [
     | inl three ↦ absurd (omega (arith, three, two))
     | inr six ↦ absurd (omega (arith, six, two))
@@ -22,5 +22,5 @@ module _ {S K F N D C L : Type 0} (m : Meanings S K F N D C L) where
   upgrades-not-2 status old new (inr (inr (inr good))) two = rewritten-not-2 good.text status (m.held old.output) (m.held new.output) good.told two
 
   -- a run of `upgrade` doesn't end as words that are no command
-  pub UpgradeEnds-known : (status : ℕ) (old new : Outside S K F N D C) → UpgradeEnds m status old new → status ≢ 2
+  pub UpgradeEnds-known : (status : ℕ) (old new : Outside S K F N D C G) → UpgradeEnds m status old new → status ≢ 2
   UpgradeEnds-known status old new ends = upgrades-not-2 status old new ends.upgrades

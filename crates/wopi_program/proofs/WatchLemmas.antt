@@ -1,12 +1,11 @@
 -- What a watch told, one look after another.
-use Rattle.std.proofs.Common.{◌≡◌, ◌≢◌, ◌⊎◌, ℕ, zero, suc, ◌+◌, ◌*◌, ◌-◌, ◌<◌, ◌≤◌, ◌==◌, Bool, true, false, if◌then◌else◌, List, [], ◌∷◌, ◌++◌, map, length, set, replicate, Option, None, Some, slice_get, get_or, sum_by, inl, inr, refl, sym, ap, ◌∙◌, subst, append_assoc, append-nil, arith}
+use Rattle.std.proofs.Common.{◌≡◌, ◌≢◌, ◌⊎◌, ℕ, zero, suc, ◌+◌, ◌*◌, ◌<◌, ◌≤◌, ◌==◌, Bool, true, false, if◌then◌else◌, List, [], ◌∷◌, ◌++◌, map, length, set, replicate, Option, None, Some, slice_get, get_or, sum_by, inl, inr, refl, sym, ap, ◌∙◌, subst, append_assoc, append-nil, arith}
 use Rattle.std.proofs.lemmas.List.{map-append, length-set}
 use Rattle.std.proofs.lemmas.List.Sums.{sum_by-append}
 use Rattle.std.proofs.lemmas.Option.{slice_get_within}
 use Rattle.std.proofs.lemmas.Bool.Decides.{nat_tests}
 use Rattle.std.specs.Io.KnownBytes.{Appends}
 use Rattle.outside.specs.Faults.{Rose}
-use Rattle.outside.specs.Folder.{Files}
 use Rattle.turn_lock.specs.Places.{times}
 use Rattle.turn_lock.proofs.Sums.{times-append}
 use Rattle.wopi_model.specs.Begin.{Begin, new_life}
@@ -16,15 +15,16 @@ use Rattle.wopi_model.proofs.Fullness.{opening-bytes}
 use Rattle.host_core.specs.Caller.{Sight, Extends}
 use Rattle.host_core.specs.Fullness.{IsNearlyFull, IsNearlyFullAt, WasNearlyFull}
 use Rattle.host_core.specs.Listing.{LooksAt}
-use Rattle.host_core.specs.Value.{Book, InMemory, Left}
-use Rattle.host_core.specs.Times.{untimed}
+use Rattle.host_core.specs.Value.{Left}
+use Rattle.host_core.specs.Times.{steps_of, untimed}
 use Rattle.host_table.specs.Journal.{JournalView, IsNearlyFullIn}
 use Rattle.host_table.specs.Passes.{HostView, PassView, IsPassOf, IsSamePass, sight_of}
-use Rattle.host_table.specs.Close.{AreSeen, AreEnded}
+use Rattle.host_table.specs.Close.{AreSeen}
 use Rattle.wopi_program.specs.Journal.{entries_in}
 use Rattle.wopi_program.specs.Notes.{AreFronts, Notes, NotesAll, text_of}
-use Rattle.wopi_program.specs.Watched.{AreRight, AreRightIn, HasTold, TellsOf, WasNearlyFullAt, nearly_full_line, none_raised, raised}
+use Rattle.wopi_program.specs.Watched.{AreRight, AreRightIn, HasTold, SawNearlyFull, TellsOf, WasNearlyFullAt, WasNearlyFullIn, nearly_full_line, none_raised, raised}
 use Rattle.wopi_program.proofs.JournalLemmas.{begin_part, entries-alone, extends_on, front_at, part_there}
+use Rattle.wopi_program.proofs.Merged.{AreBased}
 
 -- ---- lines one after another
 
@@ -259,14 +259,14 @@ all_before held count old new marks marks' capacity parts at before tells here s
     go false is = let below : shard < at = grind (arith, nat_tests, inside) in
         stays_raised held count old new marks marks' shard tells (before shard below near)
 
-module _ {F : Type 0} (files : F → Option Files) (faults : F → ℕ) (host : HostView (InMemory F)) (pass : PassView (InMemory F)) (parts : List (Left F)) (folders : List F)
-    (of : IsPassOf host pass) (seen : AreSeen pass.seats parts) (ended : AreEnded files faults host.opened host.first host.bases parts folders)
+module _ {T F : Type 0} (host : HostView T) (pass : PassView T) (parts : List (Left F))
+    (of : IsPassOf host pass) (seen : AreSeen pass.seats parts) (based : AreBased host.opened host.first host.bases parts)
     (capacity : ℕ) (limits : pass.limits ≡ kept_limits capacity) where
   near_in : (shard : ℕ) (part : Left F) → slice_get parts shard ≡ Some part → WasNearlyFullAt (sight_of pass) shard → IsNearlyFullIn capacity (slice_get parts shard)
   near_in shard part is (before, begins, near) =
       let sight = sight_of pass in
       let life : Begin = new_life part.opening host.opened host.first in
-      let begin : sight.begins shard ≡ life = begin_part files faults host.opened host.first pass.seats host.bases parts folders shard part of.bases ended is in
+      let begin : sight.begins shard ≡ life = begin_part host.opened host.first pass.seats host.bases parts shard part of.bases based is in
       let front = front_at pass.seats parts shard seen in
       let rest : Extends (entries (sight.seen shard)) (entries (untimed part.made)) =
       (front.0, entries-alone part.made ∙ (ap (λ (o : Option (Left F)). entries_in o) (sym is) ∙ front.1)) in
@@ -282,20 +282,54 @@ module _ {F : Type 0} (files : F → Option Files) (faults : F → ℕ) (host : 
       let there = part_there pass.seats parts shard seen (omega (arith, below, many, wide)) in
       near_in shard there.0 there.1 (right.each shard is)
 
--- a host leaves a part of each of its shards
-pub parts_many : {F : Type 0} (files : F → Option Files) (faults : F → ℕ) (opened first : ℕ) (bases : List (Book (InMemory F))) (parts : List (Left F)) (folders : List F)
-    → AreEnded files faults opened first bases parts folders → length bases ≡ 16 → length parts ≤ 16
-parts_many {F = F} files faults opened first bases parts folders ended many = let same = as_many bases parts folders ended in omega (arith, same, many)
-  where
-    as_many : (bs : List (Book (InMemory F))) (ps : List (Left F)) (fs : List F) → AreEnded files faults opened first bs ps fs → length ps ≡ length bs
-    as_many [] [] [] e = refl
-    as_many [] [] (f ∷ fs) e = absurd e
-    as_many [] (p ∷ ps) [] e = absurd e
-    as_many [] (p ∷ ps) (f ∷ fs) e = absurd e
-    as_many (b ∷ bs) [] [] e = absurd e
-    as_many (b ∷ bs) [] (f ∷ fs) e = absurd e
-    as_many (b ∷ bs) (p ∷ ps) [] e = absurd e
-    as_many (b ∷ bs) (p ∷ ps) (f ∷ fs) e = ap suc (as_many bs ps fs e.1)
+-- what was seen of a shard, in what it leaves
+module _ {T F : Type 0} (host : HostView T) (pass : PassView T) (journal : JournalView F) (opened : journal.opened ≡ host.opened) (begins : journal.first ≡ host.first)
+    (of : IsPassOf host pass) (seen : AreSeen pass.seats journal.parts) (based : AreBased host.opened host.first host.bases journal.parts) (wide : length pass.seats ≡ 16) where
+  was_in : (shard : ℕ) (part : Left F) → slice_get journal.parts shard ≡ Some part → WasNearlyFullAt (sight_of pass) shard
+      → WasNearlyFullIn pass.limits.calls journal.opened journal.first (slice_get journal.parts shard)
+  was_in shard part is (before, begun, near) =
+      let sight = sight_of pass in
+      let begin : sight.begins shard ≡ new_life part.opening journal.opened journal.first =
+      begin_part host.opened host.first pass.seats host.bases journal.parts shard part of.bases based is ∙ (λ i. new_life part.opening (sym opened i) (sym begins i)) in
+      let front = front_at pass.seats journal.parts shard seen in
+      let rest : Extends (entries (sight.seen shard)) (steps_of part.made) = (front.0, ap (λ (o : Option (Left F)). entries_in o) (sym is) ∙ front.1) in
+      let fact : WasNearlyFullIn pass.limits.calls journal.opened journal.first (Some part) = (
+        before,
+        extends_on (entries before) (entries (sight.seen shard)) (steps_of part.made) begun rest,
+        subst (λ (b : Begin). IsNearlyFull pass.limits.calls b before) begin near,
+      )
+      in
+      subst (λ (o : Option (Left F)). WasNearlyFullIn pass.limits.calls journal.opened journal.first o) (sym is) fact
+
+  pub saw : {K : Type 0} (held : K → Option (List ℕ)) (count : K → ℕ) (limits : Limits) (old new : K) (marks : List Bool) → pass.limits ≡ limits → TellsOf held count old new none_raised marks
+      → AreRight marks (sight_of pass) → SawNearlyFull held count limits journal old new
+  saw held count limits old new marks limits_are tells right = record {
+    told = tells.told;
+    once = λ shard.
+        let none = none_there shard 16 in
+        let now = tells.are_raised shard in
+        let one = at_most_one (slice_get marks shard) in
+        omega (arith, none, now, one);
+    were = λ shard told.
+        let none = none_there shard 16 in
+        let now = tells.are_raised shard in
+        let up : slice_get marks shard ≡ Some true = is_up (slice_get marks shard) (omega (arith, none, now, told)) in
+        let below : shard < length marks = slice_get_within marks shard true up in
+        let many : length marks ≡ 16 = tells.many in
+        let there = part_there pass.seats journal.parts shard seen (omega (arith, below, many, wide)) in
+        subst (λ (l : Limits). WasNearlyFullIn l.calls journal.opened journal.first (slice_get journal.parts shard)) limits_are (was_in shard there.0 there.1 (right.each shard up));
+    lines = tells.lines;
+  }
+    where
+      at_most_one : (mark : Option Bool) → raised mark ≤ 1
+      at_most_one None = omega arith
+      at_most_one (Some false) = omega arith
+      at_most_one (Some true) = omega arith
+
+      is_up : (mark : Option Bool) → raised mark ≡ 1 → mark ≡ Some true
+      is_up None one = absurd (omega (arith, one))
+      is_up (Some false) one = absurd (omega (arith, one))
+      is_up (Some true) one = refl
 
 -- every shard was looked at
 pub all_told : {K F : Type 0} (held : K → Option (List ℕ)) (count : K → ℕ) (capacity : ℕ) (journal : JournalView F) (old new : K) (marks : List Bool) → TellsOf held count old new none_raised marks

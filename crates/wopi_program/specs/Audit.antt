@@ -33,6 +33,6 @@ IsJudged held text status output output' =
     ⊎ ((number : ℕ) × (wrong : AuditFault) × IsBadLine text number wrong × Tells (held output) (held output') status 14 [] (fault_line number wrong)))
 
 -- a run: what the input is, and, where that is a journal, what was told of it; and the notes
-pub record AuditEnds {S K F N D C L : Type 0} (m : Meanings S K F N D C L) (status : ℕ) (old new : Outside S K F N D C) : Type 0 where
+pub record AuditEnds {S K F N D C G L : Type 0} (m : Meanings S K F N D C G L) (status : ℕ) (old new : Outside S K F N D C G) : Type 0 where
   pub audits : TakesJournal m (IsJudged m.held) status old new
   pub notes : NotesForUpgrade m.held m.write_faults status old.notes new.notes

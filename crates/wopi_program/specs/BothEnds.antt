@@ -1,5 +1,5 @@
 -- An `edit` and the `serve` that it speaks with. (Own.)
-use Rattle.std.specs.Prelude.{◌≡◌, ℕ, List, map, Option, Some}
+use Rattle.std.specs.Prelude.{◌≡◌, ◌⊎◌, ℕ, List, map, Option, Some}
 use Rattle.std.specs.List.{slice_get}
 use Rattle.outside.specs.Stream.{Are}
 use Rattle.wopi_text.specs.FileName.{shard_of}
@@ -19,6 +19,7 @@ use Rattle.wopi_ends.specs.Sources.{IsOfMessage}
 use Rattle.wopi_program.specs.declared.outside_world.Outside.{Outside}
 use Rattle.wopi_program.specs.declared.serve_words.ServeAsk.{ServeAsk}
 use Rattle.wopi_program.specs.Meanings.{Meanings}
+use Rattle.wopi_program.specs.Keep.{HasKept, KeptShard}
 use Rattle.wopi_program.specs.Serve.{HasServed}
 
 -- what a host's journal has of the shard of the client's file
@@ -33,11 +34,13 @@ start_at journal client = opened_shard (opening_of (shard_of client.token.file) 
 abbrev pub journal_of : {F : Type 0} → JournalView F → Journal
 journal_of journal = record { opening = openings journal.parts; opened = journal.opened; first = journal.first; merge = steps_of journal.merge }
 
--- a `serve` wrote this journal
-abbrev pub WasServed : {S K F N D C L : Type 0} → Meanings S K F N D C L → JournalView F → Type 0
-WasServed {S} {K} {F} {N} {D} {C} m journal =
-    (keys : Keys) × (base : List ℕ) × (origin : Option (List ℕ)) × (ask : ServeAsk) × (ends : List WorkEnd) × (old : Outside S K F N D C) × (new : Outside S K F N D C)
-    × HasServed m keys base origin ask ends journal old new
+-- a `serve` made this journal, which it wrote at its end, or whose entries it kept in logs
+abbrev pub WasServed : {S K F N D C G L : Type 0} → Meanings S K F N D C G L → JournalView F → Type 0
+WasServed {S} {K} {F} {N} {D} {C} {G} m journal =
+    ((keys : Keys) × (base : List ℕ) × (origin : Option (List ℕ)) × (ask : ServeAsk) × (ends : List WorkEnd) × (old : Outside S K F N D C G) × (new : Outside S K F N D C G)
+    × HasServed m keys base origin ask ends journal old new)
+    ⊎ ((keys : Keys) × (base : List ℕ) × (origin : Option (List ℕ)) × (ask : ServeAsk) × (ids : ℕ) × (ends : List WorkEnd) × (shards : List (KeptShard F G)) × (old : Outside S K F N D C G)
+    × (new : Outside S K F N D C G) × HasKept m keys base origin ask ids ends shards journal old new)
 
 -- each of these hosts opened behind the one before, over the contents that it had left in the shard of the client's file
 abbrev pub OpenOverIt : {F : Type 0} → JournalView F → List (JournalView F) → Client → Type 0
@@ -52,7 +55,7 @@ abbrev pub history_by : List Deed → List Item
 history_by deeds = map Ran (map Step (made deeds))
 
 -- The entry was made for a message of a link that the worker of that number served: of the link's bytes, and among the deeds that were done on it.
-pub record CameBy {S K F N D C L : Type 0} (m : Meanings S K F N D C L) (desk : Desk) (visits : List (List (Visit L))) (number : ℕ) (entry : Entry) : Type 0 where
+pub record CameBy {S K F N D C G L : Type 0} (m : Meanings S K F N D C G L) (desk : Desk) (visits : List (List (Visit L))) (number : ℕ) (entry : Entry) : Type 0 where
   pub worker : List (Visit L)
   pub is_worker : slice_get visits number ≡ Some worker
   pub place : ℕ
@@ -63,5 +66,5 @@ pub record CameBy {S K F N D C L : Type 0} (m : Meanings S K F N D C L) (desk : 
   pub message : IsOfMessage desk input visit.deeds entry
 
 -- the same of the worker whose number the entry's pass is
-abbrev pub CameOnLink : {S K F N D C L : Type 0} → Meanings S K F N D C L → Desk → List (List (Visit L)) → Entry → Type 0
+abbrev pub CameOnLink : {S K F N D C G L : Type 0} → Meanings S K F N D C G L → Desk → List (List (Visit L)) → Entry → Type 0
 CameOnLink m desk visits entry = CameBy m desk visits entry.pass entry

@@ -28,7 +28,7 @@ NotesForContents held count status old new =
     × (status ≢ 15 → NotesForUpgrade held count status old new)
 
 -- a run: the file and the version of the words, what the input is, and, where that is a journal, what was found there; and the notes
-pub record ContentsEnds {S K F N D C L : Type 0} (m : Meanings S K F N D C L) (words : List (List ℕ)) (status : ℕ) (old new : Outside S K F N D C) : Type 0 where
+pub record ContentsEnds {S K F N D C G L : Type 0} (m : Meanings S K F N D C G L) (words : List (List ℕ)) (status : ℕ) (old new : Outside S K F N D C G) : Type 0 where
   pub name : List ℕ
   pub version : ℕ
   pub row : IsContentsRow words name version

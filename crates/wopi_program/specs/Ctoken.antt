@@ -12,13 +12,13 @@ use Rattle.wopi_program.specs.Telling.{TextEnds, Wants}
 abbrev pub container_line : Keys → ContainerToken → List ℕ
 container_line keys token = container_text keys token ++ codes "\n"
 
-module _ {S K F N D C L : Type 0} (m : Meanings S K F N D C L) where
+module _ {S K F N D C G L : Type 0} (m : Meanings S K F N D C G L) where
   -- The line of the words' token under their keys was written, or a front of it where the output failed.
-  pub record CtokenTold (words : List (List ℕ)) (status : ℕ) (old new : Outside S K F N D C) : Type 0 where
+  pub record CtokenTold (words : List (List ℕ)) (status : ℕ) (old new : Outside S K F N D C G) : Type 0 where
     pub keys : Keys
     pub token : ContainerToken
     pub row : IsCtokenRow words keys token
     pub told : TextEnds m (container_line keys token) status old new
 
-  abbrev pub CtokenEnds : List (List ℕ) → ℕ → Outside S K F N D C → Outside S K F N D C → Type 0
+  abbrev pub CtokenEnds : List (List ℕ) → ℕ → Outside S K F N D C G → Outside S K F N D C G → Type 0
   CtokenEnds words status old new = Wants m status old new ⊎ CtokenTold words status old new

@@ -69,7 +69,7 @@ pub record IsNewEditor (editor : Editor) (row : EditRow) : Type 0 where
   pub sheet_is : sheet_of editor ≡ None
 
 -- The input could not be read, or there was no memory for its script: nothing was sent or written.
-pub record IsUnread {S K F N D C : Type 0} (status : ℕ) (old new : Outside S K F N D C) : Type 0 where
+pub record IsUnread {S K F N D C G : Type 0} (status : ℕ) (old new : Outside S K F N D C G) : Type 0 where
   pub statuses : (status ≡ 3) ⊎ (status ≡ 6)
   pub output_is : new.output ≡ old.output
   pub dialer_is : new.dialer ≡ old.dialer
@@ -82,9 +82,9 @@ abbrev pub NotesForEdit : {K : Type 0} → (K → Option (List ℕ)) → (K → 
 NotesForEdit held count status old new =
     (has_note status ≡ false → new ≡ old) × (has_note status ≡ true → Notes (held old) (held new) (count old) (count new) (line_of status))
 
-module _ {S K F N D C L : Type 0} (m : Meanings S K F N D C L) where
+module _ {S K F N D C G L : Type 0} (m : Meanings S K F N D C G L) where
   -- An editor has run commands: what they did, the status of how they ended, and what went to the output and to the dialer.
-  pub record HasRun (first : Editor) (commands : List script.Command) (status : ℕ) (old new : Outside S K F N D C) : Type 0 where
+  pub record HasRun (first : Editor) (commands : List script.Command) (status : ℕ) (old new : Outside S K F N D C G) : Type 0 where
     pub last : Editor
     pub result : Result Went EditFault
     pub written : List ℕ
@@ -95,26 +95,26 @@ module _ {S K F N D C L : Type 0} (m : Meanings S K F N D C L) where
     pub lost : RoseBy (m.dialer_faults old.dialer) (lost_in sent) (m.dialer_faults new.dialer)
 
   -- The script was run: its commands are those of the whole input, which was read to its end.
-  pub record IsRun (first : Editor) (status : ℕ) (old new : Outside S K F N D C) : Type 0 where
+  pub record IsRun (first : Editor) (status : ℕ) (old new : Outside S K F N D C G) : Type 0 where
     pub commands : List script.Command
     pub script : IsScript (m.left old.input) commands
     pub whole : IsAtEnd (m.left new.input)
     pub ran : HasRun first commands status old new
 
   -- The script has a bad line: nothing was sent.
-  pub record IsRefused (status : ℕ) (old new : Outside S K F N D C) : Type 0 where
+  pub record IsRefused (status : ℕ) (old new : Outside S K F N D C G) : Type 0 where
     pub number : ℕ
     pub bad : IsBadScript (m.left old.input) number
     pub told : Tells (m.held old.output) (m.held new.output) status 7 [] (bad_line number)
     pub dialer_is : new.dialer ≡ old.dialer
 
   -- what became of the script that the input is
-  abbrev pub Edits : Editor → ℕ → Outside S K F N D C → Outside S K F N D C → Type 0
+  abbrev pub Edits : Editor → ℕ → Outside S K F N D C G → Outside S K F N D C G → Type 0
   Edits first status old new = IsUnread status old new ⊎ (IsRefused status old new ⊎ IsRun first status old new)
 
   -- A run of the words: what it did, the causes of the faults, the notes; and all else stays. A read of the input failed at status 3
   -- alone, and there all that was read may still be the front of a script.
-  pub record EditRan (words : List (List ℕ)) (status : ℕ) (old new : Outside S K F N D C) : Type 0 where
+  pub record EditRan (words : List (List ℕ)) (status : ℕ) (old new : Outside S K F N D C G) : Type 0 where
     pub asked : EditRow
     pub first : Editor
     pub row : IsEditRow words asked.authority asked.file asked.token asked.nonce
@@ -127,5 +127,5 @@ module _ {S K F N D C L : Type 0} (m : Meanings S K F N D C L) where
     pub notes : NotesForEdit m.held m.write_faults status old.notes new.notes
     pub others : new ≡ record old { input = new.input; output = new.output; notes = new.notes; dialer = new.dialer }
 
-  abbrev pub EditEnds : List (List ℕ) → ℕ → Outside S K F N D C → Outside S K F N D C → Type 0
+  abbrev pub EditEnds : List (List ℕ) → ℕ → Outside S K F N D C G → Outside S K F N D C G → Type 0
   EditEnds words status old new = Wants m status old new ⊎ EditRan words status old new

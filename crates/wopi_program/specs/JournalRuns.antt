@@ -9,20 +9,20 @@ use Rattle.wopi_program.specs.Meanings.{Meanings}
 use Rattle.wopi_program.specs.Replay.{IsNotRun}
 use Rattle.wopi_program.specs.Upgrade.{IsBadJournal, IsTooLong}
 
-module _ {S K F N D C L : Type 0} (m : Meanings S K F N D C L) (Does : JournalText → ℕ → K → K → Type 0) where
+module _ {S K F N D C G L : Type 0} (m : Meanings S K F N D C G L) (Does : JournalText → ℕ → K → K → Type 0) where
   -- The whole input is the text of this journal, and that was done with it.
-  pub record IsDone (status : ℕ) (old new : Outside S K F N D C) : Type 0 where
+  pub record IsDone (status : ℕ) (old new : Outside S K F N D C G) : Type 0 where
     pub text : JournalText
     pub read : IsWholeInput (m.left old.input) (m.left new.input) text
     pub does : Does text status old.output new.output
 
   -- what became of the journal that the input is
-  abbrev pub Takes : ℕ → Outside S K F N D C → Outside S K F N D C → Type 0
+  abbrev pub Takes : ℕ → Outside S K F N D C G → Outside S K F N D C G → Type 0
   Takes status old new = IsNotRun status old new ⊎ (IsTooLong m status old new ⊎ (IsBadJournal m status old new ⊎ IsDone status old new))
 
   -- What was done, the causes of the faults, and all but the notes stays. A read of the input failed at status 3 alone, and there no more
   -- was read than a journal may have.
-  pub record TakesJournal (status : ℕ) (old new : Outside S K F N D C) : Type 0 where
+  pub record TakesJournal (status : ℕ) (old new : Outside S K F N D C G) : Type 0 where
     pub takes : Takes status old new
     pub read_cause : status ≡ 3 → Rose (m.read_faults old.input) (m.read_faults new.input)
     pub read_cut : status ≡ 3 → HasRead (m.left old.input) (m.left new.input) AreFew

@@ -15,7 +15,7 @@ pub record IsLegalJournal (bytes : List ℕ) (text : JournalText) : Type 0 where
 
 -- A run of `audit` calls the journal legal: at status 0 it tells so, and how many entries there are. It ends neither as with a bad line nor as
 -- with a line that isn't legal.
-pub record CallsLegal {S K F N D C L : Type 0} (m : Meanings S K F N D C L) (text : JournalText) (status : ℕ) (old new : Outside S K F N D C) : Type 0 where
+pub record CallsLegal {S K F N D C G L : Type 0} (m : Meanings S K F N D C G L) (text : JournalText) (status : ℕ) (old new : Outside S K F N D C G) : Type 0 where
   pub told : status ≡ 0 → Appends (m.held old.output) (m.held new.output) (legal_line (length text.lines))
   pub has_no_bad_line : status ≢ 7
   pub has_no_fault : status ≢ 14

@@ -11,7 +11,10 @@ pub mod Runs
 pub mod Passes
 pub mod Journal
 pub mod Watched
+pub mod Returned
 pub mod Serve
+pub mod Keep
+pub mod Paired
 pub mod Worked
 pub mod EditorWords
 pub mod ServeWords

@@ -58,7 +58,7 @@ Finishes held count status old new (TooLarge name) = TooLargeEnds held count sta
 Finishes held count status old new Memory = (status ≡ 6) × NotesFor held count status old new
 
 -- where no connection was served the streams stay as they were
-abbrev pub Untouched : {S K F N D C : Type 0} → OnceEnd → Outside S K F N D C → Outside S K F N D C → Type 0
+abbrev pub Untouched : {S K F N D C G : Type 0} → OnceEnd → Outside S K F N D C G → Outside S K F N D C G → Type 0
 Untouched (Served end) old new = ⊤
 Untouched end old new = (new.input ≡ old.input) × (new.output ≡ old.output)
 
@@ -76,7 +76,7 @@ over_folder book = record {
   folder = book.folder.folder;
 }
 
-module _ {S K F N D C L : Type 0} (m : Meanings S K F N D C L) where
+module _ {S K F N D C G L : Type 0} (m : Meanings S K F N D C G L) where
   -- A shard that was opened over a folder at a moment: these files, at version 1, last saved when the folder tells, and no entry yet.
   pub record IsFresh (folder : F) (stood : Opening) (opened : ℕ) (first : Book F) : Type 0 where
     pub book : first ≡ record {
@@ -97,7 +97,7 @@ module _ {S K F N D C L : Type 0} (m : Meanings S K F N D C L) where
 
   -- A connection was served over a shard that began as `first`, and no store was lost. What was done is what the shard has come to; its history is legal, its folder
   -- agrees with it, and each answer of a store fault has raised the folder's count.
-  pub record ServesShard (desk : Desk) (end : ConnEnd) (first : Book F) (folder : F) (clock clock' : C) (old new : Outside S K F N D C) : Type 0 where
+  pub record ServesShard (desk : Desk) (end : ConnEnd) (first : Book F) (folder : F) (clock clock' : C) (old new : Outside S K F N D C G) : Type 0 where
     pub last : Book F
     pub serves : Serves desk SeesItsOwn end (m.left old.input) (m.left new.input) (m.work.moments clock) (m.work.moments clock') (sight_of first) (sight_of last) (m.held old.output) (m.held new.output)
     pub start : last.start ≡ first.start
@@ -108,7 +108,7 @@ module _ {S K F N D C L : Type 0} (m : Meanings S K F N D C L) where
 
   -- The clock's first moment opened the shard, and the connection was served by its later ones. The entries that were made are
   -- legal by themselves, from the opening: nobody set the shard's time beside them. Each listing shows the shard after those before it.
-  pub record OpensAndServes (keys : Keys) (base : List ℕ) (editor : Bool) (origin : Option (List ℕ)) (end : ConnEnd) (folder folder' : F) (clock clock' : C) (old new : Outside S K F N D C) : Type 0 where
+  pub record OpensAndServes (keys : Keys) (base : List ℕ) (editor : Bool) (origin : Option (List ℕ)) (end : ConnEnd) (folder folder' : F) (clock clock' : C) (old new : Outside S K F N D C G) : Type 0 where
     pub desk : Desk
     pub mid : C
     pub first : Book F
@@ -131,7 +131,7 @@ module _ {S K F N D C L : Type 0} (m : Meanings S K F N D C L) where
     pub counts : m.folder_faults folder ≤ m.folder_faults folder'
 
   -- What a run did with the folder and the clock, by its end.
-  abbrev pub OnceRuns : Keys → List ℕ → Bool → Option (List ℕ) → OnceEnd → F → F → C → C → Outside S K F N D C → Outside S K F N D C → Type 0
+  abbrev pub OnceRuns : Keys → List ℕ → Bool → Option (List ℕ) → OnceEnd → F → F → C → C → Outside S K F N D C G → Outside S K F N D C G → Type 0
   OnceRuns keys base editor origin (Served end) folder folder' clock clock' old new = OpensAndServes keys base editor origin end folder folder' clock clock' old new
   OnceRuns keys base editor origin FolderFault folder folder' clock clock' old new =
       Rose (m.folder_faults folder) (m.folder_faults folder') × OpensNone folder folder' clock clock'
@@ -139,7 +139,7 @@ module _ {S K F N D C L : Type 0} (m : Meanings S K F N D C L) where
   OnceRuns keys base editor origin Memory folder folder' clock clock' old new = OpensNone folder folder' clock clock'
 
   -- the same with the one folder and the one clock in their lists, in which they are again
-  pub record OnceRunsIn (keys : Keys) (base : List ℕ) (editor : Bool) (origin : Option (List ℕ)) (end : OnceEnd) (old new : Outside S K F N D C) : Type 0 where
+  pub record OnceRunsIn (keys : Keys) (base : List ℕ) (editor : Bool) (origin : Option (List ℕ)) (end : OnceEnd) (old new : Outside S K F N D C G) : Type 0 where
     pub folder : F
     pub folder' : F
     pub folders_are : old.folders.items ≡ folder ∷ []
@@ -152,7 +152,7 @@ module _ {S K F N D C L : Type 0} (m : Meanings S K F N D C L) where
 
   -- A run under the keys and the base of the words, for editors where they say so and with the origin that they tell: what it did, the causes of the faults, the status's line on the notes; and all else
   -- stays. No read that failed is passed over.
-  pub record OnceRan (words : List (List ℕ)) (status : ℕ) (old new : Outside S K F N D C) : Type 0 where
+  pub record OnceRan (words : List (List ℕ)) (status : ℕ) (old new : Outside S K F N D C G) : Type 0 where
     pub end : OnceEnd
     pub keys : Keys
     pub base : List ℕ
@@ -167,5 +167,5 @@ module _ {S K F N D C L : Type 0} (m : Meanings S K F N D C L) where
     pub finishes : Finishes m.held m.write_faults status old.notes new.notes end
     pub others : new ≡ record old { input = new.input; output = new.output; notes = new.notes; folders = new.folders; clocks = new.clocks }
 
-  abbrev pub OnceEnds : List (List ℕ) → ℕ → Outside S K F N D C → Outside S K F N D C → Type 0
+  abbrev pub OnceEnds : List (List ℕ) → ℕ → Outside S K F N D C G → Outside S K F N D C G → Type 0
   OnceEnds words status old new = Wants m status old new ⊎ OnceRan words status old new

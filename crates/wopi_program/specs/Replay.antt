@@ -27,7 +27,7 @@ pub record IsTold (text_of : List (List ℕ) → Lines → List ℕ) (lines : Li
   pub told : ((status ≡ 0) × Appends held held' (text_of names lines)) ⊎ ((status ≡ 4) × GrewByPrefix held held' (text_of names lines))
 
 -- The input could not be read, or memory was wanted: nothing was written.
-pub record IsNotRun {S K F N D C : Type 0} (status : ℕ) (old new : Outside S K F N D C) : Type 0 where
+pub record IsNotRun {S K F N D C G : Type 0} (status : ℕ) (old new : Outside S K F N D C G) : Type 0 where
   pub statuses : (status ≡ 3) ⊎ (status ≡ 6)
   pub output_is : new.output ≡ old.output
 
@@ -35,33 +35,33 @@ pub record IsNotRun {S K F N D C : Type 0} (status : ℕ) (old new : Outside S K
 abbrev pub Replays : {K : Type 0} → (K → Option (List ℕ)) → (List (List ℕ) → Lines → List ℕ) → Lines → ℕ → K → K → Type 0
 Replays held text_of lines status output output' = ((status ≡ 6) × (output' ≡ output)) ⊎ IsTold text_of lines status (held output) (held output')
 
-module _ {S K F N D C L : Type 0} (m : Meanings S K F N D C L) where
+module _ {S K F N D C G L : Type 0} (m : Meanings S K F N D C G L) where
   -- The input, which was read to its end, is these lines, and their trace was told.
-  pub record IsTraced (status : ℕ) (old new : Outside S K F N D C) : Type 0 where
+  pub record IsTraced (status : ℕ) (old new : Outside S K F N D C G) : Type 0 where
     pub lines : Lines
     pub read : IsWholeInput (m.left old.input) lines
     pub whole : IsAtEnd (m.left new.input)
     pub told : IsTold trace_text lines status (m.held old.output) (m.held new.output)
 
   -- The input has its first bad line here, whatever follows it.
-  pub record IsBad (status : ℕ) (old new : Outside S K F N D C) : Type 0 where
+  pub record IsBad (status : ℕ) (old new : Outside S K F N D C G) : Type 0 where
     pub number : ℕ
     pub bad : IsBadInput (m.left old.input) number
     pub told : Tells (m.held old.output) (m.held new.output) status 7 [] (bad_line number)
 
   -- what became of the schedule that the input is
-  abbrev pub InputReplays : ℕ → Outside S K F N D C → Outside S K F N D C → Type 0
+  abbrev pub InputReplays : ℕ → Outside S K F N D C G → Outside S K F N D C G → Type 0
   InputReplays status old new = IsNotRun status old new ⊎ (IsBad status old new ⊎ IsTraced status old new)
 
   -- what became of the schedule that was asked for; one that is made from two numbers leaves the input as it is
-  abbrev pub AskReplays : ReplayAsk → ℕ → Outside S K F N D C → Outside S K F N D C → Type 0
+  abbrev pub AskReplays : ReplayAsk → ℕ → Outside S K F N D C G → Outside S K F N D C G → Type 0
   AskReplays Input status old new = InputReplays status old new
   AskReplays (Generated seed count) status old new =
       (new.input ≡ old.input) × Replays m.held summary_text (generated seed count) status old.output new.output
 
   -- A run of the words: what it did, the causes of the faults, the notes; and all else stays. A read of the input failed at status 3
   -- alone, and there all that was read may still be the front of a schedule.
-  pub record ReplayEnds (words : List (List ℕ)) (status : ℕ) (old new : Outside S K F N D C) : Type 0 where
+  pub record ReplayEnds (words : List (List ℕ)) (status : ℕ) (old new : Outside S K F N D C G) : Type 0 where
     pub asked : ReplayAsk
     pub row : IsReplayRow words asked
     pub replays : AskReplays asked status old new

@@ -16,7 +16,7 @@ use Rattle.wopi_program.specs.Audit.{AuditEnds}
 use Rattle.wopi_program.specs.Contents.{ContentsEnds}
 
 -- how a run of a command ends, with which status and what it leaves
-abbrev pub RunEnds : {S K F N D C L : Type 0} → Meanings S K F N D C L → List (List ℕ) → ℕ → Outside S K F N D C → Outside S K F N D C → Command → Type 0
+abbrev pub RunEnds : {S K F N D C G L : Type 0} → Meanings S K F N D C G L → List (List ℕ) → ℕ → Outside S K F N D C G → Outside S K F N D C G → Command → Type 0
 RunEnds m words status old new command.Help = TextEnds m help_text status old new
 RunEnds m words status old new command.Version = TextEnds m version_text status old new
 RunEnds m words status old new command.Once = OnceEnds m words status old new

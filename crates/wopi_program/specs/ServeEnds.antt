@@ -1,5 +1,5 @@
 -- How a run of `serve` ends. (Own.)
-use Rattle.std.specs.Prelude.{◌≡◌, ◌⊎◌, ℕ, List, Option}
+use Rattle.std.specs.Prelude.{◌≡◌, ◌⊎◌, ℕ, List, Option, None, Some}
 use Rattle.outside.specs.Faults.{Rose}
 use Rattle.wopi_program.specs.declared.outside_world.Outside.{Outside}
 use Rattle.wopi_program.specs.declared.serve_words.ServeAsk.{ServeAsk}
@@ -10,6 +10,7 @@ use Rattle.wopi_program.specs.Meanings.{Meanings}
 use Rattle.wopi_program.specs.Notes.{NotesFor}
 use Rattle.wopi_program.specs.Once.{TooLargeEnds}
 use Rattle.wopi_program.specs.Serve.{ServeRuns}
+use Rattle.wopi_program.specs.Keep.{KeepRuns}
 use Rattle.wopi_program.specs.ServeWords.{IsServeRow}
 use Rattle.wopi_program.specs.Telling.{Wants}
 use Rattle.access_tokens.specs.declared.keys.Keys.{Keys}
@@ -21,22 +22,38 @@ ServeFinishes held count status old new end.ListenerFault = (status ≡ 10) × N
 ServeFinishes held count status old new end.WriteFault = (status ≡ 4) × NotesFor held count status old new
 ServeFinishes held count status old new end.FolderFault = (status ≡ 5) × NotesFor held count status old new
 ServeFinishes held count status old new (end.TooLarge name) = TooLargeEnds held count status old new name
+ServeFinishes held count status old new end.JournalFault = (status ≡ 16) × NotesFor held count status old new
 ServeFinishes held count status old new end.Memory = (status ≡ 6) × NotesFor held count status old new
 
-module _ {S K F N D C L : Type 0} (m : Meanings S K F N D C L) where
-  -- A run under the keys, the base, the origin and the numbers of the words: what it did, the cause of a write's fault, the status's line on the
+module _ {S K F N D C G L : Type 0} (m : Meanings S K F N D C G L) where
+  -- A run that keeps no logs, under the keys, the base, the origin and the numbers of the words: what it did, the cause of a write's fault, the status's line on the
   -- notes, behind what they had been told of shards; and all else stays.
-  pub record ServeRan (words : List (List ℕ)) (status : ℕ) (old new : Outside S K F N D C) : Type 0 where
+  pub record ServeRan (words : List (List ℕ)) (status : ℕ) (old new : Outside S K F N D C G) : Type 0 where
     pub end : ServeEnd
     pub keys : Keys
     pub base : List ℕ
     pub ask : ServeAsk
     pub row : IsServeRow words keys base ask
+    pub plain : ask.keep ≡ None
     pub notes : K
     pub runs : ServeRuns m keys base (origin_told row.options) ask notes end old new
     pub write_cause : status ≡ 4 → Rose (m.write_faults old.output) (m.write_faults new.output)
     pub finishes : ServeFinishes m.held m.write_faults status notes new.notes end
     pub others : new ≡ record old { output = new.output; notes = new.notes; folders = new.folders; listeners = new.listeners; clocks = new.clocks }
 
-  abbrev pub ServeEnds : List (List ℕ) → ℕ → Outside S K F N D C → Outside S K F N D C → Type 0
-  ServeEnds words status old new = Wants m status old new ⊎ ServeRan words status old new
+  -- The same of a run that keeps logs, with places for so many ids in each shard. It writes nothing on the output.
+  pub record KeepRan (words : List (List ℕ)) (status : ℕ) (old new : Outside S K F N D C G) : Type 0 where
+    pub end : ServeEnd
+    pub keys : Keys
+    pub base : List ℕ
+    pub ask : ServeAsk
+    pub ids : ℕ
+    pub row : IsServeRow words keys base ask
+    pub keeps : ask.keep ≡ Some ids
+    pub notes : K
+    pub runs : KeepRuns m keys base (origin_told row.options) ask ids notes end old new
+    pub finishes : ServeFinishes m.held m.write_faults status notes new.notes end
+    pub others : new ≡ record old { notes = new.notes; folders = new.folders; listeners = new.listeners; clocks = new.clocks; logs = new.logs }
+
+  abbrev pub ServeEnds : List (List ℕ) → ℕ → Outside S K F N D C G → Outside S K F N D C G → Type 0
+  ServeEnds words status old new = Wants m status old new ⊎ (ServeRan words status old new ⊎ KeepRan words status old new)

@@ -12,13 +12,13 @@ use Rattle.access_tokens.specs.declared.keys.Keys.{Keys}
 abbrev pub token_line : Keys → Token → List ℕ
 token_line keys token = token_text keys token ++ codes "\n"
 
-module _ {S K F N D C L : Type 0} (m : Meanings S K F N D C L) where
+module _ {S K F N D C G L : Type 0} (m : Meanings S K F N D C G L) where
   -- The line of the words' token under their keys was written, or a front of it where the output failed.
-  pub record TokenTold (words : List (List ℕ)) (status : ℕ) (old new : Outside S K F N D C) : Type 0 where
+  pub record TokenTold (words : List (List ℕ)) (status : ℕ) (old new : Outside S K F N D C G) : Type 0 where
     pub keys : Keys
     pub token : Token
     pub row : IsTokenRow words keys token
     pub told : TextEnds m (token_line keys token) status old new
 
-  abbrev pub TokenEnds : List (List ℕ) → ℕ → Outside S K F N D C → Outside S K F N D C → Type 0
+  abbrev pub TokenEnds : List (List ℕ) → ℕ → Outside S K F N D C G → Outside S K F N D C G → Type 0
   TokenEnds words status old new = Wants m status old new ⊎ TokenTold words status old new

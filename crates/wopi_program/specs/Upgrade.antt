@@ -34,32 +34,32 @@ abbrev pub NotesForUpgrade : {K : Type 0} → (K → Option (List ℕ)) → (K �
 NotesForUpgrade held count status old new =
     (has_upgrade_note status ≡ false → new ≡ old) × (has_upgrade_note status ≡ true → Notes (held old) (held new) (count old) (count new) (line_of status))
 
-module _ {S K F N D C L : Type 0} (m : Meanings S K F N D C L) where
+module _ {S K F N D C G L : Type 0} (m : Meanings S K F N D C G L) where
   -- The whole input is the text of this journal, and its second form was written.
-  pub record IsUpgraded (status : ℕ) (old new : Outside S K F N D C) : Type 0 where
+  pub record IsUpgraded (status : ℕ) (old new : Outside S K F N D C G) : Type 0 where
     pub text : JournalText
     pub read : IsWholeInput (m.left old.input) (m.left new.input) text
     pub told : IsRewritten text status (m.held old.output) (m.held new.output)
 
   -- The input, which was read to its end, has its first bad line here.
-  pub record IsBadJournal (status : ℕ) (old new : Outside S K F N D C) : Type 0 where
+  pub record IsBadJournal (status : ℕ) (old new : Outside S K F N D C G) : Type 0 where
     pub number : ℕ
     pub bad : IsBadInput (m.left old.input) (m.left new.input) number
     pub told : Tells (m.held old.output) (m.held new.output) status 7 [] (bad_line number)
 
   -- The input has more bytes than a journal: nothing was written.
-  pub record IsTooLong (status : ℕ) (old new : Outside S K F N D C) : Type 0 where
+  pub record IsTooLong (status : ℕ) (old new : Outside S K F N D C G) : Type 0 where
     pub status_is : status ≡ 13
     pub long : IsLong (m.left old.input) (m.left new.input)
     pub output_is : new.output ≡ old.output
 
   -- what became of the journal that the input is
-  abbrev pub Upgrades : ℕ → Outside S K F N D C → Outside S K F N D C → Type 0
+  abbrev pub Upgrades : ℕ → Outside S K F N D C G → Outside S K F N D C G → Type 0
   Upgrades status old new = IsNotRun status old new ⊎ (IsTooLong status old new ⊎ (IsBadJournal status old new ⊎ IsUpgraded status old new))
 
   -- A run: what it did, the causes of the faults, the notes; and all else stays. A read of the input failed at status 3 alone, and there
   -- no more was read than a journal may have.
-  pub record UpgradeEnds (status : ℕ) (old new : Outside S K F N D C) : Type 0 where
+  pub record UpgradeEnds (status : ℕ) (old new : Outside S K F N D C G) : Type 0 where
     pub upgrades : Upgrades status old new
     pub read_cause : status ≡ 3 → Rose (m.read_faults old.input) (m.read_faults new.input)
     pub read_cut : status ≡ 3 → HasRead (m.left old.input) (m.left new.input) AreFew

@@ -15,7 +15,7 @@ use itoa::Buffer;
 use journal_audit::{Audit, AuditFault, Verdict, audit_input};
 use journal_text::JournalFault;
 use line_text::InputFault;
-use outside::{Clock, Dialer, Folder, Listener, Sink, Source};
+use outside::{Clock, Dialer, Folder, Listener, Log, Sink, Source};
 use std::alloc::Global;
 use wopi_text::Memory;
 
@@ -90,11 +90,11 @@ fn tell_audit<K: Sink>(alloc: Global, audit: Audit, output: &mut K) -> u8
 }
 
 /// Tells whether the journal that the whole input is is legal, or tells its first bad line, and gives the status.
-fn audit<S: Source, K: Sink, F: Folder, N: Listener, D: Dialer, C: Clock>(
+fn audit<S: Source, K: Sink, F: Folder, N: Listener, D: Dialer, C: Clock, G: Log>(
     alloc: Global,
-    outside: &mut Outside<S, K, F, N, D, C>,
+    outside: &mut Outside<S, K, F, N, D, C, G>,
 ) -> u8
-    ensures takes { TakesJournal ⟦<Outside<S, K, F, N, D, C> as Meant<S, K, F, N, D, C, N::Link>>⟧.meanings (IsJudged K.held) result outside.old outside.new }
+    ensures takes { TakesJournal ⟦<Outside<S, K, F, N, D, C, G> as Meant<S, K, F, N, D, C, G, N::Link>>⟧.meanings (IsJudged K.held) result outside.old outside.new }
     ensures notes { outside.new.notes ≡ outside.old.notes }
 {
     match audit_input(alloc, &mut outside.input) {
@@ -111,13 +111,13 @@ fn audit<S: Source, K: Sink, F: Folder, N: Listener, D: Dialer, C: Clock>(
 /// Reads a journal of either form from the input, and tells whether a host that keeps the rules may have
 /// written it, or which is its first line that none may have written. The lines are judged as they come, and
 /// none is kept.
-pub fn run_audit<S: Source, K: Sink, F: Folder, N: Listener, D: Dialer, C: Clock>(
+pub fn run_audit<S: Source, K: Sink, F: Folder, N: Listener, D: Dialer, C: Clock, G: Log>(
     alloc: Global,
     words: &[String],
-    outside: &mut Outside<S, K, F, N, D, C>,
+    outside: &mut Outside<S, K, F, N, D, C, G>,
 ) -> u8
     requires { IsRow (map string_bytes words.now) Command.Audit }
-    ensures { AuditEnds ⟦<Outside<S, K, F, N, D, C> as Meant<S, K, F, N, D, C, N::Link>>⟧.meanings result outside.old outside.new }
+    ensures { AuditEnds ⟦<Outside<S, K, F, N, D, C, G> as Meant<S, K, F, N, D, C, G, N::Link>>⟧.meanings result outside.old outside.new }
 {
     let _words = words;
     let status = audit(alloc, outside);

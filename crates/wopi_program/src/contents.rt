@@ -15,7 +15,7 @@ use crate::{Command, Meant, Outside, note};
 use journal_audit::read_contents;
 use journal_text::JournalFault;
 use line_text::InputFault;
-use outside::{Clock, Dialer, Folder, Listener, Sink, Source};
+use outside::{Clock, Dialer, Folder, Listener, Log, Sink, Source};
 use std::alloc::Global;
 use wopi_text::{Bytes, FileName};
 
@@ -32,13 +32,13 @@ fn give_out<K: Sink>(found: Option<Bytes>, output: &mut K) -> u8
 
 /// Writes the contents that a file had at a version of the journal that the whole input is, or tells its first
 /// bad line, and gives the status.
-fn look_up<S: Source, K: Sink, F: Folder, N: Listener, D: Dialer, C: Clock>(
+fn look_up<S: Source, K: Sink, F: Folder, N: Listener, D: Dialer, C: Clock, G: Log>(
     alloc: Global,
     name: &FileName,
     version: u64,
-    outside: &mut Outside<S, K, F, N, D, C>,
+    outside: &mut Outside<S, K, F, N, D, C, G>,
 ) -> u8
-    ensures takes { TakesJournal ⟦<Outside<S, K, F, N, D, C> as Meant<S, K, F, N, D, C, N::Link>>⟧.meanings (IsLookedUp K.held name.now version) result outside.old outside.new }
+    ensures takes { TakesJournal ⟦<Outside<S, K, F, N, D, C, G> as Meant<S, K, F, N, D, C, G, N::Link>>⟧.meanings (IsLookedUp K.held name.now version) result outside.old outside.new }
     ensures notes { outside.new.notes ≡ outside.old.notes }
 {
     match read_contents(alloc, &mut outside.input, name, version) {
@@ -66,13 +66,13 @@ fn note_contents<K: Sink>(notes: &mut K, status: u8)
 /// Reads a journal of either form from the input, and writes the contents that the words' file had at the
 /// words' version. Nothing is written before the whole input was read, and found to be a journal. Of its lines
 /// these contents alone are kept.
-pub fn run_contents<S: Source, K: Sink, F: Folder, N: Listener, D: Dialer, C: Clock>(
+pub fn run_contents<S: Source, K: Sink, F: Folder, N: Listener, D: Dialer, C: Clock, G: Log>(
     alloc: Global,
     words: &[String],
-    outside: &mut Outside<S, K, F, N, D, C>,
+    outside: &mut Outside<S, K, F, N, D, C, G>,
 ) -> u8
     requires { IsRow (map string_bytes words.now) Command.Contents }
-    ensures { ContentsEnds ⟦<Outside<S, K, F, N, D, C> as Meant<S, K, F, N, D, C, N::Link>>⟧.meanings (map string_bytes words.now) result outside.old outside.new }
+    ensures { ContentsEnds ⟦<Outside<S, K, F, N, D, C, G> as Meant<S, K, F, N, D, C, G, N::Link>>⟧.meanings (map string_bytes words.now) result outside.old outside.new }
 {
     let Some((name, version)) = contents_words(words) else {
         unreachable!()

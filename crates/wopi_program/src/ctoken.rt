@@ -8,7 +8,7 @@ use crate::telling::{tell, want};
 use crate::{Command, Meant, Outside};
 use access_tokens::Keys;
 use containers::{ContainerToken, container_mint};
-use outside::{Clock, Dialer, Folder, Listener, Sink, Source};
+use outside::{Clock, Dialer, Folder, Listener, Log, Sink, Source};
 use std::alloc::Global;
 use wopi_text::Memory;
 
@@ -23,13 +23,13 @@ fn container_line(alloc: Global, keys: &Keys, token: &ContainerToken) -> Result<
 
 /// Writes the text of the words' token of the container under the current one of their keys, and a line feed, to the
 /// output.
-pub fn run_ctoken<S: Source, K: Sink, F: Folder, N: Listener, D: Dialer, C: Clock>(
+pub fn run_ctoken<S: Source, K: Sink, F: Folder, N: Listener, D: Dialer, C: Clock, G: Log>(
     alloc: Global,
     words: &[String],
-    outside: &mut Outside<S, K, F, N, D, C>,
+    outside: &mut Outside<S, K, F, N, D, C, G>,
 ) -> u8
     requires { IsRow (map string_bytes words.now) Command.Ctoken }
-    ensures { CtokenEnds ⟦<Outside<S, K, F, N, D, C> as Meant<S, K, F, N, D, C, N::Link>>⟧.meanings (map string_bytes words.now) result outside.old outside.new }
+    ensures { CtokenEnds ⟦<Outside<S, K, F, N, D, C, G> as Meant<S, K, F, N, D, C, G, N::Link>>⟧.meanings (map string_bytes words.now) result outside.old outside.new }
 {
     let Some((keys, token)) = ctoken_words(words) else {
         unreachable!()

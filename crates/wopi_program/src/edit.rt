@@ -13,7 +13,7 @@ use crate::{Command, Meant, Outside, note};
 use grid_editor::{EditFault, Editor, Script, ScriptFault, Went, read_script};
 use itoa::Buffer;
 use line_text::InputFault;
-use outside::{Clock, Dialer, Failed, Folder, Listener, Sink, Source, write_whole};
+use outside::{Clock, Dialer, Failed, Folder, Listener, Log, Sink, Source, write_whole};
 use save_session::{Nonce, Outcome};
 use std::alloc::Global;
 use wopi_client::Desktop;
@@ -105,13 +105,13 @@ fn finish<K: Sink>(alloc: Global, output: &mut K, ended: &Result<Went, EditFault
 }
 
 /// Runs the script, and gives the status.
-fn run_script<S: Source, K: Sink, F: Folder, N: Listener, D: Dialer, C: Clock>(
+fn run_script<S: Source, K: Sink, F: Folder, N: Listener, D: Dialer, C: Clock, G: Log>(
     alloc: Global,
     mut editor: Editor,
     script: &Script,
-    outside: &mut Outside<S, K, F, N, D, C>,
+    outside: &mut Outside<S, K, F, N, D, C, G>,
 ) -> u8
-    ensures ran { HasRun ⟦<Outside<S, K, F, N, D, C> as Meant<S, K, F, N, D, C, N::Link>>⟧.meanings editor script.now result outside.old outside.new }
+    ensures ran { HasRun ⟦<Outside<S, K, F, N, D, C, G> as Meant<S, K, F, N, D, C, G, N::Link>>⟧.meanings editor script.now result outside.old outside.new }
     ensures cause { result ≡ 4 → Rose (K.write_faults outside.old.output) (K.write_faults outside.new.output) }
     ensures others { outside.new ≡ record outside.old { output = outside.new.output; dialer = outside.new.dialer } }
 {
@@ -132,12 +132,12 @@ pub(crate) fn refuse_script<K: Sink>(alloc: Global, output: &mut K, number: u64)
 }
 
 /// Runs the script that the input is, and gives the status.
-fn edit<S: Source, K: Sink, F: Folder, N: Listener, D: Dialer, C: Clock>(
+fn edit<S: Source, K: Sink, F: Folder, N: Listener, D: Dialer, C: Clock, G: Log>(
     alloc: Global,
     editor: Editor,
-    outside: &mut Outside<S, K, F, N, D, C>,
+    outside: &mut Outside<S, K, F, N, D, C, G>,
 ) -> u8
-    ensures edits { Edits ⟦<Outside<S, K, F, N, D, C> as Meant<S, K, F, N, D, C, N::Link>>⟧.meanings editor result outside.old outside.new }
+    ensures edits { Edits ⟦<Outside<S, K, F, N, D, C, G> as Meant<S, K, F, N, D, C, G, N::Link>>⟧.meanings editor result outside.old outside.new }
     ensures read_cause { result ≡ 3 → Rose (S.read_faults outside.old.input) (S.read_faults outside.new.input) }
     ensures read_cut { result ≡ 3 → HasRead (S.left outside.old.input) (S.left outside.new.input) IsUndecided }
     ensures read_fine { result ≢ 3 → S.read_faults outside.new.input ≡ S.read_faults outside.old.input }
@@ -168,13 +168,13 @@ pub(crate) fn note_edit<K: Sink>(notes: &mut K, status: u8)
 }
 
 /// Runs the script that the input is over a sheet at the host of the words.
-pub fn run_edit<S: Source, K: Sink, F: Folder, N: Listener, D: Dialer, C: Clock>(
+pub fn run_edit<S: Source, K: Sink, F: Folder, N: Listener, D: Dialer, C: Clock, G: Log>(
     alloc: Global,
     words: &[String],
-    outside: &mut Outside<S, K, F, N, D, C>,
+    outside: &mut Outside<S, K, F, N, D, C, G>,
 ) -> u8
     requires { IsRow (map string_bytes words.now) Command.Edit }
-    ensures { EditEnds ⟦<Outside<S, K, F, N, D, C> as Meant<S, K, F, N, D, C, N::Link>>⟧.meanings (map string_bytes words.now) result outside.old outside.new }
+    ensures { EditEnds ⟦<Outside<S, K, F, N, D, C, G> as Meant<S, K, F, N, D, C, G, N::Link>>⟧.meanings (map string_bytes words.now) result outside.old outside.new }
 {
     let Some(ask) = edit_words(words) else {
         unreachable!()

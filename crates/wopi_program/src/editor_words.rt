@@ -90,7 +90,7 @@ pub(crate) fn tells_origin(words: &[String]) -> bool
 }
 
 /// The words from that place on.
-fn words_from(words: &[String], place: usize) -> &[String]
+pub(crate) fn words_from(words: &[String], place: usize) -> &[String]
     ensures { map string_bytes result.now ≡ drop place (map string_bytes words.now) }
 {
     if words.len() < place {

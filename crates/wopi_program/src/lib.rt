@@ -4,11 +4,11 @@
 //! and clocks. It is generic in all that it meets, so that its contract speaks of the bytes that were
 //! read and written. The command `once` answers the requests of its input, one after another, on its
 //! output; `serve` answers those of many connections by workers, and then writes its host's journal
-//! on the output; `edit` runs the script of its input over a sheet at a host; `replay` runs a
-//! schedule of sessions in memory and writes what it shows; `token` writes the text of an access
-//! token, and `ctoken` that of a token of the container; `upgrade` reads a journal from its input and
-//! writes it in the second form; `audit` tells whether it is legal; `contents` writes what a file of it
-//! had at a version.
+//! on the output, or appends each entry to a log beside its folder before it's told; `edit` runs the
+//! script of its input over a sheet at a host; `replay` runs a schedule of sessions in memory and
+//! writes what it shows; `token` writes the text of an access token, and `ctoken` that of a token of
+//! the container; `upgrade` reads a journal from its input and writes it in the second form; `audit`
+//! tells whether it is legal; `contents` writes what a file of it had at a version.
 #![tactic(auto)]
 
 mod asking;
@@ -16,12 +16,14 @@ mod audit;
 mod command;
 mod contents;
 mod contents_words;
+mod crew;
 mod ctoken;
 mod ctoken_words;
 mod dispatch;
 mod edit;
 mod edit_words;
 mod editor_words;
+mod keeping;
 pub mod laws;
 mod notes;
 mod once;

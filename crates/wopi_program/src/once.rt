@@ -17,7 +17,7 @@ use access_tokens::Keys;
 use host_core::{Kept, Shard, Single, StartFault, leave};
 use host_server::{ConnEnd, Desk, serve_connection};
 use host_table::free;
-use outside::{Clock, Dialer, Folder, Lent, Listener, Sink, Source};
+use outside::{Clock, Dialer, Folder, Lent, Listener, Log, Sink, Source};
 use std::alloc::Global;
 use wopi_text::{Bytes, FileName, Memory, id_text};
 
@@ -59,15 +59,15 @@ fn serve<S: Source, K: Sink, F: Folder, C: Clock>(
 }
 
 /// Serves the connection over a shard, and gives the shard's folder back.
-fn serve_over<S: Source, K: Sink, F: Folder, N: Listener, D: Dialer, C: Clock>(
+fn serve_over<S: Source, K: Sink, F: Folder, N: Listener, D: Dialer, C: Clock, G: Log>(
     alloc: Global,
     desk: &Desk,
     shard: Shard<Kept<F>>,
     clock: &mut C,
-    outside: &mut Outside<S, K, F, N, D, C>,
+    outside: &mut Outside<S, K, F, N, D, C, G>,
 ) -> (F, ConnEnd)
     requires { shard.only ≡ None }
-    ensures serves { ServesShard ⟦<Outside<S, K, F, N, D, C> as Meant<S, K, F, N, D, C, N::Link>>⟧.meanings desk.now result.1 (over_folder shard) result.0 clock.old clock.new outside.old outside.new }
+    ensures serves { ServesShard ⟦<Outside<S, K, F, N, D, C, G> as Meant<S, K, F, N, D, C, G, N::Link>>⟧.meanings desk.now result.1 (over_folder shard) result.0 clock.old clock.new outside.old outside.new }
     ensures others { outside.new ≡ record outside.old { input = outside.new.input; output = outside.new.output } }
     ensures fine { result.1 ≢ ConnEnd.ReadFault → S.read_faults outside.new.input ≡ S.read_faults outside.old.input }
     ensures read_fault { result.1 ≡ ConnEnd.ReadFault → Rose (S.read_faults outside.old.input) (S.read_faults outside.new.input) }
@@ -100,7 +100,7 @@ fn end_of(fault: StartFault) -> OnceEnd
 }
 
 /// Opens a shard over the folder at the clock's first moment, and serves the connection over it.
-fn once_over<S: Source, K: Sink, F: Folder, N: Listener, D: Dialer, C: Clock>(
+fn once_over<S: Source, K: Sink, F: Folder, N: Listener, D: Dialer, C: Clock, G: Log>(
     alloc: Global,
     keys: Keys,
     base: Bytes,
@@ -108,11 +108,11 @@ fn once_over<S: Source, K: Sink, F: Folder, N: Listener, D: Dialer, C: Clock>(
     origin: Option<Bytes>,
     folder: F,
     clock: &mut C,
-    outside: &mut Outside<S, K, F, N, D, C>,
+    outside: &mut Outside<S, K, F, N, D, C, G>,
 ) -> (F, OnceEnd)
     requires base { is_base base ≡ true }
     requires page { IfSome origin IsOrigin }
-    ensures runs { OnceRuns ⟦<Outside<S, K, F, N, D, C> as Meant<S, K, F, N, D, C, N::Link>>⟧.meanings keys base editor origin result.1 folder result.0 clock.old clock.new outside.old outside.new }
+    ensures runs { OnceRuns ⟦<Outside<S, K, F, N, D, C, G> as Meant<S, K, F, N, D, C, G, N::Link>>⟧.meanings keys base editor origin result.1 folder result.0 clock.old clock.new outside.old outside.new }
     ensures others { outside.new ≡ record outside.old { input = outside.new.input; output = outside.new.output } }
     ensures untouched { Untouched result.1 outside.old outside.new }
     ensures fine { result.1 ≢ OnceEnd.Served ConnEnd.ReadFault → S.read_faults outside.new.input ≡ S.read_faults outside.old.input }
@@ -136,19 +136,19 @@ fn once_over<S: Source, K: Sink, F: Folder, N: Listener, D: Dialer, C: Clock>(
 }
 
 /// The same with the one folder and the one clock in their lists.
-fn once_in<S: Source, K: Sink, F: Folder, N: Listener, D: Dialer, C: Clock>(
+fn once_in<S: Source, K: Sink, F: Folder, N: Listener, D: Dialer, C: Clock, G: Log>(
     alloc: Global,
     keys: Keys,
     base: Bytes,
     editor: bool,
     origin: Option<Bytes>,
-    outside: &mut Outside<S, K, F, N, D, C>,
+    outside: &mut Outside<S, K, F, N, D, C, G>,
 ) -> OnceEnd
     requires base { is_base base ≡ true }
     requires page { IfSome origin IsOrigin }
     requires folders { length outside.old.folders.items ≡ 1 }
     requires clocks { length outside.old.clocks.items ≡ 1 }
-    ensures runs { OnceRunsIn ⟦<Outside<S, K, F, N, D, C> as Meant<S, K, F, N, D, C, N::Link>>⟧.meanings keys base editor origin result outside.old outside.new }
+    ensures runs { OnceRunsIn ⟦<Outside<S, K, F, N, D, C, G> as Meant<S, K, F, N, D, C, G, N::Link>>⟧.meanings keys base editor origin result outside.old outside.new }
     ensures others { outside.new
         ≡ record outside.old { input = outside.new.input; output = outside.new.output; folders = outside.new.folders; clocks = outside.new.clocks } }
     ensures untouched { Untouched result outside.old outside.new }
@@ -246,16 +246,16 @@ fn finish<K: Sink>(alloc: Global, notes: &mut K, end: &OnceEnd) -> u8
 
 /// Answers the requests of the input on the output, in their order, by calls on one shard over the
 /// folder.
-pub fn run_once<S: Source, K: Sink, F: Folder, N: Listener, D: Dialer, C: Clock>(
+pub fn run_once<S: Source, K: Sink, F: Folder, N: Listener, D: Dialer, C: Clock, G: Log>(
     alloc: Global,
     words: &[String],
-    outside: &mut Outside<S, K, F, N, D, C>,
+    outside: &mut Outside<S, K, F, N, D, C, G>,
 ) -> u8
     requires words { IsRow (map string_bytes words.now) Command.Once }
     requires folders { length outside.old.folders.items ≡ 1 }
     requires clocks { length outside.old.clocks.items ≡ 1 }
 
-    ensures { OnceEnds ⟦<Outside<S, K, F, N, D, C> as Meant<S, K, F, N, D, C, N::Link>>⟧.meanings (map string_bytes words.now) result outside.old outside.new }
+    ensures { OnceEnds ⟦<Outside<S, K, F, N, D, C, G> as Meant<S, K, F, N, D, C, G, N::Link>>⟧.meanings (map string_bytes words.now) result outside.old outside.new }
 {
     let Some((keys, base, editor)) = once_words(words) else {
         unreachable!()

@@ -13,7 +13,7 @@ use crate::replay_words::{ReplayAsk, replay_words};
 use crate::telling::say;
 use crate::{Command, Meant, Outside};
 use line_text::InputFault;
-use outside::{Clock, Dialer, Folder, Listener, Sink, Source};
+use outside::{Clock, Dialer, Folder, Listener, Log, Sink, Source};
 use replay_cmd::{
     Schedule, ScheduleFault, Straight, World, generate, read_schedule, summary_text, trace_text,
 };
@@ -50,11 +50,11 @@ fn write_summary<K: Sink>(alloc: Global, schedule: &Schedule, output: &mut K) ->
 }
 
 /// Runs the schedule that the whole input is, or tells its first bad line, and gives the status.
-fn replay_input<S: Source, K: Sink, F: Folder, N: Listener, D: Dialer, C: Clock>(
+fn replay_input<S: Source, K: Sink, F: Folder, N: Listener, D: Dialer, C: Clock, G: Log>(
     alloc: Global,
-    outside: &mut Outside<S, K, F, N, D, C>,
+    outside: &mut Outside<S, K, F, N, D, C, G>,
 ) -> u8
-    ensures replays { InputReplays ⟦<Outside<S, K, F, N, D, C> as Meant<S, K, F, N, D, C, N::Link>>⟧.meanings result outside.old outside.new }
+    ensures replays { InputReplays ⟦<Outside<S, K, F, N, D, C, G> as Meant<S, K, F, N, D, C, G, N::Link>>⟧.meanings result outside.old outside.new }
     ensures read_cause { result ≡ 3 → Rose (S.read_faults outside.old.input) (S.read_faults outside.new.input) }
     ensures read_cut { result ≡ 3 → HasRead (S.left outside.old.input) (S.left outside.new.input) IsUndecided }
     ensures read_fine { result ≢ 3 → S.read_faults outside.new.input ≡ S.read_faults outside.old.input }
@@ -84,13 +84,13 @@ fn replay_generated<K: Sink>(alloc: Global, seed: u64, count: u32, output: &mut 
 }
 
 /// Runs the schedule that is asked for, and gives the status.
-fn replay<S: Source, K: Sink, F: Folder, N: Listener, D: Dialer, C: Clock>(
+fn replay<S: Source, K: Sink, F: Folder, N: Listener, D: Dialer, C: Clock, G: Log>(
     alloc: Global,
     ask: ReplayAsk,
-    outside: &mut Outside<S, K, F, N, D, C>,
+    outside: &mut Outside<S, K, F, N, D, C, G>,
 ) -> u8
     requires { (seed : ℕ) (count : ℕ) → ask ≡ ReplayAsk.Generated seed count → count ≤ 10000 }
-    ensures replays { AskReplays ⟦<Outside<S, K, F, N, D, C> as Meant<S, K, F, N, D, C, N::Link>>⟧.meanings ask result outside.old outside.new }
+    ensures replays { AskReplays ⟦<Outside<S, K, F, N, D, C, G> as Meant<S, K, F, N, D, C, G, N::Link>>⟧.meanings ask result outside.old outside.new }
     ensures read_cause { result ≡ 3 → Rose (S.read_faults outside.old.input) (S.read_faults outside.new.input) }
     ensures read_cut { result ≡ 3 → HasRead (S.left outside.old.input) (S.left outside.new.input) IsUndecided }
     ensures read_fine { result ≢ 3 → S.read_faults outside.new.input ≡ S.read_faults outside.old.input }
@@ -108,13 +108,13 @@ fn replay<S: Source, K: Sink, F: Folder, N: Listener, D: Dialer, C: Clock>(
 /// Runs the schedule that the words ask for: the one that the input is, whose trace it writes, or one
 /// that is made from two numbers, whose summary it writes.
 #[tactic(auto, using(crate::proofs::ReplayRows::few_events))]
-pub fn run_replay<S: Source, K: Sink, F: Folder, N: Listener, D: Dialer, C: Clock>(
+pub fn run_replay<S: Source, K: Sink, F: Folder, N: Listener, D: Dialer, C: Clock, G: Log>(
     alloc: Global,
     words: &[String],
-    outside: &mut Outside<S, K, F, N, D, C>,
+    outside: &mut Outside<S, K, F, N, D, C, G>,
 ) -> u8
     requires { IsRow (map string_bytes words.now) Command.Replay }
-    ensures { ReplayEnds ⟦<Outside<S, K, F, N, D, C> as Meant<S, K, F, N, D, C, N::Link>>⟧.meanings (map string_bytes words.now) result outside.old outside.new }
+    ensures { ReplayEnds ⟦<Outside<S, K, F, N, D, C, G> as Meant<S, K, F, N, D, C, G, N::Link>>⟧.meanings (map string_bytes words.now) result outside.old outside.new }
 {
     let Some(ask) = replay_words(words) else {
         unreachable!()

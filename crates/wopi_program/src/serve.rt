@@ -1,5 +1,5 @@
-//! The command `serve`: a host over the folders, and a worker for each listener.
-ghost use Rattle.std.specs.Prelude.{◌≡◌, ℕ, List, length, map, string_bytes};
+//! The command `serve`: a host over the folders, and the logs where it keeps them, and a worker for each listener.
+ghost use Rattle.std.specs.Prelude.{◌≡◌, ℕ, List, Some, length, map, string_bytes};
 ghost use Rattle.std.specs.List.{AllByRecursion};
 ghost use Rattle.wopi_program.specs.ServeEnds.{ServeEnds, ServeFinishes};
 ghost use Rattle.wopi_program.specs.ServeWords.{IsServeRow};
@@ -7,12 +7,13 @@ ghost use Rattle.wopi_program.specs.Words.{IsRow};
 ghost use Rattle.access_tokens.specs.declared.keys.Keys.{Keys};
 
 use crate::editor_words::origin_from;
+use crate::keeping::keep_in;
 use crate::once::finish_too_large;
 use crate::serve_words::{ServeAsk, serve_words};
 use crate::serving::{ServeEnd, serve_in};
 use crate::telling::want;
 use crate::{Command, Meant, Outside, note};
-use outside::{Clock, Dialer, Folder, Listener, Sink, Source};
+use outside::{Clock, Dialer, Folder, Listener, Log, Sink, Source};
 use std::alloc::Global;
 use std::sync::Wait;
 use std::thread::Threads;
@@ -41,10 +42,15 @@ fn finish<K: Sink>(alloc: Global, notes: &mut K, end: &ServeEnd) -> u8
             note(notes, b"out of memory\n");
             6
         }
+        ServeEnd::JournalFault => {
+            note(notes, b"journal fault\n");
+            16
+        }
     }
 }
 
-/// Serves the links of the listeners over a host of the folders, and writes the host's journal on the output.
+/// Serves the links of the listeners over a host of the folders, and writes the host's journal on the output, or keeps it in
+/// the logs.
 pub fn run_serve<
     R: Threads + Wait + Sync,
     S: Source,
@@ -53,13 +59,16 @@ pub fn run_serve<
     N: Listener + Send,
     D: Dialer,
     C: Clock + Send,
->(rt: &R, alloc: Global, words: &[String], outside: &mut Outside<S, K, F, N, D, C>) -> u8
+    G: Log + Send,
+>(rt: &R, alloc: Global, words: &[String], outside: &mut Outside<S, K, F, N, D, C, G>) -> u8
     requires words { IsRow (map string_bytes words.now) Command.Serve }
     requires folders { length outside.old.folders.items ≡ 16 }
     requires workers { (keys : Keys) (base : List ℕ) (ask : ServeAsk) → IsServeRow (map string_bytes words.now) keys base ask
         → (length outside.old.listeners.items ≡ ask.workers) × (length outside.old.clocks.items ≡ ask.workers) }
+    requires logs { (keys : Keys) (base : List ℕ) (ask : ServeAsk) (ids : ℕ) → IsServeRow (map string_bytes words.now) keys base ask → ask.keep ≡ Some ids
+        → (length outside.old.logs.items ≡ 16) × AllByRecursion (λ log. G.synced log ≡ G.held log) outside.old.logs.items }
     requires has_all_back { AllByRecursion (λ listener. N.finished listener ≡ N.accepted listener) outside.old.listeners.items }
-    ensures { ServeEnds ⟦<Outside<S, K, F, N, D, C> as Meant<S, K, F, N, D, C, N::Link>>⟧.meanings (map string_bytes words.now) result outside.old outside.new }
+    ensures { ServeEnds ⟦<Outside<S, K, F, N, D, C, G> as Meant<S, K, F, N, D, C, G, N::Link>>⟧.meanings (map string_bytes words.now) result outside.old outside.new }
 {
     let Some((keys, base, ask)) = serve_words(words) else {
         unreachable!()
@@ -70,6 +79,14 @@ pub fn run_serve<
     let Ok(origin) = origin_from(alloc, words, 6) else {
         return want(outside);
     };
-    let end = serve_in(rt, alloc, keys, base, origin, ask, outside);
-    finish(alloc, &mut outside.notes, &end)
+    match ask.keep {
+        None => {
+            let end = serve_in(rt, alloc, keys, base, origin, ask, outside);
+            return finish(alloc, &mut outside.notes, &end);
+        }
+        Some(ids) => {
+            let end = keep_in(rt, alloc, keys, base, origin, ask, ids, outside);
+            return finish(alloc, &mut outside.notes, &end);
+        }
+    }
 }

@@ -1,10 +1,11 @@
 //! The words of the command `serve`.
-ghost use Rattle.std.specs.Prelude.{◌≡◌, ◌≤◌, ◌↔◌, ℕ, List, map, string_bytes, IfSome, IfNone, Some};
-ghost use Rattle.wopi_program.specs.ServeWords.{AreBounded, IsServe, IsServeRow, asked, asked_of, number_in, option_before, options_of, unless_told, with_each, with_first, with_journal, with_links};
+ghost use Rattle.std.specs.Prelude.{◌≡◌, ◌<◌, ◌≤◌, ◌↔◌, ℕ, List, drop, is_some, length, map, string_bytes, IfSome, IfNone, IsSome, IsTrue, Some};
+ghost use Rattle.std.specs.Option.{option_copied};
+ghost use Rattle.wopi_program.specs.ServeWords.{AreBounded, IsServe, IsServeRow, ask_of, asked, asked_of, behind_keep, goes_with, kept_ids, logs_in, logs_told, number_in, option_before, options_of, unless_told, with_each, with_first, with_ids, with_journal, with_links};
 ghost use Rattle.access_tokens.specs.declared.keys.Keys.{Keys};
 ghost use Rattle.host_core.specs.Opening.{most_first};
 
-use crate::editor_words::{behind_editor, serves_editors, tells_origin};
+use crate::editor_words::{behind_editor, serves_editors, tells_origin, words_from};
 use crate::once_words::is_base;
 use access_tokens::Keys;
 use host_core::MOST_FIRST;
@@ -15,6 +16,11 @@ const MOST_ENTRIES: u32 = 32768;
 
 /// The most entries of a shard where the words name no number.
 const ENTRIES: u32 = 4096;
+
+/// The most places of a shard for ids where logs are kept, and how many it has where the words name no number.
+const MOST_IDS: u32 = 32768;
+
+const IDS: u32 = 4096;
 
 /// The most connections of a worker, and how many it serves where the words name no number.
 const LINKS: u32 = 1000000;
@@ -42,6 +48,8 @@ pub struct ServeAsk {
     pub first: u64,
     /// Whether editors are served with what they want beyond what every host answers.
     pub editor: bool,
+    /// Where logs are kept, for how many held locks and ids that are refused each shard has places.
+    pub keep: Option<u32>,
 }
 
 /// The numbers of the options, each where its option stands there.
@@ -51,6 +59,7 @@ pub(crate) struct ServeOptions {
     pub(crate) each: Option<u32>,
     pub(crate) first: Option<u64>,
     pub(crate) links: Option<u32>,
+    pub(crate) ids: Option<u32>,
 }
 
 const NO_OPTIONS: ServeOptions = ServeOptions {
@@ -58,6 +67,7 @@ const NO_OPTIONS: ServeOptions = ServeOptions {
     each: None,
     first: None,
     links: None,
+    ids: None,
 };
 
 /// The number that the word writes, if it is from 1 to the most.
@@ -156,6 +166,23 @@ fn with_links(options: ServeOptions, word: &str) -> Option<ServeOptions>
     }
 }
 
+/// The options with `--ids` in front of them.
+fn with_ids(options: ServeOptions, word: &str) -> Option<ServeOptions>
+    ensures value { result ≡ with_ids options (unless_told options.ids (number_in 32768 word.now)) }
+    ensures fits { AreBounded options → IfSome result AreBounded }
+{
+    match options.ids {
+        Some(_) => None,
+        None => match small_in(word, MOST_IDS) {
+            None => None,
+            Some(number) => Some(ServeOptions {
+                ids: Some(number),
+                ..options
+            }),
+        },
+    }
+}
+
 /// An option in front of others.
 fn option_before(name: &str, word: &str, options: ServeOptions) -> Option<ServeOptions>
     ensures value { result ≡ option_before name.now word.now options }
@@ -169,6 +196,8 @@ fn option_before(name: &str, word: &str, options: ServeOptions) -> Option<ServeO
         with_first(options, word)
     } else if name == "--links" {
         with_links(options, word)
+    } else if name == "--ids" {
+        with_ids(options, word)
     } else {
         None
     }
@@ -179,7 +208,7 @@ fn options(words: &[String]) -> Option<ServeOptions>
     ensures value { result ≡ options_of (map string_bytes words.now) }
     ensures fits { IfSome result AreBounded }
 {
-    if words.len() > 8 {
+    if words.len() > 10 {
         return None;
     }
     match words {
@@ -192,19 +221,123 @@ fn options(words: &[String]) -> Option<ServeOptions>
     }
 }
 
+/// What `--keep` in front of these words names.
+fn logs_in(words: &[String]) -> Option<&str>
+    ensures { option_copied result ≡ logs_in (map string_bytes words.now) }
+{
+    match words {
+        [name, logs, ..] => {
+            if name.as_str() == "--keep" {
+                return Some(logs.as_str());
+            }
+            None
+        }
+        [_] => None,
+        [] => None,
+    }
+}
+
+/// The words behind it and its value, or all of them where it doesn't stand there.
+fn behind_keep(words: &[String]) -> &[String]
+    ensures { map string_bytes result.now ≡ behind_keep (map string_bytes words.now) }
+{
+    match words {
+        [name, _, rest @ ..] => {
+            if name.as_str() == "--keep" {
+                return rest;
+            }
+            words
+        }
+        [_] => words,
+        [] => words,
+    }
+}
+
+/// Whether logs are kept, by the words behind WORKERS.
+fn keeps(words: &[String]) -> bool
+    ensures { result ≡ is_some (logs_told (map string_bytes words.now)) }
+{
+    match logs_in(behind_editor(words)) {
+        Some(_) => return true,
+        None => return false,
+    }
+}
+
+/// Whether the folder of logs, where one is named, isn't empty.
+fn names_logs(words: &[String]) -> bool
+    ensures { IsTrue result ↔ IfSome (logs_told (map string_bytes words.now)) (λ logs. 0 < length logs) }
+{
+    match logs_in(behind_editor(words)) {
+        Some(logs) => return !logs.is_empty(),
+        None => return true,
+    }
+}
+
+/// The folder of logs that the words of `serve` name.
+pub(crate) fn logs_named(words: &[String]) -> Option<&str>
+    ensures { option_copied result ≡ logs_told (drop 6 (map string_bytes words.now)) }
+{
+    logs_in(behind_editor(words_from(words, 6)))
+}
+
+/// How many ids a shard has places for, where logs are kept.
+fn kept_ids(keeps: bool, ids: Option<u32>) -> Option<u32>
+    requires { IfSome ids (λ number. (1 ≤ number) × (number ≤ 32768)) }
+    ensures value { result ≡ kept_ids keeps ids }
+    ensures fits { IfSome result (λ number. (1 ≤ number) × (number ≤ 32768)) }
+{
+    if keeps {
+        return Some(ids.unwrap_or(IDS));
+    }
+    None
+}
+
+/// Whether the options go with logs, or with none.
+fn goes_with(keeps: bool, options: ServeOptions) -> bool
+    ensures { result ≡ goes_with keeps options }
+{
+    if keeps {
+        return options.journal.is_none();
+    }
+    options.ids.is_none()
+}
+
 /// The numbers together, each option's own or that which stands for it where it is missing.
+fn ask_of(port: u32, workers: u32, editor: bool, keeps: bool, options: ServeOptions) -> ServeAsk
+    requires workers { (1 ≤ workers) × (workers ≤ 16) }
+    requires options { AreBounded options }
+    ensures value { result ≡ ask_of port workers editor keeps options }
+    ensures workers { (1 ≤ result.workers) × (result.workers ≤ 1024) }
+    ensures capacity { (1 ≤ result.capacity) × (result.capacity ≤ 32768) }
+    ensures first { (1 ≤ result.first) × (result.first ≤ most_first) }
+    ensures keep { IfSome result.keep (λ ids. (1 ≤ ids) × (ids ≤ 32768)) }
+{
+    ServeAsk {
+        port,
+        workers: options.links.unwrap_or(workers),
+        capacity: options.journal.unwrap_or(ENTRIES),
+        each: options.each.unwrap_or(LINKS),
+        first: options.first.unwrap_or(FIRST),
+        editor,
+        keep: kept_ids(keeps, options.ids),
+    }
+}
+
+/// The same where all of them are there, and go together.
 fn asked(
     port: Option<u32>,
     workers: Option<u32>,
     editor: bool,
+    keeps: bool,
     options: Option<ServeOptions>,
 ) -> Option<ServeAsk>
     requires workers { IfSome workers (λ number. (1 ≤ number) × (number ≤ 16)) }
     requires options { IfSome options AreBounded }
-    ensures value { result ≡ asked port workers editor options }
+    ensures value { result ≡ asked port workers editor keeps options }
     ensures workers { IfSome result (λ ask. (1 ≤ ask.workers) × (ask.workers ≤ 1024)) }
     ensures capacity { IfSome result (λ ask. (1 ≤ ask.capacity) × (ask.capacity ≤ 32768)) }
     ensures first { IfSome result (λ ask. (1 ≤ ask.first) × (ask.first ≤ most_first)) }
+    ensures keep { IfSome result (λ ask. IfSome ask.keep (λ ids. (1 ≤ ids) × (ids ≤ 32768))) }
 {
     match port {
         None => None,
@@ -212,14 +345,12 @@ fn asked(
             None => None,
             Some(workers) => match options {
                 None => None,
-                Some(options) => Some(ServeAsk {
-                    port,
-                    workers: options.links.unwrap_or(workers),
-                    capacity: options.journal.unwrap_or(ENTRIES),
-                    each: options.each.unwrap_or(LINKS),
-                    first: options.first.unwrap_or(FIRST),
-                    editor,
-                }),
+                Some(options) => {
+                    if goes_with(keeps, options) {
+                        return Some(ask_of(port, workers, editor, keeps, options));
+                    }
+                    None
+                }
             },
         },
     }
@@ -231,12 +362,14 @@ fn asked_of(port: &str, workers: &str, rest: &[String]) -> Option<ServeAsk>
     ensures workers { IfSome result (λ ask. (1 ≤ ask.workers) × (ask.workers ≤ 1024)) }
     ensures capacity { IfSome result (λ ask. (1 ≤ ask.capacity) × (ask.capacity ≤ 32768)) }
     ensures first { IfSome result (λ ask. (1 ≤ ask.first) × (ask.first ≤ most_first)) }
+    ensures keep { IfSome result (λ ask. IfSome ask.keep (λ ids. (1 ≤ ids) × (ids ≤ 32768))) }
 {
     asked(
         small_in(port, 65535),
         small_in(workers, WORKERS),
         serves_editors(rest),
-        options(behind_editor(rest)),
+        keeps(rest),
+        options(behind_keep(behind_editor(rest))),
     )
 }
 
@@ -246,6 +379,7 @@ pub(crate) fn serve_words(words: &[String]) -> Option<(Keys, &str, ServeAsk)>
     ensures workers { IfSome result (λ row. (1 ≤ row.2.workers) × (row.2.workers ≤ 1024)) }
     ensures capacity { IfSome result (λ row. (1 ≤ row.2.capacity) × (row.2.capacity ≤ 32768)) }
     ensures first { IfSome result (λ row. (1 ≤ row.2.first) × (row.2.first ≤ most_first)) }
+    ensures keep { IfSome result (λ row. IfSome row.2.keep (λ ids. (1 ≤ ids) × (ids ≤ 32768))) }
     ensures none { IfNone result (¬ IsServe (map string_bytes words.now)) }
 {
     match words {
@@ -260,6 +394,9 @@ pub(crate) fn serve_words(words: &[String]) -> Option<(Keys, &str, ServeAsk)>
                 return None;
             }
             if !tells_origin(rest) {
+                return None;
+            }
+            if !names_logs(rest) {
                 return None;
             }
             let keys = Keys::read(key.as_bytes())?;

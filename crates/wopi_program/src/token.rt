@@ -7,7 +7,7 @@ use crate::telling::{tell, want};
 use crate::token_words::token_words;
 use crate::{Command, Meant, Outside};
 use access_tokens::{Keys, Token, mint};
-use outside::{Clock, Dialer, Folder, Listener, Sink, Source};
+use outside::{Clock, Dialer, Folder, Listener, Log, Sink, Source};
 use std::alloc::Global;
 use wopi_text::Memory;
 
@@ -21,13 +21,13 @@ fn token_line(alloc: Global, keys: &Keys, token: &Token) -> Result<Vec<u8>, Memo
 }
 
 /// Writes the text of the words' token under the current one of their keys, and a line feed, to the output.
-pub fn run_token<S: Source, K: Sink, F: Folder, N: Listener, D: Dialer, C: Clock>(
+pub fn run_token<S: Source, K: Sink, F: Folder, N: Listener, D: Dialer, C: Clock, G: Log>(
     alloc: Global,
     words: &[String],
-    outside: &mut Outside<S, K, F, N, D, C>,
+    outside: &mut Outside<S, K, F, N, D, C, G>,
 ) -> u8
     requires { IsRow (map string_bytes words.now) Command.Token }
-    ensures { TokenEnds ⟦<Outside<S, K, F, N, D, C> as Meant<S, K, F, N, D, C, N::Link>>⟧.meanings (map string_bytes words.now) result outside.old outside.new }
+    ensures { TokenEnds ⟦<Outside<S, K, F, N, D, C, G> as Meant<S, K, F, N, D, C, G, N::Link>>⟧.meanings (map string_bytes words.now) result outside.old outside.new }
 {
     let Some((keys, token)) = token_words(words) else {
         unreachable!()

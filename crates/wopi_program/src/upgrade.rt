@@ -13,7 +13,7 @@ use crate::edit::{note_edit, refuse_script};
 use crate::{Command, Meant, Outside, note};
 use journal_text::{JournalFault, RewriteFault, SizeFault, read_bytes, rewrite};
 use line_text::InputFault;
-use outside::{Clock, Dialer, Folder, Listener, Sink, Source};
+use outside::{Clock, Dialer, Folder, Listener, Log, Sink, Source};
 use std::alloc::Global;
 
 /// Writes the journal that the bytes are in the second form, or tells its first bad line, and gives the status.
@@ -44,11 +44,11 @@ fn refuse_journal<K: Sink>(alloc: Global, fault: JournalFault, output: &mut K) -
 }
 
 /// Writes the journal that the whole input is in the second form, or tells its first bad line, and gives the status.
-fn upgrade<S: Source, K: Sink, F: Folder, N: Listener, D: Dialer, C: Clock>(
+fn upgrade<S: Source, K: Sink, F: Folder, N: Listener, D: Dialer, C: Clock, G: Log>(
     alloc: Global,
-    outside: &mut Outside<S, K, F, N, D, C>,
+    outside: &mut Outside<S, K, F, N, D, C, G>,
 ) -> u8
-    ensures upgrades { Upgrades ⟦<Outside<S, K, F, N, D, C> as Meant<S, K, F, N, D, C, N::Link>>⟧.meanings result outside.old outside.new }
+    ensures upgrades { Upgrades ⟦<Outside<S, K, F, N, D, C, G> as Meant<S, K, F, N, D, C, G, N::Link>>⟧.meanings result outside.old outside.new }
     ensures read_cause { result ≡ 3 → Rose (S.read_faults outside.old.input) (S.read_faults outside.new.input) }
     ensures read_cut { result ≡ 3 → HasRead (S.left outside.old.input) (S.left outside.new.input) AreFew }
     ensures read_fine { result ≢ 3 → S.read_faults outside.new.input ≡ S.read_faults outside.old.input }
@@ -77,13 +77,13 @@ pub(crate) fn note_upgrade<K: Sink>(notes: &mut K, status: u8)
 /// Reads a journal of either form from the input, and writes it in the second form. Nothing is written before
 /// the whole input was read, and found to be a journal: so its bytes are kept, which is most of the memory that
 /// this takes. They are read line by line, and no entry is kept.
-pub fn run_upgrade<S: Source, K: Sink, F: Folder, N: Listener, D: Dialer, C: Clock>(
+pub fn run_upgrade<S: Source, K: Sink, F: Folder, N: Listener, D: Dialer, C: Clock, G: Log>(
     alloc: Global,
     words: &[String],
-    outside: &mut Outside<S, K, F, N, D, C>,
+    outside: &mut Outside<S, K, F, N, D, C, G>,
 ) -> u8
     requires { IsRow (map string_bytes words.now) Command.Upgrade }
-    ensures { UpgradeEnds ⟦<Outside<S, K, F, N, D, C> as Meant<S, K, F, N, D, C, N::Link>>⟧.meanings result outside.old outside.new }
+    ensures { UpgradeEnds ⟦<Outside<S, K, F, N, D, C, G> as Meant<S, K, F, N, D, C, G, N::Link>>⟧.meanings result outside.old outside.new }
 {
     let _words = words;
     let status = upgrade(alloc, outside);

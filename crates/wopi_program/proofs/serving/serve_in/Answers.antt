@@ -1,4 +1,5 @@
 use Rattle.std.proofs.Common.{◌∙◌, inl, refl, rules, sym}
+use Rattle.wopi_model.specs.Host.{kept_limits}
 use Rattle.host_table.proofs.Starting.{handed_self}
 use Rattle.wopi_program.proofs.ServeLemmas.{ready_at_start, refused_apart, runs, runs_refused}
 use Rattle.wopi_program.proofs.serving.serve_in.Goals as goal
@@ -18,7 +19,7 @@ returns-in-Err-clause-write_fault g c = λ is. absurd (refused_apart c.in-Err.re
 pub serve_opened-requires-clause-first : goal.serve_opened-requires-clause-first
 serve_opened-requires-clause-first g c κs within =
     let kept = c.in-Ok-keep.ensures.starts in
-    let fact = ready_at_start _ _ _ kept.stores c.args.ask.capacity c.first_moment-opened.result c.args.ask.first c.in-Ok-keep.begun.0 c.in-Ok-keep.begun.1 kept.starts in
+    let fact = ready_at_start _ _ _ kept.stores (kept_limits c.args.ask.capacity) c.first_moment-opened.result c.args.ask.first c.in-Ok-keep.begun.0 c.in-Ok-keep.begun.1 kept.starts in
     search (rules, fact)
 
 pub returns-in-Ok-keep-clause-runs : goal.returns-in-Ok-keep-clause-runs

@@ -1,0 +1,399 @@
+-- Stores over logs from their beginning to their end, one for each shard.
+use Rattle.std.proofs.Common.{◌≡◌, ℕ, suc, ◌+◌, ◌≤◌, ◌==◌, ◌||◌, Bool, true, false, true≢false, if◌then◌else◌, inl, inr, List, [], ◌∷◌, ◌++◌, length, map, Option, Some, None, refl, sym, ap, ◌∙◌, subst, append-nil, append_assoc, arith}
+use Rattle.std.specs.List.{flat_map, list_any}
+use Rattle.std.proofs.lemmas.Bool.Decides.{nat_tests}
+use Rattle.outside.specs.Faults.{Rose, RoseBy}
+use Rattle.outside.specs.Folder.{Files, Times}
+use Rattle.wopi_model.specs.Begin.{Begin, new_life}
+use Rattle.wopi_model.specs.File.{File}
+use Rattle.wopi_model.specs.Host.{Limits}
+use Rattle.wopi_model.specs.Shard.{Opening, Entry}
+use Rattle.host_core.specs.Entries.{Made, told_of}
+use Rattle.host_core.specs.Notes.{Notes, LogStart}
+use Rattle.host_core.specs.Opening.{AreDatesOf, IsOpening, Fits}
+use Rattle.host_core.specs.Times.{steps_of, last_time, IsTimely}
+use Rattle.host_core.specs.Value.{Book, Left, Agrees, state_of, is_torn, faults_in}
+use Rattle.host_log.specs.Logs.{LogView, HasEnded, IsDoubt, started}
+use Rattle.host_log.specs.Rows.{IsInDoubt, IsLog, head_of, opening_text}
+use Rattle.host_table.specs.Journal.{AreParts, openings}
+use Rattle.host_table.specs.Passes.{Place}
+use Rattle.host_table.specs.Start.{log_in, AreBegun, IsBegun}
+use Rattle.host_table.specs.Close.{AreNoted, AreNotedParts, AreSeen, AreSeenIn, IsNoted, begin_of}
+use Rattle.wopi_program.specs.Meanings.{Meanings}
+use Rattle.wopi_program.specs.Journal.{IsOpened, AreOpened}
+use Rattle.wopi_program.specs.Keep.{KeptShard, IsKept, AreKept, lost_in}
+use Rattle.wopi_program.specs.Paired.{IsPaired, AreAnew, AreParted, faults_of, files_of, lost_store, notes_of}
+use Rattle.wopi_program.proofs.FolderLemmas.{bytes_in, life_files, same_openings, told_files}
+use Rattle.wopi_program.proofs.JournalLemmas.{steps-append}
+use Rattle.wopi_program.proofs.Merged.{AreBased, IsBased}
+
+-- A folder and a log, the store over them, and that at the end with the folder and the log that it gave.
+pub record Life (F G : Type 0) : Type 0 where
+  pub folder : F
+  pub log : G
+  pub store : LogView F
+  pub last : LogView F
+  pub folder' : F
+  pub log' : G
+
+module _ {F G : Type 0} where
+  abbrev pub folder_of : Life F G → F
+  folder_of life = life.folder
+
+  abbrev pub log_of : Life F G → G
+  log_of life = life.log
+
+  abbrev pub store_of : Life F G → LogView F
+  store_of life = life.store
+
+  abbrev pub last_of : Life F G → LogView F
+  last_of life = life.last
+
+  abbrev pub folder_then : Life F G → F
+  folder_then life = life.folder'
+
+  abbrev pub log_then : Life F G → G
+  log_then life = life.log'
+
+module _ {F G : Type 0} (held synced : G → Option (List ℕ)) (faults : G → ℕ) where
+  pub record IsLife (number : ℕ) (life : Life F G) : Type 0 where
+    pub paired : IsPaired held faults number life.folder life.log life.store
+    pub same_log : life.last.notes.log ≡ life.store.notes.log
+    pub ended : HasEnded life.last life.folder' (held life.log') (synced life.log') (faults life.log')
+
+  abbrev pub AreLives : ℕ → List (Life F G) → Type 0
+  AreLives number [] = Unit {0}
+  AreLives number (life ∷ lives) = IsLife number life × AreLives (number + 1) lives
+
+  pub record HasLives (number : ℕ) (folders : List F) (logs : List G) (stores lasts : List (LogView F)) (folders' : List F) (logs' : List G) : Type 0 where
+    pub lives : List (Life F G)
+    pub are : AreLives number lives
+    pub folders_are : map folder_of lives ≡ folders
+    pub logs_are : map log_of lives ≡ logs
+    pub stores_are : map store_of lives ≡ stores
+    pub lasts_are : map last_of lives ≡ lasts
+    pub folders_then : map folder_then lives ≡ folders'
+    pub logs_then : map log_then lives ≡ logs'
+
+  pub lives_of : (number : ℕ) (folders : List F) (logs : List G) (stores lasts : List (LogView F)) (folders' : List F) (logs' : List G) → AreAnew held faults number folders logs stores
+      → map (log_in notes_of) lasts ≡ map (log_in notes_of) stores → AreParted held synced faults lasts folders' logs' → HasLives number folders logs stores lasts folders' logs'
+  lives_of number [] [] [] [] [] [] anew same parted =
+      record { lives = []; are = tt; folders_are = refl; logs_are = refl; stores_are = refl; lasts_are = refl; folders_then = refl; logs_then = refl }
+  lives_of number [] [] [] [] [] (log' ∷ logs') anew same parted = absurd parted
+  lives_of number [] [] [] [] (folder' ∷ folders') logs' anew same parted = absurd parted
+  lives_of number [] [] [] (last ∷ lasts) folders' logs' anew same parted = absurd (cc same)
+  lives_of number [] [] (store ∷ stores) lasts folders' logs' anew same parted = absurd anew
+  lives_of number [] (log ∷ logs) stores lasts folders' logs' anew same parted = absurd anew
+  lives_of number (folder ∷ folders) [] stores lasts folders' logs' anew same parted = absurd anew
+  lives_of number (folder ∷ folders) (log ∷ logs) [] lasts folders' logs' anew same parted = absurd anew
+  lives_of number (folder ∷ folders) (log ∷ logs) (store ∷ stores) [] folders' logs' anew same parted = absurd (cc same)
+  lives_of number (folder ∷ folders) (log ∷ logs) (store ∷ stores) (last ∷ lasts) [] logs' anew same parted = absurd parted
+  lives_of number (folder ∷ folders) (log ∷ logs) (store ∷ stores) (last ∷ lasts) (folder' ∷ folders') [] anew same parted = absurd parted
+  lives_of number (folder ∷ folders) (log ∷ logs) (store ∷ stores) (last ∷ lasts) (folder' ∷ folders') (log' ∷ logs') anew same parted =
+      let here : last.notes.log ≡ store.notes.log = cc same in
+      let more : map (log_in notes_of) lasts ≡ map (log_in notes_of) stores = cc same in
+      let rest = lives_of (number + 1) folders logs stores lasts folders' logs' anew.1 more parted.1 in
+      let life : Life F G = record { folder = folder; log = log; store = store; last = last; folder' = folder'; log' = log' } in
+      record {
+        lives = life ∷ rest.lives;
+        are = (record { paired = anew.0; same_log = here; ended = parted.0 }, rest.are);
+        folders_are = ap (λ (l : List F). folder ∷ l) rest.folders_are;
+        logs_are = ap (λ (l : List G). log ∷ l) rest.logs_are;
+        stores_are = ap (λ (l : List (LogView F)). store ∷ l) rest.stores_are;
+        lasts_are = ap (λ (l : List (LogView F)). last ∷ l) rest.lasts_are;
+        folders_then = ap (λ (l : List F). folder' ∷ l) rest.folders_then;
+        logs_then = ap (λ (l : List G). log' ∷ l) rest.logs_then;
+      }
+
+  -- the log of the store at the end is the one that it was handed in with
+  pub record IsSameLog (number : ℕ) (life : Life F G) : Type 0 where
+    pub shard : life.last.shard ≡ number
+    pub start : life.last.lines.start ≡ held life.log
+    pub began : life.last.lines.began ≡ faults life.log
+
+  pub same_log : (number : ℕ) (life : Life F G) → IsLife number life → IsSameLog number life
+  same_log number life is =
+      let both : Some (started life.last.shard life.last.lines) ≡ Some (started life.store.shard life.store.lines) = sym is.ended.log ∙ is.same_log ∙ is.paired.anew.log in
+      let same : started life.last.shard life.last.lines ≡ started life.store.shard life.store.lines = cc both in
+      record {
+        shard = ap (λ (s : LogStart). s.shard) same ∙ is.paired.anew.shard_is;
+        start = ap (λ (s : LogStart). s.held) same ∙ is.paired.start;
+        began = ap (λ (s : LogStart). s.faults) same ∙ is.paired.began;
+      }
+
+-- A life of a shard, and the shard as it was opened.
+pub record Row (F G : Type 0) : Type 0 where
+  pub life : Life F G
+  pub base : Book (LogView F)
+
+module _ {F G : Type 0} where
+  abbrev pub life_of : Row F G → Life F G
+  life_of row = row.life
+
+  abbrev pub base_in : Row F G → Book (LogView F)
+  base_in row = row.base
+
+  abbrev pub store_in : Row F G → LogView F
+  store_in row = row.life.store
+
+  abbrev pub last_in : Row F G → LogView F
+  last_in row = row.life.last
+
+  -- what the shard leaves
+  abbrev pub part_of : Row F G → Left F
+  part_of row = record { opening = map bytes_in row.base.begin.files; dates = row.base.dates; made = row.life.last.notes.made; start = row.life.folder }
+
+  abbrev pub shard_of_row : Row F G → KeptShard F G
+  shard_of_row row = record { folder = row.life.folder; log = row.life.log; part = part_of row; lost = row.life.last.lost; folder' = row.life.folder'; log' = row.life.log' }
+
+names_told : (files : List (List ℕ × File)) → map (λ one. one.0) files ≡ map (λ file. file.0) (map bytes_in files)
+names_told [] = refl
+names_told (file ∷ files) = ap (λ (l : List (List ℕ)). file.0 ∷ l) (names_told files)
+
+head_at : (shard opened first : ℕ) (opening : Opening) → 1 ≤ first → head_of shard opened first opening ≡ opening_text shard opened first opening
+head_at shard opened first opening some = go (first == 0) refl
+  where
+    go : (b : Bool) → (first == 0) ≡ b → (if b then [] else opening_text shard opened first opening) ≡ opening_text shard opened first opening
+    go true is = absurd (grind (arith, nat_tests))
+    go false is = refl
+
+module _ {S K F N D C G L : Type 0} (m : Meanings S K F N D C G L) (opened first : ℕ) (limits : Limits) where
+  abbrev pub IsLifeOf : ℕ → Life F G → Type 0
+  IsLifeOf = IsLife m.log_held m.log_synced m.log_faults
+
+  abbrev pub times_of : LogView F → Option Times
+  times_of store = m.times store.folder
+
+  pub record IsRow (number : ℕ) (row : Row F G) : Type 0 where
+    pub life : IsLifeOf number row.life
+    pub begun : IsBegun (files_of m.files) times_of (faults_of m.folder_faults) opened first limits number row.life.store row.base
+    pub noted : IsNoted (files_of m.files) (faults_of m.folder_faults) notes_of row.base row.life.last
+
+  abbrev pub AreRows : ℕ → List (Row F G) → Type 0
+  AreRows number [] = Unit {0}
+  AreRows number (row ∷ rows) = IsRow number row × AreRows (number + 1) rows
+
+  pub record HasRows (number : ℕ) (lives : List (Life F G)) (bases : List (Book (LogView F))) : Type 0 where
+    pub rows : List (Row F G)
+    pub are : AreRows number rows
+    pub lives_are : map life_of rows ≡ lives
+    pub bases_are : map base_in rows ≡ bases
+
+  pub rows_of : (number : ℕ) (lives : List (Life F G)) (bases : List (Book (LogView F))) → AreLives m.log_held m.log_synced m.log_faults number lives
+      → AreBegun (files_of m.files) times_of (faults_of m.folder_faults) opened first limits number (map store_of lives) bases
+      → AreNoted (files_of m.files) (faults_of m.folder_faults) notes_of bases (map last_of lives) → HasRows number lives bases
+  rows_of number [] [] are begun noted = record { rows = []; are = tt; lives_are = refl; bases_are = refl }
+  rows_of number [] (base ∷ bases) are begun noted = absurd begun
+  rows_of number (life ∷ lives) [] are begun noted = absurd begun
+  rows_of number (life ∷ lives) (base ∷ bases) are begun noted =
+      let rest = rows_of (number + 1) lives bases are.1 begun.1 noted.1 in
+      record {
+        rows = record { life = life; base = base } ∷ rest.rows;
+        are = (record { life = are.0; begun = begun.0; noted = noted.0 }, rest.are);
+        lives_are = ap (λ (l : List (Life F G)). life ∷ l) rest.lives_are;
+        bases_are = ap (λ (l : List (Book (LogView F))). base ∷ l) rest.bases_are;
+      }
+
+  module _ (number : ℕ) (row : Row F G) (is : IsRow number row) where
+    part : Left F
+    part = part_of row
+
+    stood_is : is.begun.stood ≡ (part_of row).opening
+    stood_is = sym (told_files first is.begun.stood) ∙ ap (λ (b : Book (LogView F)). map bytes_in b.begin.files) (sym is.begun.book)
+
+    begin_is : row.base.begin ≡ new_life (part_of row).opening opened first
+    begin_is = ap (λ (b : Book (LogView F)). b.begin) is.begun.book ∙ ap (λ (o : Opening). new_life o opened first) stood_is
+
+    pub row_based : IsBased opened first row.base (part_of row)
+    row_based = record { begin = begin_is; dates = refl }
+
+    pub row_opened : IsOpened m number row.life.folder (part_of row)
+    row_opened =
+        let folder_is = is.life.paired.anew.folder_is in
+        record {
+          start = refl;
+          opening = subst (IsOpening (Some number) (m.files row.life.folder)) stood_is (subst (λ (f : F). IsOpening (Some number) (m.files f) is.begun.stood) folder_is is.begun.opening);
+          fits = subst Fits stood_is is.begun.fits;
+          dated = is.begun.dated ∙ names_told row.base.begin.files;
+          told = subst (λ (f : F). AreDatesOf (m.times f) row.base.dates) folder_is is.begun.told;
+        }
+
+    begun_none : row.life.last.notes.begun ≡ None
+    begun_none = is.noted.ended
+
+    -- what the log begins with
+    head_is : 1 ≤ first → row.life.last.lines.head ≡ opening_text number opened first (part_of row).opening
+    head_is some =
+        let e = is.life.ended in
+        let begin : row.life.last.notes.begin ≡ new_life (part_of row).opening opened first = is.noted.begin ∙ begin_is in
+        let at : row.life.last.notes.begin.opened ≡ opened = ap (λ (b : Begin). b.opened) begin in
+        let from : row.life.last.notes.begin.first ≡ first = ap (λ (b : Begin). b.first) begin in
+        let files : life_files first e.opening ≡ life_files first (part_of row).opening =
+        ap (λ n. life_files n e.opening) (sym from) ∙ ap (λ (b : Begin). b.files) (sym e.begin_is ∙ begin)
+        in
+        let opening : e.opening ≡ (part_of row).opening = same_openings first e.opening (part_of row).opening files in
+        let shard = (same_log m.log_held m.log_synced m.log_faults number row.life is.life).shard in
+        e.head_is ∙ (λ i. head_of (shard i) (at i) (from i) (opening i)) ∙ head_at number opened first (part_of row).opening some
+
+    row_holds : Agrees (Some number) (m.files row.life.folder) (m.files row.life.folder') (state_of (new_life (part_of row).opening opened first) row.life.last.notes.made (last_time opened row.life.last.notes.made)).files (is_torn row.life.last.notes.made)
+    row_holds =
+        let made = row.life.last.notes.made in
+        let start : row.base.start ≡ row.life.store = ap (λ (b : Book (LogView F)). b.start) is.begun.book in
+        let only : row.base.only ≡ Some number = ap (λ (b : Book (LogView F)). b.only) is.begun.book in
+        let was : row.base.start.folder ≡ row.life.folder = ap (λ (s : LogView F). s.folder) start ∙ is.life.paired.anew.folder_is in
+        let now : row.life.last.folder ≡ row.life.folder' = sym is.life.ended.folder_is in
+        let A1 : Option ℕ → Type 0 = λ o. Agrees o (m.files row.base.start.folder) (m.files row.life.last.folder) (state_of row.base.begin made (last_time row.base.begin.now made)).files (is_torn made) in
+        let A2 : F → Type 0 = λ f. Agrees (Some number) (m.files f) (m.files row.life.last.folder) (state_of row.base.begin made (last_time row.base.begin.now made)).files (is_torn made) in
+        let A3 : F → Type 0 = λ f. Agrees (Some number) (m.files row.life.folder) (m.files f) (state_of row.base.begin made (last_time row.base.begin.now made)).files (is_torn made) in
+        let A4 : Begin → Type 0 = λ b. Agrees (Some number) (m.files row.life.folder) (m.files row.life.folder') (state_of b made (last_time b.now made)).files (is_torn made) in
+        subst A4 begin_is (subst A3 now (subst A2 was (subst A1 only is.noted.lawful.folder)))
+
+    row_failures : RoseBy (m.folder_faults row.life.folder) (faults_in row.life.last.notes.made) (m.folder_faults row.life.folder' + row.life.last.refused)
+    row_failures =
+        let made = row.life.last.notes.made in
+        let start : row.base.start ≡ row.life.store = ap (λ (b : Book (LogView F)). b.start) is.begun.book in
+        let none : row.base.start.refused ≡ 0 = ap (λ (s : LogView F). s.refused) start ∙ is.life.paired.anew.refused in
+        let was : m.folder_faults row.base.start.folder ≡ m.folder_faults row.life.folder = ap m.folder_faults (ap (λ (s : LogView F). s.folder) start ∙ is.life.paired.anew.folder_is) in
+        let before : m.folder_faults row.base.start.folder + row.base.start.refused ≡ m.folder_faults row.life.folder = omega (arith, none, was) in
+        let now : row.life.last.folder ≡ row.life.folder' = sym is.life.ended.folder_is in
+        let R1 : ℕ → Type 0 = λ n. RoseBy n (faults_in made) (m.folder_faults row.life.last.folder + row.life.last.refused) in
+        let R2 : F → Type 0 = λ f. RoseBy (m.folder_faults row.life.folder) (faults_in made) (m.folder_faults f + row.life.last.refused) in
+        subst R2 now (subst R1 before is.noted.lawful.faults)
+
+    row_timely : IsTimely opened row.life.last.notes.made
+    row_timely = subst (λ n. IsTimely n row.life.last.notes.made) (ap (λ (b : Begin). b.now) begin_is) is.noted.timely
+
+    log_at : (told : List Made) (tail : List ℕ) → 1 ≤ first → IsLog row.life.last.lines.start (m.log_held row.life.log') (m.log_synced row.life.log') row.life.last.lines.head told tail
+        → IsLog (m.log_held row.life.log) (m.log_held row.life.log') (m.log_synced row.life.log') (opening_text number opened first (part_of row).opening) told tail
+    log_at told tail some log =
+        subst (λ (h : List ℕ). IsLog (m.log_held row.life.log) (m.log_held row.life.log') (m.log_synced row.life.log') h told tail) (head_is some)
+        (subst (λ (o : Option (List ℕ)). IsLog o (m.log_held row.life.log') (m.log_synced row.life.log') row.life.last.lines.head told tail) (same_log m.log_held m.log_synced m.log_faults number row.life is.life).start log)
+
+    rose_at : row.life.last.lines.lost ≡ true → Rose (m.log_faults row.life.log) (m.log_faults row.life.log')
+    rose_at lost =
+        let e = is.life.ended in
+        subst (λ n. Rose (m.log_faults row.life.log) n) (sym e.faults_are)
+        (subst (λ n. Rose n row.life.last.lines.faults) (same_log m.log_held m.log_synced m.log_faults number row.life is.life).began (e.rose lost))
+
+    counts_at : m.log_faults row.life.log ≤ m.log_faults row.life.log'
+    counts_at =
+        let e = is.life.ended in
+        let began = (same_log m.log_held m.log_synced m.log_faults number row.life is.life).began in
+        let less = e.counts in
+        let now = e.faults_are in
+        omega (arith, began, less, now)
+
+    whole_row : 1 ≤ first → row.life.last.lines.lost ≡ false → IsKept m opened first number (shard_of_row row)
+    whole_row some fine =
+        let e = is.life.ended in
+        let v = row.life.last in
+        record {
+          timely = row_timely;
+          holds = row_holds;
+          failed = false;
+          refused = v.refused;
+          failures = row_failures;
+          told = v.notes.made;
+          missing = [];
+          made_are = sym (append-nil v.notes.made);
+          unsaved = tt;
+          tail = [];
+          log = log_at v.notes.made [] some (e.told fine begun_none);
+          rest = e.rest ++ steps_of v.missing;
+          sure = ap steps_of e.made ∙ steps-append v.lines.told v.missing ∙ ap (λ (l : List Entry). l ++ steps_of v.missing) e.kept ∙ append_assoc (told_of v.notes.made) e.rest (steps_of v.missing);
+          fine = λ _. (e.refusals fine, refl, refl);
+          doubt = None;
+          cut = λ failed. absurd (true≢false (sym failed));
+          rose = λ failed. absurd (true≢false (sym failed));
+          counts = counts_at;
+          whole = λ _. refl;
+          cause = λ lost. inr (e.full lost fine);
+        }
+
+    failed_row : 1 ≤ first → row.life.last.lines.lost ≡ true → IsKept m opened first number (shard_of_row row)
+    failed_row some lost =
+        let e = is.life.ended in
+        let v = row.life.last in
+        let stands = e.lost lost in
+        record {
+          timely = row_timely;
+          holds = row_holds;
+          failed = true;
+          refused = v.refused;
+          failures = row_failures;
+          told = v.lines.told;
+          missing = v.missing;
+          made_are = e.made;
+          unsaved = e.unsaved;
+          tail = stands.0;
+          log = log_at v.lines.told stands.0 some stands.2;
+          rest = e.rest;
+          sure = e.kept;
+          fine = λ fine. absurd (true≢false fine);
+          doubt = v.lines.doubt;
+          cut = λ _. (
+            subst (λ (h : List ℕ). IsInDoubt h v.lines.told v.lines.doubt stands.0) (head_is some) stands.1,
+            subst (λ o. IsDoubt o v.missing v.lines.doubt) begun_none (e.doubt lost),
+          );
+          rose = λ _. rose_at lost;
+          counts = counts_at;
+          whole = λ fine. absurd (true≢false (sym lost ∙ e.fine fine));
+          cause = λ _. inl refl;
+        }
+
+    pub row_kept : 1 ≤ first → IsKept m opened first number (shard_of_row row)
+    row_kept some = go row.life.last.lines.lost refl
+      where
+        go : (b : Bool) → row.life.last.lines.lost ≡ b → IsKept m opened first number (shard_of_row row)
+        go true lost = failed_row some lost
+        go false fine = whole_row some fine
+
+  -- ---- all rows
+
+  pub rows_kept : (number : ℕ) (rows : List (Row F G)) → 1 ≤ first → AreRows number rows → AreKept m opened first number (map shard_of_row rows)
+  rows_kept number [] some are = tt
+  rows_kept number (row ∷ rows) some are = (row_kept number row are.0 some, rows_kept (number + 1) rows some are.1)
+
+  pub rows_opened : (number : ℕ) (rows : List (Row F G)) → AreRows number rows → AreOpened m number (map (λ (row : Row F G). row.life.folder) rows) (map part_of rows)
+  rows_opened number [] are = tt
+  rows_opened number (row ∷ rows) are = (row_opened number row are.0, rows_opened (number + 1) rows are.1)
+
+  pub rows_based : (number : ℕ) (rows : List (Row F G)) → AreRows number rows → AreBased opened first (map base_in rows) (map part_of rows)
+  rows_based number [] are = tt
+  rows_based number (row ∷ rows) are = (row_based number row are.0, rows_based (number + 1) rows are.1)
+
+  -- each shard's life begins with the files of its part
+  pub rows_begin : (number : ℕ) (rows : List (Row F G)) → AreRows number rows
+      → map begin_of (map base_in rows) ≡ map (λ opening. new_life opening opened first) (map (λ (p : Left F). p.opening) (map part_of rows))
+  rows_begin number [] are = refl
+  rows_begin number (row ∷ rows) are = λ i. begin_is number row are.0 i ∷ rows_begin (number + 1) rows are.1 i
+
+module _ {F G : Type 0} where
+  pub rows_parts : (merge : List Made) (number : ℕ) (rows : List (Row F G)) → AreNotedParts notes_of merge number (map last_in rows) → AreParts merge number (map part_of rows)
+  rows_parts merge number [] noted = tt
+  rows_parts merge number (row ∷ rows) noted = (noted.0, rows_parts merge (number + 1) rows noted.1)
+
+  pub rows_seen : {T : Type 0} (seats : List (Place T)) (rows : List (Row F G)) → AreSeenIn notes_of seats (map last_in rows) → AreSeen seats (map part_of rows)
+  rows_seen [] [] seen = tt
+  rows_seen [] (row ∷ rows) seen = absurd seen
+  rows_seen (seat ∷ seats) [] seen = absurd seen
+  rows_seen (seat ∷ seats) (row ∷ rows) seen = (seen.0, rows_seen seats rows seen.1)
+
+  pub rows_openings : (rows : List (Row F G)) → flat_map (λ (opening : Opening). opening) (map (λ (p : Left F). p.opening) (map part_of rows)) ≡ openings (map part_of rows)
+  rows_openings [] = refl
+  rows_openings (row ∷ rows) = ap (λ (l : Opening). (part_of row).opening ++ l) (rows_openings rows)
+
+  pub rows_lost : (rows : List (Row F G)) → list_any lost_store (map last_in rows) ≡ list_any lost_in (map shard_of_row rows)
+  rows_lost [] = refl
+  rows_lost (row ∷ rows) = ap (λ (b : Bool). row.life.last.lost || b) (rows_lost rows)
+
+pub map_map : {A B E : Type 0} (f : A → B) (g : B → E) (xs : List A) → map g (map f xs) ≡ map (λ x. g (f x)) xs
+map_map f g [] = refl
+map_map f g (x ∷ xs) = ap (λ l. g (f x) ∷ l) (map_map f g xs)
+
+-- a host over so many shards has as many stores at its end
+pub noted_many : {T : Type 0} (files : T → Option Files) (faults : T → ℕ) (notes : T → Notes) (bases : List (Book T)) (stores : List T) → AreNoted files faults notes bases stores → length stores ≡ length bases
+noted_many files faults notes [] [] noted = refl
+noted_many files faults notes [] (store ∷ stores) noted = absurd noted
+noted_many files faults notes (base ∷ bases) [] noted = absurd noted
+noted_many files faults notes (base ∷ bases) (store ∷ stores) noted = ap suc (noted_many files faults notes bases stores noted.1)
