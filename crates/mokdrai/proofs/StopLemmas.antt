@@ -40,3 +40,8 @@ held_each_ok items listener (Err e) those held = tt
 pub all_weaker : {X : Type 0} (P Q : X → Type 0) → ((x : X) → P x → Q x) → (xs : List X) → AllByRecursion P xs → AllByRecursion Q xs
 all_weaker P Q weaker [] each = tt
 all_weaker P Q weaker (x ∷ xs) each = (weaker x each.0, all_weaker P Q weaker xs each.1)
+
+-- what holds of all
+pub all_told : {X : Type 0} (P : X → Type 0) → ((x : X) → P x) → (xs : List X) → AllByRecursion P xs
+all_told P holds [] = tt
+all_told P holds (x ∷ xs) = (holds x, all_told P holds xs)

@@ -1,6 +1,8 @@
 //! What is told on the notes once a command has ended: why, and that it has.
 use crate::making::Unbound;
-use adapters::{DirFolder, cause_line, folder_line, too_large_line};
+use adapters::{
+    CloseAll, ClosingLog, DirFolder, FileLog, cause_line, folder_line, log_line, too_large_line,
+};
 use outside::Sink;
 use std::alloc::Global;
 use std::fs::Files;
@@ -28,17 +30,19 @@ pub(crate) struct End<'a> {
 }
 
 impl<'a> End<'a> {
-    /// The line that tells why a folder failed, is too large, or a socket couldn't be bound. Where memory is wanting for it,
-    /// there is none.
-    pub(crate) fn cause<R: Files>(
+    /// The line that tells why a folder or a log failed, a folder is too large, or a socket couldn't be bound. Where memory
+    /// is wanting for it, there is none.
+    pub(crate) fn cause<R: Files, G, H: CloseAll + Drop>(
         &self,
         alloc: Global,
         folders: &[DirFolder<'_, R>],
+        logs: &[ClosingLog<FileLog<G>, H>],
     ) -> Option<String> {
         let line = match self.status {
             5 => folder_line(alloc, folders),
             10 => socket_line(alloc, self.unbound),
             12 => too_large_line(alloc, folders),
+            16 => log_line(alloc, logs),
             _ => Ok(None),
         };
         match line {

@@ -1,26 +1,32 @@
 //! Makes the real streams, folders, listeners, dialer and clocks, hands them to the top call, and ends with its status.
 #![tactic(auto)]
 
-ghost use Rattle.std.specs.Prelude.{◌≡◌, ◌↔◌, IfOk, IfErr, IsErr, drop, vec_len};
+ghost use Rattle.std.specs.Prelude.{◌≡◌, ◌↔◌, ℕ, List, Some, IfOk, IfErr, IfSome, IsErr, drop, map, string_bytes, vec_len};
 ghost use Rattle.std.specs.Vec.Iter.{into_iter_items};
 ghost use Rattle.std.specs.IoError.{error_kind};
 ghost use Rattle.std.specs.Process.{exit_status};
+ghost use Rattle.adapters.specs.LogNames.{ArePaths};
+ghost use Rattle.wopi_program.specs.ServeWords.{IsServeRow, logs_told};
+ghost use Rattle.access_tokens.specs.declared.keys.Keys.{Keys};
 
 mod after;
 mod around;
+mod keeping;
 mod making;
 mod reading;
 
 use crate::after::End;
 use crate::around::Around;
-use crate::making::{Streams, world};
+use crate::keeping::{Kept, keep, logs_of, unkept_line};
+use crate::making::{Streams, parts_of, world};
 use crate::reading::understand;
-use adapters::{StdSink, StdSource, stop_path, wake_path};
+use adapters::{FileLog, StdSink, StdSource, Unopened, stop_path, wake_path};
 use std::alloc::Global;
 use std::env::{self, Args, Env};
+use std::fs::File;
 use std::io::{self, ErrorKind, IsTerminal, Stderr};
 use std::process::ExitCode;
-use wopi_program::{Asked, asked_by, run};
+use wopi_program::{Asked, ServeAsk, asked_by, note, run};
 use wopi_text::Memory;
 
 /// What arguments come to that could not be read: no words, or want of memory.
@@ -94,6 +100,34 @@ fn streams(rt: &HostRuntime, ready: Option<Stderr>) -> Streams<StdSource, StdSin
     }
 }
 
+/// Tells that no logs could be opened in the folder, and why.
+fn refuse_logs(rt: &HostRuntime, folder: &str, why: Unopened, is_told: bool) -> u8 {
+    let Ok(line) = unkept_line(rt.alloc(), folder, why) else {
+        return 6;
+    };
+    let mut notes = StdSink::notes(rt.stderr());
+    note(&mut notes, b"journal fault\n");
+    let end = End {
+        status: 16,
+        wrong: None,
+        unbound: None,
+        is_told,
+    };
+    end.tell(&mut notes, Some(line.as_str()));
+    16
+}
+
+/// The logs of these words: sixteen where the words keep any, in the folder that they name.
+fn logs_for(_words: &[String], logs: Vec<FileLog<File>>) -> Vec<FileLog<File>>
+    requires count { (keys : Keys) (base : List ℕ) (ask : ServeAsk) (ids : ℕ) → IsServeRow (map string_bytes _words.now) keys base ask → ask.keep ≡ Some ids
+        → vec_len logs ≡ 16 }
+    requires paths { (keys : Keys) (base : List ℕ) (ask : ServeAsk) (row : IsServeRow (map string_bytes _words.now) keys base ask)
+        → IfSome (logs_told row.options) (λ name. (number : ℕ) × ArePaths name number 0 (map (λ log. string_bytes log.path) logs.items)) }
+    ensures { result ≡ logs }
+{
+    logs
+}
+
 fn main(rt: HostRuntime) -> ExitCode {
     let alloc = rt.alloc();
     let Ok(typed) = words(&rt) else {
@@ -108,6 +142,14 @@ fn main(rt: HostRuntime) -> ExitCode {
     let words = asking.given.words.as_slice();
     let asked = asked_by(words);
     let ready = told_at(asked, asking.given.around.verbose, rt.stderr());
+    let folder = logs_of(asked);
+    let Kept { lock: _lock, logs } = match keep(alloc, &rt, folder, parts_of(asked).folder) {
+        Ok(kept) => kept,
+        Err(why) => {
+            return exit_code(refuse_logs(&rt, folder.unwrap_or(""), why, ready.is_some()));
+        }
+    };
+    let logs = logs_for(words, logs);
     let mut unbound = None;
     let Ok(mut outside) = world(
         alloc,
@@ -117,6 +159,7 @@ fn main(rt: HostRuntime) -> ExitCode {
         stop.as_deref(),
         wake.as_deref(),
         streams(&rt, ready),
+        logs,
         &mut unbound,
     ) else {
         return exit_code(6);
@@ -128,7 +171,7 @@ fn main(rt: HostRuntime) -> ExitCode {
         unbound: unbound.as_ref(),
         is_told: ready.is_some(),
     };
-    let cause = end.cause(alloc, &outside.folders);
+    let cause = end.cause(alloc, &outside.folders, &outside.logs);
     end.tell(&mut outside.notes, cause.as_deref());
     exit_code(status)
 }

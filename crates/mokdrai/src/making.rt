@@ -1,12 +1,12 @@
-//! The real folders, listeners, dialer and clocks that a command asks for.
-ghost use Rattle.std.specs.Prelude.{◌≡◌, ◌++◌, ℕ, List, None, IfOk, IfSome, IsSome, codes, decimal, length, string_bytes, vec_len};
+//! The real folders, listeners, dialer, clocks and logs that a command asks for.
+ghost use Rattle.std.specs.Prelude.{◌≡◌, ◌++◌, ℕ, List, None, IfOk, IfSome, IsSome, codes, decimal, is_some, length, map, string_bytes, vec_len};
 ghost use Rattle.std.specs.List.{AllByRecursion};
 ghost use Rattle.wopi_program.specs.Asking.{IsEditAt, IsOnceOver, IsServeOver};
 
 use crate::around::Around;
 use adapters::{
-    DirFolder, Ready, SharedListener, SharedSocket, StopListener, SystemClock, TcpDialer,
-    TcpListen, bind, close_later, ready_line, share, until_stopped,
+    ClosingLog, DirFolder, FileLog, Limits, Ready, SharedListener, SharedSocket, StopListener,
+    SystemClock, TcpDialer, TcpListen, bind, close_later, ready_line, share, until_stopped,
 };
 use std::alloc::Global;
 use std::fs::{File, Files};
@@ -27,7 +27,11 @@ pub(crate) type World<'a, R, S, K> = Outside<
     StopListener<'a, R, SharedListener<TcpListen<R>>>,
     TcpDialer<'a, R, ReplyLength>,
     SystemClock<'a, R>,
+    OwnLog,
 >;
+
+/// A log that closes the listeners of its host at its first fault.
+pub(crate) type OwnLog = ClosingLog<FileLog<File>, Arc<SharedSocket, Global>>;
 
 /// The streams that a program is begun with.
 #[derive(Drop)]
@@ -48,8 +52,8 @@ pub(crate) struct Unbound {
 
 /// The folder that a command works over, how often it takes it, and with how many clocks.
 #[derive(Clone, Copy, Debug, PartialEq, Eq)]
-struct Parts<'a> {
-    folder: &'a str,
+pub(crate) struct Parts<'a> {
+    pub(crate) folder: &'a str,
     folders: usize,
     clocks: usize,
 }
@@ -60,7 +64,7 @@ const NO_PARTS: Parts<'static> = Parts {
     clocks: 0,
 };
 
-fn parts_of(asked: Asked<'_>) -> Parts<'_>
+pub(crate) fn parts_of(asked: Asked<'_>) -> Parts<'_>
     ensures once { (name : List ℕ) → IsOnceOver name asked.entry → (result.folder.now ≡ name) × (result.folders ≡ 1) × (result.clocks ≡ 1) }
     ensures serve { (name : List ℕ) (ask : ServeAsk) → IsServeOver name ask asked.entry
         → (result.folder.now ≡ name) × (result.folders ≡ 16) × (result.clocks ≡ ask.workers) }
@@ -71,7 +75,11 @@ fn parts_of(asked: Asked<'_>) -> Parts<'_>
             folders: 1,
             clocks: 1,
         },
-        Asked::Serve { folder, numbers } => Parts {
+        Asked::Serve {
+            folder,
+            numbers,
+            ..
+        } => Parts {
             folder,
             folders: 16,
             clocks: numbers.workers as usize,
@@ -149,39 +157,44 @@ fn socket_at<R: Net<Stream = TcpStream, Listener = TcpListener>>(
     }
 }
 
-/// So many listeners over one socket at the address and the port, which a byte over the pipe at `wake` closes.
-/// Where it can't be bound, `unbound` has the cause.
-pub(crate) fn listen<
-    'a,
-    R: Net<Stream = TcpStream, Listener = TcpListener>
-        + Files<File = File>
-        + Threads
-        + time::Clock
-        + Copy
-        + Send,
->(
+/// The socket of a `serve` at the address and its port. Where it can't be bound there is none, and `unbound` has the cause.
+pub(crate) fn socket<R: Net<Stream = TcpStream, Listener = TcpListener>>(
     alloc: Global,
-    rt: &'a R,
+    rt: &R,
+    asked: Asked<'_>,
     around: Around<'_>,
-    ask: ServeAsk,
-    stop: Option<&'a str>,
-    wake: Option<&str>,
     ready: Option<Stderr>,
     unbound: &mut Option<Unbound>,
+) -> Result<Option<Arc<SharedSocket, Global>>, Memory> {
+    match asked {
+        Asked::Serve { numbers, .. } => {
+            let address = address_of(alloc, around.listen, numbers.port)?;
+            socket_at(alloc, rt, address, around.grace, ready, unbound)
+        }
+        Asked::Once { .. } => Ok(None),
+        Asked::Edit { .. } => Ok(None),
+        Asked::Nothing => Ok(None),
+    }
+}
+
+/// So many listeners over the socket; they are closed once the stop file is there.
+fn listen<'a, R: Files + time::Clock + Copy + Send>(
+    alloc: Global,
+    rt: &'a R,
+    socket: &Option<Arc<SharedSocket, Global>>,
+    limits: Limits,
+    ask: ServeAsk,
+    stop: Option<&'a str>,
 ) -> Result<Vec<StopListener<'a, R, SharedListener<TcpListen<R>>>>, Memory>
     ensures count { IfOk result (λ all. vec_len all ≡ ask.workers) }
     ensures each { IfOk result (λ all. AllByRecursion (λ one. IfSome one.listener (λ own. (own.listener.most ≡ ask.each) × (own.listener.accepted ≡ 0) × (own.listener.finished ≡ 0))) all.items) }
     ensures begins { IfOk result (λ all. AllByRecursion (λ one. (one.path ≡ stop.entry) × (one.accepted ≡ 0) × (one.finished ≡ 0)) all.items) }
     ensures untold { stop.entry ≡ None → IfOk result (λ all. AllByRecursion (λ one. IsSome one.listener) all.items) }
 {
-    let address = address_of(alloc, around.listen, ask.port)?;
-    let socket = socket_at(alloc, rt, address, around.grace, ready, unbound)?;
-    close_later(rt, wake, &socket)?;
-    let limits = around.limits();
     let bound = share(
         alloc,
         *rt,
-        &socket,
+        socket,
         limits,
         ask.workers as usize,
         ask.each as u64,
@@ -189,24 +202,14 @@ pub(crate) fn listen<
     until_stopped(alloc, rt, stop, bound)
 }
 
-/// The listeners of the workers of a `serve`; they are closed once the stop file is there.
-fn listeners<
-    'a,
-    R: Net<Stream = TcpStream, Listener = TcpListener>
-        + Files<File = File>
-        + Threads
-        + time::Clock
-        + Copy
-        + Send,
->(
+/// The listeners of the workers of a `serve` over its socket.
+pub(crate) fn listeners<'a, R: Files + time::Clock + Copy + Send>(
     alloc: Global,
     rt: &'a R,
     asked: Asked<'_>,
-    around: Around<'_>,
+    socket: &Option<Arc<SharedSocket, Global>>,
+    limits: Limits,
     stop: Option<&'a str>,
-    wake: Option<&str>,
-    ready: Option<Stderr>,
-    unbound: &mut Option<Unbound>,
 ) -> Result<Vec<StopListener<'a, R, SharedListener<TcpListen<R>>>>, Memory>
     ensures count { (name : List ℕ) (ask : ServeAsk) → IsServeOver name ask asked.entry → IfOk result (λ all. vec_len all ≡ ask.workers) }
     ensures each { (name : List ℕ) (ask : ServeAsk) → IsServeOver name ask asked.entry
@@ -215,13 +218,27 @@ fn listeners<
     ensures untold { stop.entry ≡ None → IfOk result (λ all. AllByRecursion (λ one. IsSome one.listener) all.items) }
 {
     match asked {
-        Asked::Serve { numbers, .. } => {
-            listen(alloc, rt, around, numbers, stop, wake, ready, unbound)
-        }
+        Asked::Serve { numbers, .. } => listen(alloc, rt, socket, limits, numbers, stop),
         Asked::Once { .. } => Ok(Vec::new(alloc)),
         Asked::Edit { .. } => Ok(Vec::new(alloc)),
         Asked::Nothing => Ok(Vec::new(alloc)),
     }
+}
+
+/// Logs that close all that listen at the socket at their first fault.
+fn closing(
+    alloc: Global,
+    files: Vec<FileLog<File>>,
+    socket: &Option<Arc<SharedSocket, Global>>,
+) -> Result<Vec<OwnLog>, Memory>
+    ensures logs { IfOk result (λ all. map (λ one. one.log) all.items ≡ files.items) }
+    ensures listeners { IfOk result (λ all. AllByRecursion (λ one. is_some one.listeners ≡ is_some socket.now) all.items) }
+{
+    let mut all = Vec::with_capacity(alloc, files.len())?;
+    for file in files {
+        all.push(ClosingLog::new(file, socket.clone()?))?;
+    }
+    Ok(all)
 }
 
 /// The host that an `edit` speaks with.
@@ -239,7 +256,8 @@ fn authority(alloc: Global, asked: Asked<'_>) -> Result<String, Memory>
     }
 }
 
-/// The streams, and all else that is asked for. Where no socket could be bound, `unbound` has the cause.
+/// The streams, the logs, and all else that is asked for. A byte over the pipe at `wake` closes the socket; where it
+/// couldn't be bound, `unbound` has the cause.
 pub(crate) fn world<
     'a,
     R: Net<Stream = TcpStream, Listener = TcpListener>
@@ -258,12 +276,14 @@ pub(crate) fn world<
     stop: Option<&'a str>,
     wake: Option<&str>,
     streams: Streams<S, K>,
+    logs: Vec<FileLog<File>>,
     unbound: &mut Option<Unbound>,
 ) -> Result<World<'a, R, S, K>, Memory>
     ensures once { (name : List ℕ) → IsOnceOver name asked.entry
         → IfOk result (λ world. (length world.folders.items ≡ 1) × (length world.clocks.items ≡ 1)) }
     ensures serve { (name : List ℕ) (ask : ServeAsk) → IsServeOver name ask asked.entry
         → IfOk result (λ world. (length world.folders.items ≡ 16) × (length world.listeners.items ≡ ask.workers) × (length world.clocks.items ≡ ask.workers)) }
+    ensures logs { IfOk result (λ world. map (λ one. one.log) world.logs.items ≡ logs.items) }
     ensures has_all_back { IfOk result (λ world. AllByRecursion (λ one. one.finished ≡ one.accepted) world.listeners.items) }
     ensures over_once { (name : List ℕ) → IsOnceOver name asked.entry
         → IfOk result (λ world. AllByRecursion (λ one. string_bytes one.folder ≡ name) world.folders.items) }
@@ -274,7 +294,10 @@ pub(crate) fn world<
 {
     let parts = parts_of(asked);
     let folders = folders(alloc, rt, parts.folder, parts.folders)?;
-    let listeners = listeners(alloc, rt, asked, around, stop, wake, streams.ready, unbound)?;
+    let socket = socket(alloc, rt, asked, around, streams.ready, unbound)?;
+    close_later(rt, wake, &socket)?;
+    let listeners = listeners(alloc, rt, asked, &socket, around.limits(), stop)?;
+    let logs = closing(alloc, logs, &socket)?;
     let clocks = clocks(alloc, rt, parts.clocks)?;
     let authority = authority(alloc, asked)?;
     Ok(Outside {
@@ -285,5 +308,6 @@ pub(crate) fn world<
         listeners,
         dialer: TcpDialer::new(alloc, rt, authority, ReplyLength::new(alloc), around.idle),
         clocks,
+        logs,
     })
 }

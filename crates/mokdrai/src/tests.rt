@@ -1,2 +1,3 @@
 //! Tests of what the program makes of its words.
+mod kept;
 mod typed;

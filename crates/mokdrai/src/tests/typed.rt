@@ -1,15 +1,15 @@
 //! What is made of words as people write them.
 use crate::around::{Around, USUAL};
-use crate::making::listen;
+use crate::making::{listeners, socket};
 use crate::reading::understand;
 use std::alloc::Global;
 use std::fs;
 use std::os::unix::fs::PermissionsExt;
 use std::test::Fail;
-use wopi_program::ServeAsk;
+use wopi_program::{Asked, ServeAsk};
 use wopi_text::Memory;
 
-fn words(alloc: Global, line: &str) -> Result<Vec<String>, Memory> {
+pub(crate) fn words(alloc: Global, line: &str) -> Result<Vec<String>, Memory> {
     let mut words = Vec::new(alloc);
     for word in line.split(' ') {
         words.push(String::from_str(alloc, word)?)?;
@@ -100,9 +100,16 @@ fn the_address_of_the_words_is_listened_at(rt: HostRuntime) -> Result<(), Fail> 
         each: 1,
         first: 1,
         editor: false,
+        keep: None,
+    };
+    let asked = Asked::Serve {
+        folder: ".",
+        numbers: ask,
+        logs: None,
     };
     let mut unbound = None;
-    let listeners = listen(alloc, &rt, around, ask, None, None, None, &mut unbound)?;
+    let socket = socket(alloc, &rt, asked, around, None, &mut unbound)?;
+    let listeners = listeners(alloc, &rt, asked, &socket, around.limits(), None)?;
     assert!(rt; listeners.len() == 1);
     let Some(unbound) = unbound else {
         return Err(Fail::new("an address of nobody was bound"));
