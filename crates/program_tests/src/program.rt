@@ -11,6 +11,7 @@ mod faults;
 mod gates;
 mod heads;
 mod hostile;
+mod keep;
 mod limits;
 mod listings;
 mod replays;
@@ -28,7 +29,8 @@ ghost use Rattle.std.specs.Prelude.{◌≡◌, ◌∷◌, IfOk, IsTrue, length};
 ghost use Rattle.outside.specs.Script.{all_moments};
 
 use outside::{
-    Folder, MemFolder, MemListener, MemSink, MemSource, Pair, ScriptClock, ScriptDialer, Source,
+    Folder, MemFolder, MemListener, MemLog, MemSink, MemSource, Pair, ScriptClock, ScriptDialer,
+    Source,
 };
 use std::alloc::Global;
 use std::sync::Wait;
@@ -39,7 +41,7 @@ use wopi_text::{Bytes, Memory};
 pub type Links = MemListener<Pair<MemSource, MemSink>>;
 
 /// What the program meets, with an input of this type.
-pub type Met<S> = Outside<S, MemSink, MemFolder, Links, ScriptDialer, ScriptClock>;
+pub type Met<S> = Outside<S, MemSink, MemFolder, Links, ScriptDialer, ScriptClock, MemLog>;
 
 pub type Fakes = Met<MemSource>;
 
@@ -147,6 +149,7 @@ pub fn fakes(alloc: Global, given: &Given) -> Result<Fakes, Memory>
         listeners: Vec::new(alloc),
         dialer: ScriptDialer::new(alloc, Vec::new(alloc)),
         clocks: clocks(alloc, &[0, 1, 2, 3, 4])?,
+        logs: Vec::new(alloc),
     })
 }
 

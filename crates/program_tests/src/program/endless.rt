@@ -42,6 +42,7 @@ fn met_with(alloc: Global, input: Endless) -> Result<Met<Endless>, Memory>
         listeners: met.listeners,
         dialer: met.dialer,
         clocks: met.clocks,
+        logs: met.logs,
     })
 }
 

@@ -1,20 +1,21 @@
 //! `serve` over fakes in memory: its replies, its journal and its ends.
-ghost use Rattle.std.specs.Prelude.{◌≡◌, IsTrue, length};
+ghost use Rattle.std.specs.Prelude.{◌≡◌, ◌==◌, ℕ, Some, true, IsTrue, length};
 ghost use Rattle.std.specs.List.{list_all};
 ghost use Rattle.outside.specs.MemListener.{has_all_back};
+ghost use Rattle.outside.specs.MemLog.{bytes_held, bytes_synced};
 
 use crate::program::gates::{Flag, FlagLink, GateFolder};
 use crate::program::words_of;
 use outside::{
-    Clock, Dialer, Folder, Link, Listener, MemFolder, MemListener, MemSink, MemSource, Pair,
-    ScriptClock, ScriptDialer, Sink, Source,
+    Clock, Dialer, Folder, Link, Listener, MemFolder, MemListener, MemLog, MemSink, MemSource,
+    Pair, ScriptClock, ScriptDialer, Sink, Source,
 };
 use std::alloc::Global;
 use std::sync::atomic::AtomicU64;
 use std::sync::{Arc, Wait};
 use std::test::Fail;
 use std::thread::Threads;
-use wopi_program::{Command, Outside, read_words, run, serve_ask};
+use wopi_program::{Command, Outside, ServeAsk, read_words, run, serve_ask};
 use wopi_text::{Bytes, Memory};
 
 /// A token for `a.csv` under the key of the words, with the right to write, that expires at 9,000,000.
@@ -51,13 +52,28 @@ pub type MemLink = Pair<MemSource, MemSink>;
 pub type Served<F, L> = ServedTo<MemSink, F, L>;
 
 /// The same with an output and notes of this type.
-pub type ServedTo<K, F, L> = Outside<MemSource, K, F, MemListener<L>, ScriptDialer, ScriptClock>;
+pub type ServedTo<K, F, L> = Outside<
+    MemSource,
+    K,
+    F,
+    MemListener<L>,
+    ScriptDialer,
+    ScriptClock,
+    MemLog,
+>;
 
 /// Whether each listener has every link back that it gave.
 fn have_all_back<L: Drop>(listeners: &[MemListener<L>]) -> bool
     ensures { result ≡ list_all has_all_back listeners.now }
 {
     listeners.iter().all(|listener| listener.has_all_back())
+}
+
+/// Whether each log has synced all that it holds.
+fn are_synced(logs: &[MemLog]) -> bool
+    ensures { result ≡ list_all (λ log. length (bytes_synced log) == length (bytes_held log)) logs.now }
+{
+    logs.iter().all(|log| log.synced() == log.as_slice().len())
 }
 
 /// Whether there are 16 folders, and a listener and a clock for each worker.
@@ -71,6 +87,26 @@ fn fits<K, F, L>(outside: &ServedTo<K, F, L>, workers: u32) -> bool
         return false;
     }
     outside.clocks.len() == workers as usize
+}
+
+/// Whether there are 16 logs, all of which is synced.
+fn are_fresh(logs: &Vec<MemLog>) -> bool
+    ensures { result ≡ true → (length logs.now.items ≡ 16) × (list_all (λ log. length (bytes_synced log) == length (bytes_held log)) logs.now.items ≡ true) }
+{
+    if logs.len() != 16 {
+        return false;
+    }
+    are_synced(logs)
+}
+
+/// Whether there are such logs where the words want some.
+fn has_logs(ask: &ServeAsk, logs: &Vec<MemLog>) -> bool
+    ensures { result ≡ true → (ids : ℕ) → ask.now.keep ≡ Some ids → (length logs.now.items ≡ 16) × (list_all (λ log. length (bytes_synced log) == length (bytes_held log)) logs.now.items ≡ true) }
+{
+    match ask.keep {
+        None => return true,
+        Some(_) => return are_fresh(logs),
+    }
 }
 
 /// Runs `serve` with these words, where it meets what they ask for.
@@ -91,6 +127,9 @@ fn serve_over<
     }
     if !have_all_back(&outside.listeners) {
         return Err("listeners that have every link back".into());
+    }
+    if !has_logs(&ask, &outside.logs) {
+        return Err("16 logs, all of which is synced".into());
     }
     Ok(run(rt, alloc, words, outside))
 }
@@ -186,10 +225,11 @@ pub fn meet<F: Drop, L: Drop>(
         listeners,
         dialer: ScriptDialer::new(alloc, Vec::new(alloc)),
         clocks,
+        logs: Vec::new(alloc),
     })
 }
 
-const LOCK: &str = "X-WOPI-Override: LOCK\r\nX-WOPI-Lock: L1\r\n";
+pub const LOCK: &str = "X-WOPI-Override: LOCK\r\nX-WOPI-Lock: L1\r\n";
 
 pub const LOCKED: &[u8] = b"HTTP/1.1 200 OK\r\nContent-Length: 0\r\nX-WOPI-ItemVersion: v1\r\n\r\n";
 
@@ -203,7 +243,7 @@ pub const ONE_LINE: [&str; 4] = [
 ];
 
 /// Requests of every kind, with the ways in which they are refused.
-const EVERY_KIND: [[&str; 4]; 16] = [
+pub const EVERY_KIND: [[&str; 4]; 16] = [
     ["GET", "", "", ""],
     ["GET", "/contents", "", ""],
     ["GET", "/contents", "X-WOPI-MaxExpectedSize: 3\r\n", ""],

@@ -121,6 +121,7 @@ fn watched(alloc: Global) -> Result<ServedTo<BellSink, MemFolder, PatientLink>, 
         listeners,
         dialer: ScriptDialer::new(alloc, Vec::new(alloc)),
         clocks,
+        logs: Vec::new(alloc),
     })
 }
 

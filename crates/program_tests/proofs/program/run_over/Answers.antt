@@ -5,3 +5,6 @@ run-status-requires-clause-serve g c κs within = λ keys base ask row. absurd (
 
 pub run-status-requires-clause-has_all_back : goal.run-status-requires-clause-has_all_back
 run-status-requires-clause-has_all_back g c κs within = λ row. absurd (cc ((c.in-None.ensures row.2).1 (row.0, row.1, row.3)))
+
+pub run-status-requires-clause-keep : goal.run-status-requires-clause-keep
+run-status-requires-clause-keep g c κs within = λ keys base ask ids row keep. absurd (cc ((c.in-None.ensures ask).1 (keys, base, row)))
