@@ -1,10 +1,10 @@
 #!/usr/bin/env python3
-"""Instructions of one request, by valgrind's callgrind: scripts/instructions.py PROGRAM [ENTRIES ..]
+"""Instructions of one request, by valgrind's callgrind: scripts/instructions.py PROGRAM [--keep] [ENTRIES ..]
 
 PROGRAM is the built one, as crates/mokdrai/out/mokdrai. Each number is the difference of two runs of one
 `serve` of one worker, without and with a hundred more of the request, by a hundred. First over folders of 10,
 1,000 and 10,000 files, on the last one; then over one file after so many entries, those of relocks of the file
-(10, 1,000 and 30,000 where none are named).
+(10, 1,000 and 30,000 where none are named). With --keep the host keeps logs, which lie in memory (/dev/shm).
 
 Under glibc large pieces of memory are cleared and copied by one instruction that callgrind counts once for each
 byte, so here by its loops, as small ones are.
@@ -21,6 +21,7 @@ import time
 KEY, PORT, LAST = "4a656665", 18093, "253402300799999"
 BASE = f"http://127.0.0.1:{PORT}"
 MANY, REPLIES = 100, 9000
+KEEPS = "--keep" in sys.argv
 LOOPS = "glibc.cpu.x86_rep_stosb_threshold=1000000000:glibc.cpu.x86_rep_movsb_threshold=1000000000"
 
 
@@ -98,7 +99,13 @@ def instructions(program, room, folder, requests):
     """The instructions of a host that answers all these."""
     parts = [requests[at : at + REPLIES] for at in range(0, len(requests), REPLIES)]
     words = ["valgrind", "--tool=callgrind", f"--callgrind-out-file={room}/out", program]
-    words += ["serve", str(folder), str(PORT), KEY, BASE, "1", "--journal", "32768", "--each", str(len(parts))]
+    words += ["serve", str(folder), str(PORT), KEY, BASE, "1", "--each", str(len(parts))]
+    with tempfile.TemporaryDirectory(dir="/dev/shm") as logs:
+        return counted(words + (["--keep", logs] if KEEPS else ["--journal", "32768"]), parts)
+
+
+def counted(words, parts):
+    """The instructions of a host that is begun so, and is asked these parts, each over a connection of its own."""
     loops = {**os.environ, "GLIBC_TUNABLES": LOOPS}
     host = subprocess.Popen(words, stdout=subprocess.DEVNULL, stderr=subprocess.PIPE, text=True, env=loops)
     for part in parts:
@@ -131,7 +138,7 @@ def cost(program, room, files, before, ask):
 
 def main():
     program = str(pathlib.Path(sys.argv[1]).resolve())
-    entries = [int(word) for word in sys.argv[2:]] or [10, 1000, 30000]
+    entries = [int(word) for word in sys.argv[2:] if word != "--keep"] or [10, 1000, 30000]
     kinds = {"PutFile": File.put, "UnlockAndRelock": File.relock, "Lock": File.lock, "GetFile": File.get}
     with tempfile.TemporaryDirectory() as room:
         for name, ask in kinds.items():

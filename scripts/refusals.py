@@ -3,14 +3,15 @@
 
 Runs PROGRAM (the built program of crates/mokdrai where it is left out: it has to be a program, and no script) over
 folders and ports of its own, once for each place at which something is refused: `once` at a lock and at a save,
-`replay` at a late save, `edit` at two saves, `serve` at one lock, `token`, and `upgrade` of three entries. What is
-refused is the N-th call of malloc, calloc or realloc, or the N-th of those on files and streams, by a shim that this
+`replay` at a late save, `edit` at two saves, `serve` at one lock, and over logs at a lock and a save, `token`, and `upgrade`
+of three entries. What is refused is the N-th call of malloc, calloc or realloc, or the N-th of those on files and streams, by a shim that this
 script has cc compile and the loader put before the C library; where a command makes no N-th such call, its next case
 comes, at the latest after MOST places (2,000 where it is left out).
 
 Each run has to end by a status of its command with that status's line on the notes, its output has to be a front of
 what it is where nothing is refused, or to have a 503 or a 500 in place of a reply, the file has to have its old bytes or
-those of an accepted save, and the next start has to answer these. It is no part of the gate.
+those of an accepted save, and the next start has to answer these. Over logs each reply of a 200 has to have its entry in
+the log, and a save its contents; the next host has to begin logs of its own there. It is no part of the gate.
 """
 import hashlib
 import hmac
@@ -26,7 +27,8 @@ import time
 KEY = "4a656665"
 BASE = "http://localhost:8880"
 OLD, NEW = b"1,2\n", b"1,9\n"
-LINES = {0: b"", 3: b"read fault\n", 4: b"write fault\n", 5: b"folder fault\n", 6: b"out of memory\n", 10: b"listener fault\n"}
+LINES = {0: b"", 3: b"read fault\n", 4: b"write fault\n", 5: b"folder fault\n", 6: b"out of memory\n", 10: b"listener fault\n",
+         16: b"journal fault\n"}
 SHIM = r"""
 #define _GNU_SOURCE
 #include <dlfcn.h>
@@ -99,6 +101,9 @@ CALL(int, unlink, (const char *name), (name))
 CALL(int, unlinkat, (int fd, const char *name, int how), (fd, name, how))
 CALL(int, fsync, (int fd), (fd))
 CALL(int, fdatasync, (int fd), (fd))
+CALL(int, flock, (int fd, int how), (fd, how))
+CALL(int, ftruncate, (int fd, off_t size), (fd, size))
+CALL(int, ftruncate64, (int fd, off_t size), (fd, size))
 CALL(ssize_t, getdents64, (int fd, void *at, size_t n), (fd, at, n))
 """
 
@@ -153,6 +158,8 @@ class Room:
         os.mkdir(self.folder)
         with open(os.path.join(self.folder, "a.csv"), "wb") as file:
             file.write(OLD)
+        self.logs = os.path.join(self.top, "logs")
+        os.mkdir(self.logs)
         self.told = os.path.join(self.top, "refused")
         refusing = {"LD_PRELOAD": shim, "REFUSED": kind, "PLACE": str(place), "REFUSED_AT": self.told}
         self.refusing = {**os.environ, **refusing} if place else None
@@ -165,12 +172,12 @@ class Room:
         run = subprocess.run([self.program, *words], input=given, capture_output=True, env=env, timeout=60)
         return run.returncode, run.stdout, run.stderr
 
-    def host(self, each, refusing):
+    def host(self, each, refusing, more=()):
         """A `serve` of one worker that ends after so many connections, and its port."""
         with socket.socket() as probe:
             probe.bind(("127.0.0.1", 0))
             port = probe.getsockname()[1]
-        words = ["serve", self.folder, str(port), KEY, BASE, "1", "--each", str(each)]
+        words = ["serve", self.folder, str(port), KEY, BASE, "1", "--each", str(each), *more]
         env = self.refusing if refusing else None
         out = open(os.path.join(self.top, "journal"), "wb")
         host = subprocess.Popen([self.program, *words], stdout=out, stderr=subprocess.PIPE, env=env)
@@ -187,6 +194,10 @@ class Room:
 
     def kept(self):
         with open(os.path.join(self.folder, "a.csv"), "rb") as file:
+            return file.read()
+
+    def log(self, number):
+        with open(os.path.join(self.logs, f"11.{number}"), "rb") as file:
             return file.read()
 
     def answers_what_it_keeps(self):
@@ -289,10 +300,10 @@ def edited(room):
     return status
 
 
-def ask(port):
+def ask(port, requests=LOCK):
     try:
         with socket.create_connection(("127.0.0.1", port), timeout=20) as link:
-            link.sendall(LOCK)
+            link.sendall(requests)
             link.shutdown(socket.SHUT_WR)
             got = b""
             while piece := link.recv(4096):
@@ -305,12 +316,7 @@ def ask(port):
 def served(room):
     host, port = room.host(1, refusing=True)
     got = ask(port)
-    try:
-        notes = host.communicate(timeout=20)[1]
-    except subprocess.TimeoutExpired:
-        # (a connection that couldn't be taken leaves a worker that waits for the next one)
-        ask(port)
-        notes = host.communicate(timeout=20)[1]
+    notes = ended(host, port)
     status = host.returncode
     is_told(status, notes, (0, 4, 5, 6, 10))
     statuses = are_replies(got, [reply(1)])
@@ -321,6 +327,47 @@ def served(room):
     if whole and statuses == [200]:
         must(any(b" lock 4c31 " in line for line in lines), "a reply without its entry")
     must(room.kept() == OLD, "other contents")
+    return status
+
+
+def ended(host, port):
+    """What a host of one connection has on its notes when it ends."""
+    try:
+        return host.communicate(timeout=20)[1]
+    except subprocess.TimeoutExpired:
+        # (a connection that couldn't be taken leaves a worker that waits for the next one)
+        ask(port)
+        return host.communicate(timeout=20)[1]
+
+
+PUT = re.compile(rb"\n\d+ \d+ \d+ \d+ \d+ 612e637376 put 4c31 4 \S+ 200 - - v2 4\n" + re.escape(NEW) + rb"\n(?!off)")
+
+
+def logged(room):
+    """Of a 200 the log has the entry; it begins with the file, where the host came to that."""
+    host, port = room.host(1, refusing=True, more=("--keep", room.logs))
+    got = ask(port, LOCK + SAVE)
+    notes, status = ended(host, port), host.returncode
+    is_told(status, notes, (0, 5, 6, 10, 16))
+    conflict = b"HTTP/1.1 409 Conflict\r\nContent-Length: 0\r\nX-WOPI-Lock: \r\nX-WOPI-LockFailureReason: not locked\r\n\r\n"
+    try:
+        statuses = are_replies(got, [reply(1), reply(2)])
+    except Wrong:
+        statuses = are_replies(got, [reply(1), conflict])
+        must(statuses[0] == 503, f"a conflict though the lock was given: {got[:200]}")
+    log = room.log(1) if statuses else b""
+    must(not statuses or re.match(rb"wopi journal 3 shard 11 .*\nat 612e637376 v1 4\n", log), f"another log: {log[:80]}")
+    must(statuses[:1] != [200] or b" lock 4c31 " in log, "a lock without its entry")
+    must(statuses[1:] != [200] or PUT.search(log), f"a save without its entry: {log[-200:]}")
+    must(statuses[1:] != [200] or room.kept() == NEW, "a save that was accepted and isn't there")
+    must(room.kept() in (OLD, NEW), f"other contents: {room.kept()[:80]}")
+    must(room.kept() == OLD or b" put 4c31 " in log, "a save that its log doesn't have")
+    before = len(os.listdir(room.logs))
+    host, port = room.host(1, refusing=False, more=("--keep", room.logs))
+    got = ask(port)
+    notes = ended(host, port)
+    must(host.returncode == 0 and got.startswith(b"HTTP/1.1 200 "), f"the next host: status {host.returncode}, {notes}")
+    must(len(os.listdir(room.logs)) == before + 16, "the next host wrote into older logs")
     return status
 
 
@@ -352,6 +399,7 @@ CASES = {
     "replay": replayed,
     "edit": edited,
     "serve": served,
+    "serve, over logs": logged,
     "token": written,
     "upgrade": upgraded,
 }
