@@ -9,7 +9,8 @@ use Rattle.journal_segments.specs.declared.walking.SegmentFault.{SegmentFault}
 use Rattle.journal_segments.specs.declared.walking.SegmentFault.TheVariants as fault
 use Rattle.journal_segments.specs.declared.reading.Restored.{Restored}
 use Rattle.journal_segments.specs.Rows.{AreRows, IsCut, IsForm, IsHead, MayCome, head_text, rows_text, segment_text, start, state_after, step, text_of, told_with}
-use Rattle.journal_segments.specs.Reading.{EndsIn, Goes, HasLine, HasTaken, IsBadRow, IsLong, IsLongBehind, IsLongRow, IsOverlong, IsStopped, IsTimed, IsUnfit, IsWhole, Refuses, Stops, Waits}
+use Rattle.journal_segments.specs.Reading.{EndsIn, Goes, HasLine, HasTaken, IsBadRow, IsLong, IsLongBehind, IsLongRow, IsOverlong, IsStopped, IsTimed, IsUnfit, IsWhole, Refuses, Stops, Waits, Walks}
+use Rattle.journal_segments.specs.Seen.{Sees}
 
 -- ---- lists that grow
 
@@ -70,6 +71,33 @@ goes_row old mid new text left behind one a b c f whole is counted =
       parts = whole.parts ∙ ap (λ (l : List ℕ). l ++ behind) (sym (append-nil (text_of one)));
       number_is = omega (arith, counted);
     })
+
+module _ {W : Type 0} (has_seen : W → Head → List Row → Type 0) where
+  -- nothing was walked
+  pub walks_none : (watcher : W) (state : State) (text : List ℕ) (number : ℕ) → Walks has_seen watcher watcher state text number state text number
+  walks_none watcher state text number =
+      record {
+        goes = goes_none state text number;
+        sees = λ head before is counted seen. subst (λ (l : List Row). has_seen watcher head l) (sym (append-nil before)) seen;
+      }
+
+  -- what saw lines, and then others, has seen both
+  sees_join : (first second third : W) (old mid : State) (a b : ℕ) (rows more : List Row) → mid ≡ state_after old rows → b ≡ a + length rows → Sees has_seen first second old a rows
+      → Sees has_seen second third mid b more → Sees has_seen first third old a (rows ++ more)
+  sees_join first second third old mid a b rows more is count f s head before at counted seen =
+      let len = length-append before rows in
+      subst (λ (l : List Row). has_seen third head l) (append_assoc before rows more)
+      (s head (before ++ rows) (is ∙ ap (λ (state : State). state_after state rows) at ∙ sym (state-append (start head) before rows)) (omega (arith, len, count, counted))
+      (f head before at counted seen))
+
+  -- one line more was walked
+  pub walks_row : (first second third : W) (old mid new : State) (text left behind : List ℕ) (one : Row) (a b c : ℕ) → Walks has_seen first second old text a mid left b → IsWhole mid left one behind
+      → new ≡ step mid one → c ≡ b + 1 → Sees has_seen second third mid b (one ∷ []) → Walks has_seen first third old text a new behind c
+  walks_row first second third old mid new text left behind one a b c f whole is counted seen =
+      record {
+        goes = goes_row old mid new text left behind one a b c f.goes whole is counted;
+        sees = sees_join first second third old mid a b f.goes.rows (one ∷ []) f.goes.state_is f.goes.number_is f.sees seen;
+      }
 
 -- and more bytes
 pub goes_more : (old new : State) (text left piece : List ℕ) (a b : ℕ) → Goes old text a new left b → Goes old (text ++ piece) a new (left ++ piece) b

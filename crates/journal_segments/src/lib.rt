@@ -40,13 +40,15 @@ mod state;
 mod tests;
 mod told;
 mod walking;
+mod watching;
 mod writing;
 
 pub use file::ToldFile;
-pub use reading::{Restored, read_segment};
+pub use reading::{Restored, read_segment, watch_segment};
 pub use rows::{Head, Row};
 pub use shelf::Shelf;
 pub use state::State;
 pub use told::ToldShard;
 pub use walking::SegmentFault;
+pub use watching::Watcher;
 pub use writing::write_opening;

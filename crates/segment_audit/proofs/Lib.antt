@@ -1,0 +1,4 @@
+pub mod Sizing
+pub mod Ruling
+pub mod Judged
+pub mod Verdicts
