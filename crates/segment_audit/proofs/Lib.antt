@@ -2,3 +2,5 @@ pub mod Sizing
 pub mod Ruling
 pub mod Judged
 pub mod Verdicts
+pub mod Telling
+pub mod Made
