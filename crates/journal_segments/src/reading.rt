@@ -269,8 +269,14 @@ impl<W: Watcher> SegmentReader<W> {
         let shard = state.shard();
         match state.finish(alloc) {
             Ok(told) => {
-                let used = size - held.len() as u64;
-                return Ok((Restored { shard, told, used }, watcher));
+                return Ok((
+                    Restored {
+                        shard,
+                        told,
+                        used: size - held.len() as u64,
+                    },
+                    watcher,
+                ));
             }
             Err(Memory) => return Err(SegmentFault::Memory),
         }

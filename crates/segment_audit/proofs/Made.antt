@@ -67,13 +67,13 @@ last_told told pending.Done = refl
 tells_more : (folder : List ℕ → Option (List ℕ)) (told : Told) (shard : Shard) (one : Made) (line : Line) → Tells folder told shard → line ≡ line_of one → told.now ≤ line.now → line.moment ≤ line.now →
     IsAllowed (at_moment shard one.time) (Step one.step) → Tells folder (told_line told line) (happens (at_moment shard one.time) (Step one.step))
 tells_more folder told shard one line tells is late soon allowed =
-    tells-rows folder told shard (row.Entry line ∷ []) (one ∷ []) tells (is, tt) (late, soon, tt) (tt, allowed, tt)
+    tells-rows folder told shard (row.Entry line ∷ []) (one ∷ []) tells (is, tt) (late, soon, tt) (tt, (allowed, tt))
 
 -- the line of the entry that it tells is the line again
 line_again : (line : Line) (ruling : Ruling) → shard_of line.name ≡ line.shard → Brings line → said_of ruling ≡ said_by line → line_of (made_of line ruling) ≡ line
 line_again line ruling own brings said =
     let status : ruling.status ≡ line.status = ap (λ (s : Said). s.status) said in
-    let contents = ap (λ (n : ℕ). accepted_as n) status ∙ contents_again line.act line.status line.contents brings in
+    let contents = ap (λ (n : ℕ). cond (n == 200) (brought_by (act_of line.act line.contents)) None) status ∙ contents_again line.act line.status line.contents brings in
     λ i. record {
       stamp = line.stamp;
       shard = own i;
@@ -89,9 +89,6 @@ line_again line ruling own brings said =
       version = (said i).version;
       contents = contents i;
     }
-  where
-    accepted_as : ℕ → Option (List ℕ)
-    accepted_as status = cond (status == 200) (brought_by (act_of line.act line.contents)) None
 
 -- a line that is right tells an entry that is allowed
 line_made : (folder : List ℕ → Option (List ℕ)) (told : Told) (shard : Shard) (line : Line) → Tells folder told shard → AreSized folder told → shard_of line.name ≡ line.shard → shard.now ≤ line.now →
@@ -105,11 +102,11 @@ line_made folder told shard line tells sized own late soon brings ruled =
     let time : max (max shard.now line.now) line.moment ≡ line.now = omega (arith, late, soon) in
     let at = shown-at_moment kept before line.moment shown name in
     let (ruling, outcome, said) = ruled_whole (folder name) (at_name (unmet told.first) told.files name) line told.opened (sized name) ruled in
-    let P : File × (ℕ × ℕ) → Type 0 = λ p. IsOutcome p.0 (call_of line) p.1.0 p.1.1 ruling in
+    let P : File × ℕ × ℕ → Type 0 = λ p. IsOutcome p.0 (call_of line) p.1 p.2 ruling in
     let opened = tells.opened_is in (
       ruling,
       sym (line_again line ruling own brings said),
-      subst P (λ i. (sym (at ∙ ap (settled (kept name)) time) i, (opened i, sym time i))) outcome,
+      subst P (λ i. (sym (at ∙ ap (settled (kept name)) time) i, opened i, sym time i)) outcome,
     )
 
 -- ---- lines, as entries
@@ -138,7 +135,7 @@ made_first : (shard : Shard) (last : ℕ) (line : Line) (ruling : Ruling) (rows 
 made_first shard last line ruling rows is allowed rises first (made, same, along, rest) = (
   made_of line ruling ∷ made,
   first ∙ (λ i. row.Entry (is i) ∷ same i),
-  (tt, allowed, along),
+  (tt, (allowed, along)),
   (rises, rest),
 )
 
@@ -150,13 +147,13 @@ on_entry : (folder : List ℕ → Option (List ℕ)) (state : State) (shard : Sh
 on_entry folder state shard line rows tells sized are ruled first rest =
     let told = told_at state in
     let (own, named, late, soon, rises) = are.1 in
-    let now = now_told state.told state.pending in
-    let last = last_told state.told state.pending in
-    let same = tells.now_is in
+    let here : told.now ≤ line.now = subst (λ (n : ℕ). n ≤ line.now) (now_told state.told state.pending) late in
+    let there : shard.now ≤ line.now = subst (λ (n : ℕ). n ≤ line.now) tells.now_is here in
+    let above : told.last < line.stamp = subst (λ (n : ℕ). n < line.stamp) (last_told state.told state.pending) rises in
     let brings : Brings line = are.0.1 in
-    let (ruling, is, allowed) = line_made folder told shard line tells sized (named ∙ sym own) (omega (arith, now, late, same)) soon brings ruled in
-    let next = tells_more folder told shard (made_of line ruling) line tells is (omega (arith, now, late)) soon allowed in
-    made_first shard told.last line ruling rows is allowed (omega (arith, last, rises)) first
+    let (ruling, is, allowed) = line_made folder told shard line tells sized (named ∙ sym own) there soon brings ruled in
+    let next = tells_more folder told shard (made_of line ruling) line tells is here soon allowed in
+    made_first shard told.last line ruling rows is allowed above first
     (rest (happens (at_moment shard line.now) (Step (made_of line ruling).step)) next (sizes_go folder told line brings sized))
 
 made_rows : (folder : List ℕ → Option (List ℕ)) (state : State) (shard : Shard) (rows : List Row) → Tells folder (told_at state) shard → AreSized folder (told_at state) → AreLogged rows → IsKept rows →
@@ -241,12 +238,9 @@ stores_kept asks.Delete = refl
 entry_comes : (folder : List ℕ → Option (List ℕ)) (state : State) (shard : Shard) (one : Made) → Tells folder (told_at state) shard → MayBeMade shard state.shard (told_at state).last one →
     MayCome state (entry_row one)
 entry_comes folder state shard one tells may =
-    let now = now_told state.told state.pending in
+    let now = now_told state.told state.pending ∙ tells.now_is in
     let last = last_told state.told state.pending in
-    let same = tells.now_is in
-    let late = may.late in
-    let rises = may.rises in
-    (may.own, may.own, omega (arith, now, same, late), may.soon, omega (arith, last, rises))
+    (may.own, may.own, subst (λ (n : ℕ). n ≤ one.time) (sym now) may.late, may.soon, subst (λ (n : ℕ). n < one.step.stamp) (sym last) may.rises)
 
 log_rows : (folder : List ℕ → Option (List ℕ)) (state : State) (shard : Shard) (rows : List log.Row) → Tells folder (told_at state) shard → AreSized folder (told_at state) →
     AreMade shard state.shard (told_at state).last rows → AreRows state (logged_rows rows) × AreRight state (logged_rows rows)
@@ -254,10 +248,9 @@ log_rows folder state shard [] tells sized made = (tt, tt)
 log_rows folder state shard (Counts one ∷ rows) tells sized made =
     let told = told_at state in
     let may = made.0 in
-    let same = tells.now_is in
-    let late = may.late in
+    let here : told.now ≤ one.time = subst (λ (n : ℕ). n ≤ one.time) (sym tells.now_is) may.late in
     let form = entry_is_form one may.bounded in
-    let next = tells_more folder told shard one (line_of one) tells refl (omega (arith, same, late)) may.soon may.allowed in
+    let next = tells_more folder told shard one (line_of one) tells refl here may.soon may.allowed in
     let rest = log_rows folder (step state (entry_row one)) (happens (at_moment shard one.time) (Step one.step)) rows next (sizes_go folder told (line_of one) form.1 sized) made.1 in
     ((form, entry_comes folder state shard one tells may, rest.0), (allowed_right folder told shard one tells sized may.late may.soon may.allowed, rest.1))
 log_rows folder state shard (TakenBack one ∷ rows) tells sized made =
@@ -266,8 +259,8 @@ log_rows folder state shard (TakenBack one ∷ rows) tells sized made =
     let form = entry_is_form one may.bounded in
     let rest = log_rows folder (step (step state (entry_row one)) row.Off) shard rows tells sized made.2 in
     let saved : (one.step.ruling.status == 200) && stores (kept_act one.step.call.act) ≡ true = ap (λ (b : Bool). (one.step.ruling.status == 200) && b) (stores_kept one.step.call.act) ∙ made.1 in (
-      (form, entry_comes folder state shard one tells may, refl, tt, rest.0),
-      (allowed_right folder told shard one tells sized may.late may.soon may.allowed, saved, rest.1),
+      (form, entry_comes folder state shard one tells may, (refl, tt, rest.0)),
+      (allowed_right folder told shard one tells sized may.late may.soon may.allowed, (saved, rest.1)),
     )
 
 right_join : (state : State) (rows more : List Row) → AreRight state rows → AreRight (state_after state rows) more → AreRight state (rows ++ more)
@@ -305,7 +298,9 @@ lines_legal folder head files shard rows is placed behind sizes tells made =
     let number : state.shard ≡ head.shard = shard_after (start head) opening in
     let made_here : AreMade shard state.shard (told_at state).last rows = subst (λ (p : ℕ × ℕ). AreMade shard p.0 p.1 rows) (λ i. (sym number i, (sym at i).last)) made in
     let both = log_rows folder state shard rows (subst (λ (t : Told). Tells folder t shard) (sym at) tells) (subst (AreSized folder) (sym at) (sizes_start folder head files placed sizes)) made_here in
-    let text = (written_is_segment head files is placed behind).parts ∙ append-nil (segment_text head opening) in
+    let segment : IsSegment (opening_text head files) head opening [] = written_is_segment head files is placed behind in
+    let text : opening_text head files ≡ segment_text head opening = segment.parts ∙ append-nil (segment_text head opening) in
+    let seam : opening_text head files ++ log.rows_text rows ≡ segment_text head opening ++ rows_text lines = λ i. text i ++ log_is_lines rows i in
     record {
       head = head;
       rows = opening ++ lines;
@@ -313,7 +308,7 @@ lines_legal folder head files shard rows is placed behind sizes tells made =
       segment = record {
         head_is = is;
         rows_are = rows-append (start head) opening lines (begins head files placed behind) both.0;
-        parts = (λ i. text i ++ log_is_lines rows i) ∙ append_assoc (head_text head) (rows_text opening) (rows_text lines)
+        parts = seam ∙ append_assoc (head_text head) (rows_text opening) (rows_text lines)
             ∙ ap (λ (l : List ℕ). head_text head ++ l) (sym (text-append opening lines)) ∙ sym (append-nil (segment_text head (opening ++ lines)));
         cut = inl no_row;
       };

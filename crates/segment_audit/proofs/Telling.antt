@@ -27,6 +27,7 @@ use Rattle.journal_audit.specs.Judging.{IsSize, SaysOutcome, shows_spent}
 use Rattle.journal_audit.specs.Lines.{IsRuledOn}
 use Rattle.journal_segments.specs.Line.{size_in}
 use Rattle.journal_segments.specs.Told.{Placed, Tells, Told, contents_in, files_after, files_in, fresh_after, placed_by, settled_place, size_after, told_line, unmet, whole}
+use Rattle.journal_segments.proofs.Apart.{some_of_size}
 use Rattle.segment_audit.specs.Sizes.{file_of, refused_at, sized_at}
 use Rattle.segment_audit.specs.Legal.{IsRuledAt}
 use Rattle.segment_audit.specs.Making.{HasSizes, MayBeMade}
@@ -127,12 +128,12 @@ allowed_right folder told shard one tells sized late soon allowed =
     let before = at_moment shard one.time in
     let shown : Shows kept before = shows-tick kept shard one.time tells.files_are in
     let time : max (max shard.now one.time) one.step.moment ≡ one.time = omega (arith, late, soon) in
-    let P : File × (ℕ × (ℕ × Call)) → Type 0 = λ p. IsOutcome p.0 p.1.1.1 p.1.0 p.1.1.0 one.step.ruling in
+    let P : File × ℕ × ℕ × Call → Type 0 = λ p. IsOutcome p.0 p.3 p.1 p.2 one.step.ruling in
     let at = shown-at_moment kept before one.step.moment shown own in
     let opened = tells.opened_is in
     let call = same_call one in
     let outcome : IsOutcome (settled (kept own) one.time) (call_of (with_brought one)) told.opened one.time one.step.ruling =
-    subst P (λ i. ((at ∙ ap (settled (kept own)) time) i, (sym opened i, (time i, sym call i)))) allowed in
+    subst P (λ i. ((at ∙ ap (settled (kept own)) time) i, sym opened i, time i, sym call i)) allowed in
     let ruled : IsRuledOn (settled (whole (folder own) place) one.time) (with_brought one) told.opened one.time = (one.step.ruling, outcome, refl) in
     let says : SaysOutcome (sized_at place one.time) (shows_spent (refused_at place one.time) (kept_act one.step.call.act)) (line_of one) told.opened =
     says_outcome (sized_at place one.time) (refused_at place one.time) (settled (whole (folder own) place) one.time) (with_brought one) told.opened (stands_whole (folder own) place one.time (sized own)) ruled in
@@ -144,7 +145,7 @@ kept_size : (size status : ℕ) (contents : Option (List ℕ)) → size_in conte
 kept_size size status None e = length-replicate size 0
 kept_size size status (Some bytes) e =
     elim (status == 200) as (λ b. size_in (Some bytes) ≡ (cond b (Some size) None) → length bytes ≡ size) [
-      | true ↦ λ h. cc (h)
+      | true ↦ λ h. some_of_size (length bytes) size h
       | false ↦ λ h. absurd (cc (h))
     ] e
 

@@ -41,8 +41,10 @@ impl Watcher for Judge {
 
     fn see(&mut self, number: u64, back: bool, state: &State) {
         let wrong = wrong_in(self.alloc, self.saved, back, state);
-        self.saved = is_saved(state);
-        self.verdict = verdict_behind(self.verdict, number, wrong);
+        let saved = is_saved(state);
+        let verdict = verdict_behind(self.verdict, number, wrong);
+        self.saved = saved;
+        self.verdict = verdict;
     }
 }
 
