@@ -83,8 +83,8 @@ impl<R: Wait, F: Store> Seated<'_, R, F> {
 }
 
 /// Whether what a call was answered may be told.
-fn is_told(answer: Result<Placed, Refusal>) -> bool
-    ensures { result ≡ is_told answer }
+fn is_told(answer: &Result<Placed, Refusal>) -> bool
+    ensures { result ≡ is_told answer.now }
 {
     match answer {
         Ok(placed) => return placed.told,
@@ -142,7 +142,7 @@ impl<R: Wait, F: Store> Caller for Seated<'_, R, F> {
         let answer = self
             .host
             .call_at(self.rt, self.pass, call, moment, carried);
-        self.note(shard, is_told(answer));
+        self.note(shard, is_told(&answer));
         answer
     }
 

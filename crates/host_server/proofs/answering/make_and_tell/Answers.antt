@@ -43,7 +43,7 @@ returns-in-Err-Memory-clause-tells g c origin last =
     act_tells false origin last c.args.ask.now c.args.token c.args.body c.args.moment g.C.Caller.always old new c.copy-name.result c.args.token c.act_of-act.result
     c.copy-name.ensures refl c.act_of-act.ensures (Err (record {}))
     (tells_nothing g.C.Caller.always old new (TellsCall false origin last call c.args.moment) _
-    (does_nothing g.C.Caller.always old new call c.args.moment _ c.in-Err-Memory.ensures.refused c.call_at.ensures.frame))
+    (does_nothing g.C.Caller.always old new call c.args.moment _ (rw c.in-Err-Memory.field-0-is at c.in-Err-Memory.ensures.refused) c.call_at.ensures.frame))
 
 pub returns-clause-tells : goal.returns-clause-tells
 returns-clause-tells g c origin last =
@@ -53,7 +53,7 @@ returns-clause-tells g c origin last =
     act_tells false origin last c.args.ask.now c.args.token c.args.body c.args.moment g.C.Caller.always old new c.copy-name.result c.args.token c.act_of-act.result
     c.copy-name.ensures refl c.act_of-act.ensures (Err (record {}))
     (tells_nothing g.C.Caller.always old new (TellsCall false origin last call c.args.moment) _
-    (does_nothing g.C.Caller.always old new call c.args.moment _ c.in-Err-Lost.ensures.refused c.call_at.ensures.frame))
+    (does_nothing g.C.Caller.always old new call c.args.moment _ (rw c.in-Err-Lost.field-0-is at c.in-Err-Lost.ensures.refused) c.call_at.ensures.frame))
 
 pub returns-in-Ok-clause-telling : goal.returns-in-Ok-clause-telling
 returns-in-Ok-clause-telling g c =
@@ -63,14 +63,14 @@ returns-in-Ok-clause-telling g c =
 pub returns-in-Err-Full-clause-telling : goal.returns-in-Err-Full-clause-telling
 returns-in-Err-Full-clause-telling g c =
     keeps_refused g.C.Caller.loses (g.C.Caller.telling c.args.caller.now) (g.C.Caller.telling c.call_at.new.self) _ (g.C.Caller.sight c.args.caller.now) (g.C.Caller.sight c.call_at.new.self)
-    c.call_at.ensures.telling (g.C.Caller.loses_is c.call_at.new.self _) _ c.args.moment _ c.in-Err-Full.ensures.refused
+    c.call_at.ensures.telling (g.C.Caller.loses_is c.call_at.new.self _) _ c.args.moment _ (rw c.in-Err-Full.field-0-is at c.in-Err-Full.ensures.refused)
 
 pub returns-in-Err-Memory-clause-telling : goal.returns-in-Err-Memory-clause-telling
 returns-in-Err-Memory-clause-telling g c =
     keeps_refused g.C.Caller.loses (g.C.Caller.telling c.args.caller.now) (g.C.Caller.telling c.call_at.new.self) _ (g.C.Caller.sight c.args.caller.now) (g.C.Caller.sight c.call_at.new.self)
-    c.call_at.ensures.telling (g.C.Caller.loses_is c.call_at.new.self _) _ c.args.moment _ c.in-Err-Memory.ensures.refused
+    c.call_at.ensures.telling (g.C.Caller.loses_is c.call_at.new.self _) _ c.args.moment _ (rw c.in-Err-Memory.field-0-is at c.in-Err-Memory.ensures.refused)
 
 pub returns-clause-telling : goal.returns-clause-telling
 returns-clause-telling g c =
     keeps_refused g.C.Caller.loses (g.C.Caller.telling c.args.caller.now) (g.C.Caller.telling c.call_at.new.self) _ (g.C.Caller.sight c.args.caller.now) (g.C.Caller.sight c.call_at.new.self)
-    c.call_at.ensures.telling (g.C.Caller.loses_is c.call_at.new.self _) _ c.args.moment _ c.in-Err-Lost.ensures.refused
+    c.call_at.ensures.telling (g.C.Caller.loses_is c.call_at.new.self _) _ c.args.moment _ (rw c.in-Err-Lost.field-0-is at c.in-Err-Lost.ensures.refused)
