@@ -467,7 +467,16 @@ impl<F: Store> Host<F> {
         let shard = usize::from(call.name.shard());
         let lock = &self.locks[shard];
         let seat = &mut pass.seats[shard];
-        turn(rt, lock, seat, call, number, &mut pass.last, moment, carried)
+        turn(
+            rt,
+            lock,
+            seat,
+            call,
+            number,
+            &mut pass.last,
+            moment,
+            carried,
+        )
     }
 
     /// The same for an editor, which knows of the moment at which the file was last saved. A Put that would be accepted, of a

@@ -139,9 +139,7 @@ impl<R: Wait, F: Store> Caller for Seated<'_, R, F> {
         carried: &mut Carried,
     ) -> Result<Placed, Refusal> {
         let shard = call.name.shard();
-        let answer = self
-            .host
-            .call_at(self.rt, self.pass, call, moment, carried);
+        let answer = self.host.call_at(self.rt, self.pass, call, moment, carried);
         self.note(shard, is_told(&answer));
         answer
     }
