@@ -1,6 +1,6 @@
 //! The logs that a command asks for.
 use super::typed::words;
-use crate::keeping::{Kept, keep, logs_of};
+use crate::keeping::{keep, logs_of};
 use crate::making::parts_of;
 use crate::reading::understand;
 use adapters::Unopened;
@@ -26,8 +26,10 @@ fn a_serve_has_logs_in_the_folder_of_its_words(rt: HostRuntime) -> Result<(), Fa
     assert!(rt; kept.logs.len() == 16 && kept.lock.is_some());
     assert!(rt; matches!(keep(alloc, &rt, folder, files), Err(Unopened::Held)));
     assert!(rt; matches!(keep(alloc, &rt, Some("."), files), Err(Unopened::Files)));
-    let none = keep(alloc, &rt, None, files);
-    assert!(rt; matches!(none, Ok(Kept { lock: None, logs }) if logs.is_empty()));
+    let Ok(none) = keep(alloc, &rt, None, files) else {
+        return Err(Fail::new("no logs are no fault"));
+    };
+    assert!(rt; none.lock.is_none() && none.logs.is_empty());
     drop(kept);
     fs::remove_dir_all(&rt, LOGS)?;
     Ok(())
