@@ -53,12 +53,12 @@ entry_says at line saved None shows = shows
 entry_says at line saved (Some fault.Ruling) shows = shows.1
 entry_says at line saved (Some fault.TakenBack) shows = absurd (not_both shows.0)
 
-off_says : (at : State) (saved : Bool) (wrong : Option RowFault) → saved ≡ is_saved at.pending → ShowsFault saved true (step at row.Off) wrong → Says at row.Off wrong
+off_says : (at : State) (saved : Bool) (wrong : Option RowFault) → saved ≡ is_saved (last_entry at.pending) → ShowsFault saved true (step at row.Off) wrong → Says at row.Off wrong
 off_says at saved None is shows = sym is ∙ shows
 off_says at saved (Some fault.TakenBack) is shows = λ h. shows.1 (is ∙ h)
 off_says at saved (Some fault.Ruling) is shows = absurd (not_both (sym shows.0))
 
-pub says_line : (at : State) (one : Row) (saved : Bool) (wrong : Option RowFault) → MayCome at one → saved ≡ is_saved at.pending → ShowsFault saved (is_off one) (step at one) wrong → Says at one wrong
+pub says_line : (at : State) (one : Row) (saved : Bool) (wrong : Option RowFault) → MayCome at one → saved ≡ is_saved (last_entry at.pending) → ShowsFault saved (is_off one) (step at one) wrong → Says at one wrong
 says_line at (row.Entry line) saved wrong may is shows = entry_says at line saved wrong shows
 says_line at row.Off saved wrong may is shows = off_says at saved wrong is shows
 says_line at (row.At name version size) saved None may is shows = tt
@@ -92,7 +92,7 @@ verdict_more head rows one number verdict.Legal (Some wrong) is says on = (lengt
 verdict_more head rows one number (verdict.Bad line other) wrong is says on = (on.0, on.1, bad_more (start head) rows (one ∷ []) on.0 other on.2)
 
 pub judged_more : (old new : Judge) (head : Head) (rows : List Row) (one : Row) (number : ℕ) (back : Bool) (state : State) (wrong : Option RowFault) → IsNext head rows one number back state →
-    ShowsFault old.saved back state wrong → new.saved ≡ is_saved state.pending → new.verdict ≡ verdict_behind old.verdict number wrong → HasJudged old head rows → HasJudged new head (rows ++ one ∷ [])
+    ShowsFault old.saved back state wrong → new.saved ≡ is_saved (last_entry state.pending) → new.verdict ≡ verdict_behind old.verdict number wrong → HasJudged old head rows → HasJudged new head (rows ++ one ∷ [])
 judged_more old new head rows one number back state wrong next shows saved is judged =
     let at = state_after (start head) rows in
     let end : state ≡ state_after (start head) (rows ++ one ∷ []) = next.state_is ∙ sym (state-append (start head) rows (one ∷ [])) in
@@ -100,6 +100,6 @@ judged_more old new head rows one number back state wrong next shows saved is ju
     let shown : ShowsFault old.saved (is_off one) (step at one) wrong = subst P (λ i. (next.back_is i, next.state_is i)) shows in
     let says = says_line at one old.saved wrong next.comes judged.saved_is shown in
     record {
-      saved_is = saved ∙ ap (λ (s : State). is_saved s.pending) end;
+      saved_is = saved ∙ ap (λ (s : State). is_saved (last_entry s.pending)) end;
       verdict_is = subst (IsVerdictOn head (rows ++ one ∷ [])) (sym is) (verdict_more head rows one number old.verdict wrong next.number_is says judged.verdict_is);
     }

@@ -4,3 +4,4 @@ pub mod Judged
 pub mod Verdicts
 pub mod Telling
 pub mod Made
+mod Worked

@@ -47,7 +47,7 @@ IsVerdictOn head rows (verdict.Bad line wrong) = (place : ℕ) × (line ≡ plac
 
 -- these lines were judged
 pub record HasJudged (judge : Judge) (head : Head) (rows : List Row) : Type 0 where
-  pub saved_is : judge.saved ≡ is_saved (state_after (start head) rows).pending
+  pub saved_is : judge.saved ≡ is_saved (last_entry (state_after (start head) rows).pending)
   pub verdict_is : IsVerdictOn head rows judge.verdict
 
 -- the line that was told last is an entry's that is an outcome, or none

@@ -1,5 +1,5 @@
 -- Segments that a host may have written. (Own: the rules of a step, read over the lines of a segment.)
-use Rattle.std.specs.Prelude.{◌≡◌, ⊤, ℕ, zero, suc, ◌+◌, Bool, true, false, ◌&&◌, ◌==◌, List, [], ◌∷◌}
+use Rattle.std.specs.Prelude.{◌≡◌, ⊤, ℕ, zero, suc, ◌+◌, Bool, true, false, ◌&&◌, ◌==◌, List, [], ◌∷◌, Option, None, Some}
 use Rattle.wopi_model.specs.File.{File}
 use Rattle.wopi_model.specs.Settle.{settled}
 use Rattle.wopi_model.specs.Begin.{at_name}
@@ -9,11 +9,9 @@ use Rattle.journal_audit.specs.Lines.{IsRuledOn}
 use Rattle.journal_segments.specs.declared.rows.Head.{Head}
 use Rattle.journal_segments.specs.declared.rows.Row.{Row}
 use Rattle.journal_segments.specs.declared.rows.Row.TheVariants as row
-use Rattle.journal_segments.specs.declared.state.Pending.{Pending}
-use Rattle.journal_segments.specs.declared.state.Pending.TheVariants as pending
 use Rattle.journal_segments.specs.declared.state.State.{State}
 use Rattle.journal_segments.specs.Told.{Told, unmet}
-use Rattle.journal_segments.specs.Rows.{IsSegment, start, step, told_at}
+use Rattle.journal_segments.specs.Rows.{IsSegment, last_entry, start, step, told_at}
 use Rattle.segment_audit.specs.declared.verdict.RowFault.{RowFault}
 use Rattle.segment_audit.specs.declared.verdict.RowFault.TheVariants as fault
 use Rattle.segment_audit.specs.Sizes.{file_of}
@@ -29,21 +27,21 @@ file_told told name = file_of (at_name (unmet told.first) told.files name)
 abbrev pub IsRuledAt : Told → Line → Type 0
 IsRuledAt told line = IsRuledOn (settled (file_told told line.name) line.now) line told.opened line.now
 
--- the last line is that of an accepted save or removal
-abbrev pub is_saved : Pending → Bool
-is_saved (pending.Entry line) = (line.status == 200) && stores line.act
-is_saved _ = false
+-- that entry is an accepted save or removal
+abbrev pub is_saved : Option Line → Bool
+is_saved None = false
+is_saved (Some line) = (line.status == 200) && stores line.act
 
 -- A host that keeps the rules may write the line next. One that is taken back was judged as each other, and then the folder failed.
 abbrev pub IsRight : State → Row → Type 0
 IsRight state (row.Entry line) = IsRuledAt (told_at state) line
-IsRight state row.Off = is_saved state.pending ≡ true
+IsRight state row.Off = is_saved (last_entry state.pending) ≡ true
 IsRight state other = ⊤
 
 -- what is wrong with a line
 abbrev pub HasFault : State → Row → RowFault → Type 0
 HasFault state (row.Entry line) fault.Ruling = IsRuledAt (told_at state) line → ⊥
-HasFault state row.Off fault.TakenBack = is_saved state.pending ≡ true → ⊥
+HasFault state row.Off fault.TakenBack = is_saved (last_entry state.pending) ≡ true → ⊥
 HasFault state other wrong = ⊥
 
 -- ---- all lines

@@ -50,7 +50,7 @@ impl Watcher for Judge {
 
 /// Whether the last line is that of an accepted save or removal.
 fn is_saved(state: &State) -> bool
-    ensures { result ≡ is_saved state.now.pending }
+    ensures { result ≡ is_saved (last_entry state.now.pending) }
 {
     match state.last_entry() {
         None => return false,
