@@ -20,12 +20,13 @@ use Rattle.journal_segments.specs.Seen.{IsFresh}
 use Rattle.journal_segments.specs.Reading.{HasCome, HasNoHead, HasSeen, IsHeadless, IsMissing, IsSeen, IsTimed, IsWatched, Reaches, Waits, Walks}
 use Rattle.journal_segments.proofs.Lines.{head-lacks}
 use Rattle.journal_segments.proofs.Apart.{said_first}
-use Rattle.journal_segments.proofs.Going.{ends, refused, taken_first, taken_more, taken_on, waits_more}
+use Rattle.journal_segments.proofs.Going.{ends, goes_join, goes_more, goes_none, refused, taken_first, taken_more, taken_on, waits_more}
 
 module _ {W : Type 0} (has_seen : W → Head → List Row → Type 0) where
   -- ---- too few bytes for more
 
   pub seen_more : (watcher : W) (text held piece : List ℕ) (number : ℕ) (state : State) → HasSeen has_seen watcher text held number state → HasSeen has_seen watcher (text ++ piece) (held ++ piece) number state
+  unfolding taken_more goes_more
   seen_more watcher text held piece number state seen = record { taken = taken_more text held piece number state seen.taken; seen_are = seen.seen_are }
 
   pub reach_short : (watcher : W) (text piece before held : List ℕ) (at : Stage) (number wanted : ℕ) → Reaches has_seen watcher text at number before wanted → held ≡ before ++ piece → length held < wanted
@@ -62,6 +63,7 @@ module _ {W : Type 0} (has_seen : W → Head → List Row → Type 0) where
   -- each line that was walked was seen
   seen_on : (old new : W) (text held left : List ℕ) (number counted : ℕ) (state next : State) → HasSeen has_seen old text held number state → Walks has_seen old new state held number next left counted
       → IsTimed next → HasSeen has_seen new text left counted next
+  unfolding taken_on goes_join
   seen_on old new text held left number counted state next seen walks timed =
       let before = seen.taken.goes.rows in
       let count = seen.taken.goes.number_is in
@@ -80,6 +82,7 @@ module _ {W : Type 0} (has_seen : W → Head → List Row → Type 0) where
 
   pub begun : (watcher : W) (text row behind : List ℕ) (head : Head) (state : State) → text ≡ row ++ 10 ∷ behind → IsHead head → words_of row ≡ head_words head → state ≡ start head → IsTimed state
       → IsFresh has_seen watcher → HasSeen has_seen watcher text behind 1 state
+  unfolding taken_first goes_none
   begun watcher text row behind head state cut is said same timed fresh =
       let P : State → Type 0 = λ at. HasSeen has_seen watcher text behind 1 at in
       let Q : State → Type 0 = λ at. IsTimed at in
@@ -96,6 +99,7 @@ module _ {W : Type 0} (has_seen : W → Head → List Row → Type 0) where
 
   pub end_told : (reader : SegmentReader W) (state : State) (read : Restored) (text : List ℕ) → reader.stage ≡ stage.Rows state → HasCome has_seen reader text → read.shard ≡ state.shard
       → read.told ≡ told_with state.told state.pending → read.used + length reader.held.items ≡ reader.size → IsSeen has_seen text read reader.watcher
+  unfolding ends
   end_told reader state read text at come shard told used =
       let P : Stage → Type 0 = λ s. Reaches has_seen reader.watcher text s reader.number reader.held.items reader.wanted in
       let (seen, waits) = subst P at come.reaches in

@@ -41,11 +41,11 @@ shard_after state (one ∷ rows) = shard_after (step state one) rows ∙ shard_s
 
 -- ---- lines at the front of a text
 
-pub goes_none : (state : State) (text : List ℕ) (number : ℕ) → Goes state text number state text number
+unfoldable pub goes_none : (state : State) (text : List ℕ) (number : ℕ) → Goes state text number state text number
 goes_none state text number = record { rows = []; rows_are = tt; state_is = refl; parts = refl; number_is = omega arith }
 
 -- and more of them
-pub goes_join : (old mid new : State) (text left rest : List ℕ) (a b c : ℕ) → Goes old text a mid left b → Goes mid left b new rest c → Goes old text a new rest c
+unfoldable pub goes_join : (old mid new : State) (text left rest : List ℕ) (a b c : ℕ) → Goes old text a mid left b → Goes mid left b new rest c → Goes old text a new rest c
 goes_join old mid new text left rest a b c f s =
     let P : State → Type 0 = λ state. AreRows state s.rows in
     let m = f.number_is in
@@ -61,7 +61,7 @@ goes_join old mid new text left rest a b c f s =
     }
 
 -- and one more
-pub goes_row : (old mid new : State) (text left behind : List ℕ) (one : Row) (a b c : ℕ) → Goes old text a mid left b → IsWhole mid left one behind → new ≡ step mid one → c ≡ b + 1
+unfoldable pub goes_row : (old mid new : State) (text left behind : List ℕ) (one : Row) (a b c : ℕ) → Goes old text a mid left b → IsWhole mid left one behind → new ≡ step mid one → c ≡ b + 1
     → Goes old text a new behind c
 goes_row old mid new text left behind one a b c f whole is counted =
     goes_join old mid new text left behind a b c f (record {
@@ -75,6 +75,7 @@ goes_row old mid new text left behind one a b c f whole is counted =
 module _ {W : Type 0} (has_seen : W → Head → List Row → Type 0) where
   -- nothing was walked
   pub walks_none : (watcher : W) (state : State) (text : List ℕ) (number : ℕ) → Walks has_seen watcher watcher state text number state text number
+  unfolding goes_none
   walks_none watcher state text number =
       record {
         goes = goes_none state text number;
@@ -93,6 +94,7 @@ module _ {W : Type 0} (has_seen : W → Head → List Row → Type 0) where
   -- one line more was walked
   pub walks_row : (first second third : W) (old mid new : State) (text left behind : List ℕ) (one : Row) (a b c : ℕ) → Walks has_seen first second old text a mid left b → IsWhole mid left one behind
       → new ≡ step mid one → c ≡ b + 1 → Sees has_seen second third mid b (one ∷ []) → Walks has_seen first third old text a new behind c
+  unfolding goes_row goes_join
   walks_row first second third old mid new text left behind one a b c f whole is counted seen =
       record {
         goes = goes_row old mid new text left behind one a b c f.goes whole is counted;
@@ -100,7 +102,7 @@ module _ {W : Type 0} (has_seen : W → Head → List Row → Type 0) where
       }
 
 -- and more bytes
-pub goes_more : (old new : State) (text left piece : List ℕ) (a b : ℕ) → Goes old text a new left b → Goes old (text ++ piece) a new (left ++ piece) b
+unfoldable pub goes_more : (old new : State) (text left piece : List ℕ) (a b : ℕ) → Goes old text a new left b → Goes old (text ++ piece) a new (left ++ piece) b
 goes_more old new text left piece a b f =
     record {
       rows = f.rows;
@@ -144,11 +146,11 @@ overlong_row old mid text left a b line f long counted =
 
 -- ---- behind the first line
 
-pub taken_first : (text rest : List ℕ) (head : Head) → IsHead head → text ≡ head_text head ++ rest → IsTimed (start head) → HasTaken text rest 1 (start head)
+unfoldable pub taken_first : (text rest : List ℕ) (head : Head) → IsHead head → text ≡ head_text head ++ rest → IsTimed (start head) → HasTaken text rest 1 (start head)
 taken_first text rest head is parts timed =
     record { head = head; rest = rest; head_is = is; parts = parts; goes = goes_none (start head) rest 1; timed = timed }
 
-pub taken_on : (text held left : List ℕ) (number counted : ℕ) (state next : State) → HasTaken text held number state → Goes state held number next left counted → IsTimed next
+unfoldable pub taken_on : (text held left : List ℕ) (number counted : ℕ) (state next : State) → HasTaken text held number state → Goes state held number next left counted → IsTimed next
     → HasTaken text left counted next
 taken_on text held left number counted state next taken goes timed =
     record {
@@ -160,7 +162,7 @@ taken_on text held left number counted state next taken goes timed =
       timed = timed;
     }
 
-pub taken_more : (text held piece : List ℕ) (number : ℕ) (state : State) → HasTaken text held number state → HasTaken (text ++ piece) (held ++ piece) number state
+unfoldable pub taken_more : (text held piece : List ℕ) (number : ℕ) (state : State) → HasTaken text held number state → HasTaken (text ++ piece) (held ++ piece) number state
 taken_more text held piece number state taken =
     record {
       head = taken.head;
@@ -232,7 +234,7 @@ refused text held number state fault.TooLong taken stops = absurd stops
 
 -- ---- all that was read
 
-pub ends : (text held : List ℕ) (number wanted : ℕ) (state : State) (read : Restored) → HasTaken text held number state → Waits state held wanted
+unfoldable pub ends : (text held : List ℕ) (number wanted : ℕ) (state : State) (read : Restored) → HasTaken text held number state → Waits state held wanted
     → read.shard ≡ state.shard → read.told ≡ told_with state.told state.pending → read.used + length held ≡ length text → EndsIn text read
 ends text held number wanted state read taken waits shard told used =
     let rows = taken.goes.rows in

@@ -124,15 +124,18 @@ fn hold(
 /// The file of a name.
 fn file_of<'a>(
     names: &NameIndex,
-    files: &'a [(FileName, ToldFile)],
+    files: &'a Vec<(FileName, ToldFile)>,
     name: &FileName,
 ) -> Option<&'a ToldFile>
-    requires { IsNumbered names.now files.now }
-    ensures { (other : Placed) → at_name other files.now name.now ≡ unwrap_or (option_map (λ file. file.now) result) other }
+    requires { IsNumbered names.now files.now.items }
+    ensures { (other : Placed) → at_name other files.now.items name.now ≡ unwrap_or (option_map (λ file. file.now) result) other }
 {
     match place_of(names, files, name) {
         None => return None,
-        Some(place) => return Some(&files[place].1),
+        Some(place) => {
+            let file = &files[place];
+            return Some(&file.1);
+        }
     }
 }
 
