@@ -113,11 +113,7 @@ fn go_on<W: Watcher>(
 }
 
 /// Takes the first line, if it is there, and the whole ones behind it.
-fn begin<W: Watcher>(
-    alloc: Global,
-    watcher: &mut W,
-    held: Vec<u8>,
-) -> Result<Reached, SegmentFault>
+fn begin<W: Watcher>(alloc: Global, watcher: &mut W, held: Vec<u8>) -> Result<Reached, SegmentFault>
     requires few { length held.items + 1 < 2 ^ 62 }
     requires fresh { IsFresh W.has_seen watcher.old }
     ensures on { IfOk result (λ reached. Reaches W.has_seen watcher.new held.items reached.stage reached.number reached.held.items reached.wanted) }

@@ -112,7 +112,7 @@ act_again (asks.Create overwrite contents) = refl
 act_again asks.Delete = refl
 
 -- what is decided of a line doesn't depend on what it tells of contents
-with_brought : Made → Line
+abbrev with_brought : Made → Line
 with_brought one = record (line_of one) { contents = brought_by one.step.call.act }
 
 same_call : (one : Made) → call_of (with_brought one) ≡ one.step.call
@@ -165,7 +165,6 @@ kept_again act.Delete status contents e = refl
 no_size : (contents : Option (List ℕ)) → size_in contents ≡ None → contents ≡ None
 no_size None e = refl
 no_size (Some bytes) e = absurd (cc (e))
-
 
 some_told : (size : ℕ) (contents : Option (List ℕ)) → size_in contents ≡ Some size → Some (contents_of size contents) ≡ contents
 some_told size None e = absurd (cc (e))

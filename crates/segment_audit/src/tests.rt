@@ -99,7 +99,8 @@ fn what_no_save_told_is_not_taken_back(rt: HostRuntime) -> Result<(), Fail> {
         line: 11,
         fault: RowFault::TakenBack,
     };
-    let ends = b"5 11 1 14 14 612e637376 lock 4c32 ann.612e637376.w.2.0.9000000 200 - - v2 -\noff\n6 11 1 14 14 612e637376 lock 4c32 ann.612e637376.w.2.0.9000000 200 - - v9 -\n";
+    let ends =
+        b"5 11 1 14 14 612e637376 lock 4c32 ann.612e637376.w.2.0.9000000 200 - - v2 -\noff\n6 11 1 14 14 612e637376 lock 4c32 ann.612e637376.w.2.0.9000000 200 - - v9 -\n";
     assert!(rt; verdict_on(alloc, ends)? == bad);
     Ok(())
 }
@@ -107,7 +108,8 @@ fn what_no_save_told_is_not_taken_back(rt: HostRuntime) -> Result<(), Fail> {
 #[test]
 fn what_is_no_segment_has_no_verdict(rt: HostRuntime) -> Result<(), Fail> {
     let alloc = rt.alloc();
-    let ends = b"5 11 1 14 14 612e637376 lock 4c32 ann.612e637376.w.2.0.9000000 200 - - v3 -\nholds 612e637376 2\n42\n";
+    let ends =
+        b"5 11 1 14 14 612e637376 lock 4c32 ann.612e637376.w.2.0.9000000 200 - - v3 -\nholds 612e637376 2\n42\n";
     match audited(alloc, ends, 5)? {
         Ok(_) => return Err("a bad line was taken".into()),
         Err(fault) => { assert!(rt; fault == InputFault::Text(SegmentFault::Bad(11))) }
