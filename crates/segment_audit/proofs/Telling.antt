@@ -149,7 +149,7 @@ kept_size size status (Some bytes) e =
       | false ↦ λ h. absurd (cc (h))
     ] e
 
-kept_again : (one : EntryAct) (status : ℕ) (contents : Option (List ℕ)) → size_in contents ≡ told_size one status → kept_act (act_of one contents) ≡ one
+pub kept_again : (one : EntryAct) (status : ℕ) (contents : Option (List ℕ)) → size_in contents ≡ told_size one status → kept_act (act_of one contents) ≡ one
 kept_again act.Info status contents e = refl
 kept_again (act.Get most) status contents e = refl
 kept_again (act.Put lock size) status contents e = ap (λ (n : ℕ). act.Put lock n) (kept_size size status contents e)
@@ -183,7 +183,7 @@ brought_again act.Look contents e = sym (no_size contents e)
 brought_again (act.Create overwrite size) contents e = some_told size contents e
 brought_again act.Delete contents e = sym (no_size contents e)
 
-contents_again : (one : EntryAct) (status : ℕ) (contents : Option (List ℕ)) → size_in contents ≡ told_size one status →
+pub contents_again : (one : EntryAct) (status : ℕ) (contents : Option (List ℕ)) → size_in contents ≡ told_size one status →
     cond (status == 200) (brought_by (act_of one contents)) None ≡ contents
 contents_again one status contents e =
     elim (status == 200) as (λ b. size_in contents ≡ (cond b (size_of one) None) → cond b (brought_by (act_of one contents)) None ≡ contents) [
