@@ -88,10 +88,10 @@ told_some [] name n e = cc
 told_some (file ∷ files) name n e = go (bytes_eq file.name name) (place_in (life_names files) name) n (told_some files name) e where
   go : (b : Bool) (p : Option ℕ) (n : ℕ) → ((m : ℕ) → p ≡ Some m → (one : LifeFile) × (told_at files name ≡ Some one) × (slice_get files m ≡ Some one) × (m < length files))
       → (if b then Some 0 else option_map suc p) ≡ Some n → (one : LifeFile) × ((if b then Some file else told_at files name) ≡ Some one) × (slice_get (file ∷ files) n ≡ Some one) × (n < suc (length files))
-  go true p n more e = let is : n ≡ 0 = ap (λ (o : Option ℕ). elim o [| None ↦ 0 | Some m ↦ m]) (sym e) in
+  go true p n more e = let is : n ≡ 0 = ap (λ (o : Option ℕ). elim o [ | None ↦ 0 | Some m ↦ m ]) (sym e) in
       (file, refl, ap (slice_get (file ∷ files)) is, omega (arith, is))
   go false None n more e = cc
   go false (Some m) n more e =
-      let is : n ≡ suc m = ap (λ (o : Option ℕ). elim o [| None ↦ 0 | Some k ↦ k]) (sym e) in
+      let is : n ≡ suc m = ap (λ (o : Option ℕ). elim o [ | None ↦ 0 | Some k ↦ k ]) (sym e) in
       let (one, told, there, inside) = more m refl in
       (one, told, ap (slice_get (file ∷ files)) is ∙ there, omega (arith, is, inside))

@@ -12,7 +12,8 @@ use Rattle.wopi_model.specs.Begin.{at_name}
 use Rattle.wopi_model.specs.File.{File, opened_with, never_met}
 use Rattle.wopi_model.specs.Lives.{bytes_of, ids_of, live_bytes, live_ids}
 use Rattle.wopi_model.specs.Moment.{IsMoment}
-use Rattle.wopi_model.specs.Settle.{still_spent, with_spent}
+use Rattle.wopi_model.specs.declared.locks.Lock.{Lock}
+use Rattle.wopi_model.specs.Settle.{expired, is_over, standing, still_spent, with_spent}
 use Rattle.wopi_model.specs.Shard.{Opening, opening_file}
 use Rattle.host_core.specs.declared.file.KeptFile.{KeptFile}
 use Rattle.host_core.specs.declared.life.Life.{Life}
@@ -20,8 +21,8 @@ use Rattle.host_core.specs.declared.life.LifeFile.{LifeFile}
 use Rattle.host_core.specs.declared.opening.Stock.{Stock}
 use Rattle.host_core.specs.Facts.{AreDigested, IsDigested, Dates, date_in, dates_of}
 use Rattle.host_core.specs.Files.{file_of, files_of, is_named, torn_in}
-use Rattle.host_core.specs.Going.{AreLow, IsGoing, NoneTorn, ids_told, is_unmet, kept_gone, kept_on, locks_found, locks_in, locks_on, uses_of, version_found}
-use Rattle.host_core.specs.Life.{IsGoodLife, IsLowVersion, MayGoOn, file_on, found_as, found_on, goes_on, gone_on, is_gone, life_names, listed_on, told_at, version_with, is_as_told}
+use Rattle.host_core.specs.Going.{AreLow, IsAsOf, IsGoing, NoneTorn, ids_told, is_unmet, kept_gone, kept_on, locks_found, locks_in, locks_on, uses_of, version_found}
+use Rattle.host_core.specs.Life.{BeganBefore, IsGoodLife, MayGoOn, file_on, found_as, found_on, goes_on, gone_on, is_gone, life_names, listed_on, told_at, version_with, is_as_told}
 use Rattle.host_core.specs.Names.{AreOnce, names_in, place_in}
 use Rattle.host_core.specs.Notes.{opening_listed}
 use Rattle.host_core.specs.Numbers.{IsNumbered, named}
@@ -32,6 +33,7 @@ use Rattle.host_core.specs.Whole.{Whole, joined, standing_at, whole}
 use Rattle.host_core.proofs.Goods.{all_at, all_join, all_map, all_take_more, all_through, told_none, told_some, place_either, place_neither}
 use Rattle.host_core.proofs.Counts.{apart, once_push}
 use Rattle.host_core.proofs.Numbering.{named_push}
+use Rattle.host_core.proofs.Regains.{still_live}
 
 -- ---- ids that are refused still
 
@@ -330,6 +332,41 @@ torn_gone : (files : List LifeFile) → NoneTorn (map kept_gone files)
 torn_gone [] = tt
 torn_gone (file ∷ files) = (refl, torn_gone files)
 
+-- locks as of a moment
+standing_again : (lock : Option Lock) (now : ℕ) → standing (standing lock now) now ≡ standing lock now
+standing_again None now = refl
+standing_again (Some lock) now = go (is_over lock now) refl where
+  go : (b : Bool) → is_over lock now ≡ b → standing (if b then None else Some lock) now ≡ (if b then None else Some lock)
+  go true at = refl
+  go false at = ap (λ (c : Bool). if c then None else Some lock) at
+
+began_still : (now : ℕ) (lock : Option Lock) → BeganBefore now lock → BeganBefore now (standing lock now)
+began_still now None began = tt
+began_still now (Some lock) began = go (is_over lock now) where
+  go : (b : Bool) → BeganBefore now (if b then None else Some lock)
+  go true = tt
+  go false = began
+
+as_of : (now last : ℕ) (file : LifeFile) → MayGoOn now last file → IsAsOf now (locks_on now file)
+as_of now last file goes = record {
+  stands = standing_again file.lock now;
+  live = still_live (with_spent (expired file.lock now) file.spent.items) now;
+  began = began_still now file.lock goes.began;
+}
+
+as_of_found : (now last : ℕ) (told : Option LifeFile) → ((file : LifeFile) → told ≡ Some file → MayGoOn now last file) → IsAsOf now (locks_found now told)
+as_of_found now last None goes = record { stands = refl; live = tt; began = tt }
+as_of_found now last (Some file) goes = as_of now last file (goes file refl)
+
+settled_on : (life : Life) (files : List KeptFile) → AllByRecursion (MayGoOn life.now life.last) life.files.items → AllByRecursion (IsAsOf life.now) (map (locks_in life) files)
+settled_on life [] goes = tt
+settled_on life (k ∷ files) goes =
+    (as_of_found life.now life.last (told_at life.files.items k.name) (λ file e. told_own (MayGoOn life.now life.last) life.files.items k.name file goes e), settled_on life files goes)
+
+settled_gone : (now last : ℕ) (files : List LifeFile) → AllByRecursion (MayGoOn now last) files → AllByRecursion (IsAsOf now) (map (locks_on now) files)
+settled_gone now last [] goes = tt
+settled_gone now last (file ∷ files) goes = (as_of now last file goes.0, settled_gone now last files goes.1)
+
 -- what holds of the files that were read, joined to what is told
 pub going : (only : Option ℕ) (life : Life) (old new : Stock) (told : List Standing) → IsGoodLife only life → IsStock life.first old → AreOnce (named old.files.items)
     → new.files.items ≡ map (kept_on life) old.files.items ++ map kept_gone (filter (is_unmet (named (map (kept_on life) old.files.items))) life.files.items)
@@ -359,6 +396,8 @@ going only life old new told good stock once files_is told_is numbered once' byt
       long =
           ap (λ (t : List Standing). length t) locks ∙ length-append (map (locks_in life) fs) (map (locks_on life.now) gone) ∙ ap (λ (n : ℕ). n + length (map (locks_on life.now) gone)) front
           ∙ ap (λ (n : ℕ). length (map (kept_on life) fs) + n) back ∙ sym (ap (λ (l : List KeptFile). length l) files ∙ length-append (map (kept_on life) fs) (map kept_gone gone));
+      settled = subst (AllByRecursion (IsAsOf life.now)) (sym locks) (all_join (IsAsOf life.now) (map (locks_in life) fs) (map (locks_on life.now) gone)
+          (settled_on life fs good.files) (settled_gone life.now life.last gone (all_filter (MayGoOn life.now life.last) (is_gone opening) life.files.items good.files)));
       numbered = numbered;
       once = once';
       kept = bytes ∙ stock.kept;

@@ -1,5 +1,5 @@
 -- A folder that is made to hold what is told.
-use Rattle.std.proofs.Common.{◌≡◌, ◌≢◌, ◌<◌, ◌≤◌, ◌+◌, ℕ, zero, suc, Bool, true, false, ◌&&◌, ◌||◌, if◌then◌else◌, List, [], ◌∷◌, ◌++◌, length, take, get_or, Option, None, Some, option_map, unwrap_or, refl, sym, ap, subst, ◌∙◌, arith}
+use Rattle.std.proofs.Common.{◌≡◌, ◌≢◌, ◌<◌, ◌≤◌, ◌+◌, ℕ, zero, suc, Bool, true, false, ◌&&◌, ◌||◌, if◌then◌else◌, List, [], ◌∷◌, ◌++◌, length, map, take, get_or, Option, None, Some, option_map, unwrap_or, refl, sym, ap, subst, ◌∙◌, arith}
 use Rattle.std.proofs.lemmas.List.{take_more}
 use Rattle.std.proofs.lemmas.Slice.Eq.{bytes_eq-Decides}
 use Rattle.std.specs.Str.{bytes_eq}
@@ -7,9 +7,16 @@ use Rattle.std.specs.List.{AllByRecursion, list_any}
 use Rattle.outside.specs.Folder.{Files, Times, Keeps, OpensOnly}
 use Rattle.wopi_text.proofs.Disjunctions.{or_none}
 use Rattle.host_core.specs.declared.life.LifeFile.{LifeFile}
-use Rattle.host_core.specs.Facts.{Dates}
-use Rattle.host_core.specs.Life.{AreDatesBeside, Mends, OpensDoubt, is_changed, is_in_doubt, mended, mended_by, mended_with}
-use Rattle.host_core.specs.Opening.{AreDatesOf, IsDateOf, HasAll, IsOfShard, IsOpening, MayKeep, opened_contents}
+use Rattle.std.specs.Ordering.{nat_cmp}
+use Rattle.std.specs.declared.cmp.Ordering.TheVariants.{Less}
+use Rattle.std.specs.Cmp.Lexicographic.{slice_cmp}
+use Rattle.host_core.specs.declared.file.KeptFile.{KeptFile}
+use Rattle.host_core.specs.declared.life.ReopenFault.{ReopenFault}
+use Rattle.host_core.specs.declared.life.ReopenFault.TheVariants as fault
+use Rattle.host_core.specs.Notes.{opening_listed}
+use Rattle.host_core.specs.Facts.{Dates, dates_of}
+use Rattle.host_core.specs.Life.{AreDatesBeside, IfLarge, IsFolderOrMemory, IsOfLife, Mends, OpensDoubt, is_changed, is_in_doubt, mended, mended_by, mended_with}
+use Rattle.host_core.specs.Opening.{AreDatesOf, IsDateOf, HasAll, IsOpening, IsTooLarge, MayKeep, PassesLimit}
 use Rattle.host_core.specs.Store.{Holds}
 use Rattle.wopi_model.specs.Shard.{Opening}
 
@@ -149,3 +156,41 @@ mended_foreign only (file ∷ life) files name own foreign =
       go : (b : Bool) → bytes_eq file.name name ≡ b → (if b then mended_with file.contents (files name) else files name) ≡ files name
       go true at = absurd (foreign (subst (MayKeep only) ((bytes_eq-Decides file.name name).0 at) own.0))
       go false at = refl
+
+limit_from : (files now : Option Files) (before : Opening) (name : List ℕ) → Keeps files now → PassesLimit now before name → PassesLimit files before name
+limit_from None None before name keeps passes = tt
+limit_from None (Some now) before name keeps passes = absurd keeps
+limit_from (Some files) None before name keeps passes = absurd keeps
+limit_from (Some files) (Some now) before name keeps (contents, at, limit) = (contents, sym (keeps name) ∙ at, limit)
+
+pub large_from : (only : Option ℕ) (files now : Option Files) (name : List ℕ) → Keeps files now → IsTooLarge only now name → IsTooLarge only files name
+large_from only files now name keeps large = record {
+  before = large.before;
+  taken = large.taken;
+  own = large.own;
+  ordered = large.ordered;
+  whole = all_from files now (λ other. MayKeep only other × (slice_cmp nat_cmp other name ≡ Less)) large.before keeps large.whole;
+  smaller = large.smaller;
+  fits = large.fits;
+  passes = limit_from files now large.before name keeps large.passes;
+}
+
+-- ---- faults
+
+pub large_why : (why : ReopenFault) (P : List ℕ → Type 0) → IsFolderOrMemory why → IfLarge why P
+large_why fault.FolderFault P is = tt
+large_why fault.Memory P is = tt
+large_why (fault.TooLarge name) P is = absurd is
+large_why fault.BadLife P is = absurd is
+large_why fault.TooManyIds P is = absurd is
+
+pub life_why : (why : ReopenFault) → IsFolderOrMemory why → IsOfLife why → ⊥
+life_why fault.FolderFault is of = of
+life_why fault.Memory is of = of
+life_why (fault.TooLarge name) is of = is
+life_why fault.BadLife is of = is
+life_why fault.TooManyIds is of = is
+
+pub names_of_dates : (files : List KeptFile) → map (λ (one : List ℕ × ℕ). one.0) (dates_of files) ≡ map (λ (one : List ℕ × List ℕ). one.0) (opening_listed files)
+names_of_dates [] = refl
+names_of_dates (k ∷ files) = ap (λ (names : List (List ℕ)). k.name ∷ names) (names_of_dates files)

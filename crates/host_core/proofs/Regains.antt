@@ -7,7 +7,7 @@ use Rattle.kept_locks.specs.Ties.{BeganBy, GoesOn}
 use Rattle.wopi_model.specs.declared.locks.Lock.{Lock}
 use Rattle.wopi_model.specs.declared.locks.Spent.{Spent}
 use Rattle.wopi_model.specs.Settle.{expired, standing, still_spent, with_spent}
-use Rattle.host_core.specs.Going.{AllHaveBegun, AreHeld, AreShown, HoldsFrom, IsFreeOf, IsLive, IsPartly}
+use Rattle.host_core.specs.Going.{HoldsFrom, IsAsOf, IsFreeOf, IsLive, IsPartly}
 use Rattle.host_core.specs.Life.{BeganBefore}
 use Rattle.host_core.specs.Turns.{AreAsOf}
 use Rattle.host_core.specs.Whole.{standing_at}
@@ -18,7 +18,7 @@ use Rattle.host_core.proofs.Turning.{stands_beside, stands_set}
 
 pub stands_of : (ss : List Standing) (n : ℕ) (s : Standing) → slice_get ss n ≡ Some s → standing_at ss n ≡ s
 stands_of [] n s e = absurd (cc (e))
-stands_of (x ∷ ss) zero s e = ap (λ (o : Option Standing). elim o [| None ↦ x | Some y ↦ y]) e
+stands_of (x ∷ ss) zero s e = ap (λ (o : Option Standing). elim o [ | None ↦ x | Some y ↦ y ]) e
 stands_of (x ∷ ss) (suc n) s e = stands_of ss n s e
 
 pub stands_beyond : (ss : List Standing) (n : ℕ) → length ss ≤ n → standing_at ss n ≡ unlocked
@@ -31,10 +31,15 @@ stands_get [] n s lt is = absurd (omega (arith, lt))
 stands_get (x ∷ ss) zero s lt is = sym is
 stands_get (x ∷ ss) (suc n) s lt is = stands_get ss n s (omega (arith, lt)) is
 
-pub shown_at : (told : List Standing) (n : ℕ) → AreShown told → IsLive (standing_at told n).spent
-shown_at [] n all = tt
-shown_at (s ∷ told) zero all = all.0
-shown_at (s ∷ told) (suc n) all = shown_at told n all.1
+pub shown_at : (now : ℕ) (told : List Standing) (n : ℕ) → AllByRecursion (IsAsOf now) told → IsLive (standing_at told n).spent
+shown_at now [] n all = tt
+shown_at now (s ∷ told) zero all = all.0.live
+shown_at now (s ∷ told) (suc n) all = shown_at now told n all.1
+
+pub stand_at : (now : ℕ) (told : List Standing) (n : ℕ) → AllByRecursion (IsAsOf now) told → standing (standing_at told n).lock now ≡ (standing_at told n).lock
+stand_at now [] n all = refl
+stand_at now (s ∷ told) zero all = all.0.stands
+stand_at now (s ∷ told) (suc n) all = stand_at now told n all.1
 
 pub live_still : (ids : List Spent) → IsLive ids → still_spent ids 0 ≡ ids
 live_still [] live = refl
@@ -143,7 +148,7 @@ lock_began old new number lock ids began lt long here others = λ n file held at
   inside (x ∷ ss) (suc n) s e = let rest = inside ss n s e in omega (arith, rest)
 
   some_since : (a b : Lock) → Some a ≡ Some b → a.since ≡ b.since
-  some_since a b e = ap (λ (o : Option Lock). elim o [| None ↦ 0 | Some l ↦ l.since]) e
+  some_since a b e = ap (λ (o : Option Lock). elim o [ | None ↦ 0 | Some l ↦ l.since ]) e
 
   go : (n : ℕ) (file : Standing) (held : Lock) → slice_get new n ≡ Some file → file.lock ≡ Some held → (b : Bool) → n == number ≡ b → held.since ≤ lock.since
   go n file held at is true same =
@@ -176,11 +181,30 @@ whole_at told files n part held = λ i. record { lock = lock held (part n).1 i; 
   lock (inl none) (inl free) = free ∙ sym none
   lock (inr there) (inl free) = absurd (there free)
 
-begun_at : (now : ℕ) (ss : List Standing) (n : ℕ) → AllHaveBegun now ss → BeganBefore now (standing_at ss n).lock
+begun_at : (now : ℕ) (ss : List Standing) (n : ℕ) → AllByRecursion (IsAsOf now) ss → BeganBefore now (standing_at ss n).lock
 begun_at now [] n all = tt
-begun_at now (s ∷ ss) zero all = all.0
+begun_at now (s ∷ ss) zero all = all.0.began
 begun_at now (s ∷ ss) (suc n) all = begun_at now ss n all.1
 
-pub held_began : (told files : List Standing) (now : ℕ) → ((n : ℕ) → standing_at files n ≡ standing_at told n) → AllHaveBegun now told → BeganBy now files
+pub held_began : (told files : List Standing) (now : ℕ) → ((n : ℕ) → standing_at files n ≡ standing_at told n) → AllByRecursion (IsAsOf now) told → BeganBy now files
 held_began told files now same all = λ n file lock at is.
     subst (BeganBefore now) (sym (ap (λ (s : Standing). s.lock) (same n)) ∙ ap (λ (s : Standing). s.lock) (stands_of files n file at) ∙ is) (begun_at now told n all)
+
+-- and none is there that is over
+pub all_stand : (told files : List Standing) (now n : ℕ) → ((n : ℕ) → n < length told → standing_at files n ≡ standing_at told n) → ((n : ℕ) → length told ≤ n → standing_at files n ≡ unlocked)
+    → AllByRecursion (IsAsOf now) told → standing (standing_at files n).lock now ≡ (standing_at files n).lock
+all_stand told files now n stands beyond all = go (nat_lt n (length told)) refl where
+  go : (b : Bool) → nat_lt n (length told) ≡ b → standing (standing_at files n).lock now ≡ (standing_at files n).lock
+  go true at = subst (λ (s : Standing). standing s.lock now ≡ s.lock) (sym (stands n (ltb-true n (length told) at))) (stand_at now told n all)
+  go false at = subst (λ (s : Standing). standing s.lock now ≡ s.lock) (sym (beyond n (ltb-false n (length told) at))) refl
+
+pub live_drop : (ids : List Spent) (n : ℕ) → IsLive ids → IsLive (drop n ids)
+live_drop [] zero live = tt
+live_drop [] (suc n) live = tt
+live_drop (one ∷ ids) zero live = live
+live_drop (one ∷ ids) (suc n) live = live_drop ids n live.1
+
+pub live_at : (ids : List Spent) (n : ℕ) (one : Spent) → IsLive ids → n < length ids → one ≡ get_or ids n one → 0 < one.until
+live_at [] n one live lt is = absurd (omega (arith, lt))
+live_at (x ∷ ids) zero one live lt is = subst (λ (y : Spent). 0 < y.until) (sym is) live.0
+live_at (x ∷ ids) (suc n) one live lt is = live_at ids n one live.1 (omega (arith, lt)) is

@@ -61,10 +61,21 @@ AreLow last files = AllByRecursion (λ kept. kept.version ≤ last + (2 ^ 63 - 1
 abbrev pub NoneTorn : List KeptFile → Type 0
 NoneTorn files = AllByRecursion (λ kept. kept.torn ≡ false) files
 
+-- these ids are refused at 0
+abbrev pub IsLive : List Spent → Type 0
+IsLive ids = AllByRecursion (λ one. 0 < one.until) ids
+
+-- a lock that is not over at that moment, and ids
+pub record IsAsOf (now : ℕ) (one : Standing) : Type 0 where
+  pub stands : standing one.lock now ≡ one.lock
+  pub live : IsLive one.spent
+  pub began : BeganBefore now one.lock
+
 -- What was told is joined to the files of an opening.
 pub record IsGoing (life : Life) (opening : Opening) (dates : Dates) (files : List KeptFile) (told : List Standing) (index : List (List ℕ × ℕ)) (bytes : ℕ) : Type 0 where
   pub listed : listed_on (joined files told) ≡ (goes_on life opening).files
   pub long : length told ≡ length files
+  pub settled : AllByRecursion (IsAsOf life.now) told
   pub numbered : IsNumbered index (named files)
   pub once : AreOnce (named files)
   pub kept : bytes ≡ sum_by (λ file. length file.1) opening
@@ -88,16 +99,6 @@ pub record AreHeld (told : List Standing) (now ids : ℕ) (locks : Locks) : Type
 -- no file has a lock
 abbrev pub IsFreeOf : List Standing → Type 0
 IsFreeOf files = (number : ℕ) → (standing_at files number).lock ≡ None
-
--- these ids are refused at 0
-abbrev pub IsLive : List Spent → Type 0
-IsLive ids = AllByRecursion (λ one. 0 < one.until) ids
-
-abbrev pub AreShown : List Standing → Type 0
-AreShown told = AllByRecursion (λ one. IsLive one.spent) told
-
-abbrev pub AllHaveBegun : ℕ → List Standing → Type 0
-AllHaveBegun now told = AllByRecursion (λ one. BeganBefore now one.lock) told
 
 -- the ids are refused that were told, and no file has a lock
 abbrev pub HoldsFrom : List Standing → List Standing → Type 0

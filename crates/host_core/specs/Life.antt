@@ -5,10 +5,10 @@ use Rattle.std.specs.List.{AllByRecursion, list_any}
 use Rattle.outside.specs.Folder.{Files, Times, Keeps}
 use Rattle.kept_locks.specs.Locks.{Standing}
 use Rattle.wopi_model.specs.Begin.{Begin, at_name}
-use Rattle.wopi_model.specs.File.{File, opened_with}
+use Rattle.wopi_model.specs.File.{File, never_met, opened_with}
 use Rattle.wopi_model.specs.Moment.{IsMoment}
 use Rattle.wopi_model.specs.Settle.{settled}
-use Rattle.wopi_model.specs.Shard.{Opening}
+use Rattle.wopi_model.specs.Shard.{Opening, Shard}
 use Rattle.wopi_model.specs.declared.locks.Lock.{Lock}
 use Rattle.host_core.specs.declared.file.KeptFile.{KeptFile}
 use Rattle.host_core.specs.declared.life.Life.{Life}
@@ -153,6 +153,23 @@ pub record IsReopened (only : Option ℕ) (files : Option Files) (times : Option
   pub found_are : AreDatesBeside life.files.items times found
   pub found_names : map (λ one. one.0) found ≡ map (λ one. one.0) opening
   pub dates_are : dates ≡ found ++ map (λ file. (file.name, 0)) (filter (is_gone opening) life.files.items)
+
+-- ---- a life that tells where a shard stands
+
+-- The file stands as it is told: what the name holds, once it is mended, is what was told, and the rest is as of that moment.
+pub record TellsFile (now : ℕ) (told : LifeFile) (held : Option (List ℕ)) (stands : File) : Type 0 where
+  pub as_told : is_as_told told.contents (mended_with told.contents held) ≡ true
+  pub stands_is : stands ≡ settled (record { contents = mended_with told.contents held; version = told.version; lock = told.lock; spent = told.spent.items }) now
+
+-- The life tells just where the shard stands over that folder: what is told of a name is its file, and where nothing is told the name was never met,
+-- and the folder has no file of that name which the shard takes.
+pub record TellsShard (only : Option ℕ) (files : Files) (life : Life) (shard : Shard) : Type 0 where
+  pub opened_is : shard.opened ≡ life.opened
+  pub first_is : shard.first ≡ life.first
+  pub now_is : shard.now ≡ life.now
+  pub told : (name : List ℕ) (file : LifeFile) → told_at life.files.items name ≡ Some file → TellsFile life.now file (files name) (shard.files name)
+  pub unmet : (name : List ℕ) → told_at life.files.items name ≡ None → shard.files name ≡ never_met life.first
+  pub alone : (name : List ℕ) → told_at life.files.items name ≡ None → MayKeep only name → files name ≡ None
 
 -- what is said of a refusal's name, where it has one
 abbrev pub IfLarge : ReopenFault → (List ℕ → Type 0) → Type 0

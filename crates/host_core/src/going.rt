@@ -1,5 +1,5 @@
 //! The files of a shard that goes on: those of its folder, joined to what is told.
-ghost use Rattle.std.specs.Prelude.{◌≡◌, ◌≤◌, ◌<◌, ◌+◌, ◌-◌, ◌^◌, ◌++◌, ◌∷◌, [], ℕ, IfOk, IfSome, OnOk, IsTrue, ◌↔◌, filter, is_none, length, map, nat_le, sum_by};
+ghost use Rattle.std.specs.Prelude.{◌≡◌, ◌≤◌, ◌<◌, ◌+◌, ◌-◌, ◌^◌, ◌++◌, ◌∷◌, [], ℕ, Option, IfOk, IfSome, OnOk, IsTrue, ◌↔◌, filter, is_none, length, map, nat_le, sum_by};
 ghost use Rattle.std.specs.List.{AllByRecursion};
 ghost use Rattle.host_core.specs.Facts.{AreDigested, date_in, dates_of};
 ghost use Rattle.host_core.specs.Files.{BeganAtMoment};
@@ -122,8 +122,8 @@ fn take_on(
     requires files { AllByRecursion (MayGoOn life.now.now life.now.last) life.now.files.items }
     requires now { IsMoment life.now.now }
     requires last { life.now.last ≤ 2 ^ 63 - 1 }
-    ensures file { OnOk result (file.new ≡ kept_on life.now file.old) }
-    ensures locks { IfOk result (λ locks. locks ≡ locks_in life.now file.old) }
+    ensures file { OnOk result (file.new ≡ kept_on life.entry.now file.old) }
+    ensures locks { IfOk result (λ locks. locks ≡ locks_in life.entry.now file.old) }
 {
     match index.find(&file.name) {
         None => {
@@ -153,8 +153,8 @@ fn take_on_found(
     requires files { AllByRecursion (MayGoOn life.now.now life.now.last) life.now.files.items }
     requires now { IsMoment life.now.now }
     requires last { life.now.last ≤ 2 ^ 63 - 1 }
-    ensures files { OnOk result (files.new.items ≡ map (kept_on life.now) files.old.items) }
-    ensures locks { IfOk result (λ told. told.items ≡ map (locks_in life.now) files.old.items) }
+    ensures files { OnOk result (files.new.items ≡ map (kept_on life.entry.now) files.old.items) }
+    ensures locks { IfOk result (λ told. told.items ≡ map (locks_in life.entry.now) files.old.items) }
 {
     let mut told = Vec::with_capacity(alloc, files.len())?;
     let mut place = 0;
@@ -214,8 +214,8 @@ fn take_on_gone(
     requires numbered { IsNumbered stock.old.index (named stock.old.files.items) }
     requires once { AreOnce (named stock.old.files.items) }
     requires few { length stock.old.files.items ≤ 4000000000 }
-    ensures files { OnOk result (stock.new.files.items ≡ stock.old.files.items ++ map kept_gone (filter (is_unmet (named stock.old.files.items)) life.now.files.items)) }
-    ensures told { OnOk result (told.new.items ≡ told.old.items ++ map (locks_on life.now.now) (filter (is_unmet (named stock.old.files.items)) life.now.files.items)) }
+    ensures files { OnOk result (stock.new.files.items ≡ stock.old.files.items ++ map kept_gone (filter (is_unmet (named stock.old.files.items)) life.entry.now.files.items)) }
+    ensures told { OnOk result (told.new.items ≡ told.old.items ++ map (locks_on life.entry.now.now) (filter (is_unmet (named stock.old.files.items)) life.entry.now.files.items)) }
     ensures numbered { OnOk result (IsNumbered stock.new.index (named stock.new.files.items)) }
     ensures once { OnOk result (AreOnce (named stock.new.files.items)) }
     ensures bytes { stock.new.bytes ≡ stock.old.bytes }
@@ -244,7 +244,7 @@ pub fn join(
     requires numbered { IsNumbered index.now (life_names life.now.files.items) }
     requires stock { IsStock life.now.first stock.old }
     requires ordered { IsByName (opening_listed stock.old.files.items) }
-    ensures { IfOk result (λ told. IsGoing life.now (opening_listed stock.old.files.items) (dates_of stock.old.files.items) stock.new.files.items told.items stock.new.index stock.new.bytes) }
+    ensures { IfOk result (λ told. IsGoing life.entry.now (opening_listed stock.old.files.items) (dates_of stock.old.files.items) stock.new.files.items told.items stock.new.index stock.new.bytes) }
 {
     let mut told = take_on_found(alloc, life, index, &mut stock.files)?;
     take_on_gone(alloc, life, stock, &mut told)?;

@@ -88,8 +88,8 @@ fn are_own(files: &Vec<LifeFile>, only: Option<u8>) -> bool
 
 /// The life is one of this shard, but for names that stand there twice.
 pub fn is_good(life: &Life, only: Option<u8>) -> bool
-    ensures yes { IsTrue result → AreOnce (life_names life.now.files.items) → IsGoodLife only life.now }
-    ensures no { IsGoodLife only life.now → IsTrue result }
+    ensures yes { IsTrue result → AreOnce (life_names life.entry.now.files.items) → IsGoodLife only life.entry.now }
+    ensures no { IsGoodLife only life.entry.now → IsTrue result }
 {
     if life.opened >= MOMENTS_END {
         return false;

@@ -1,12 +1,13 @@
 //! Locks that are held from before.
 ghost use Rattle.std.specs.Prelude.{◌≡◌, ◌≢◌, ◌⊎◌, ◌≤◌, ◌<◌, ◌+◌, ◌∷◌, [], ℕ, None, Some, IfOk, OnOk, drop, length, IsTrue, true};
 ghost use Rattle.std.specs.List.{AllByRecursion};
-ghost use Rattle.host_core.specs.Going.{AllHaveBegun, AreHeld, AreShown, HoldsFrom, IsFreeOf, IsLive, IsPartly};
+ghost use Rattle.host_core.specs.Going.{AreHeld, HoldsFrom, IsAsOf, IsFreeOf, IsLive, IsPartly};
 ghost use Rattle.host_core.specs.Turns.{AreAsOf};
 ghost use Rattle.host_core.specs.Whole.{standing_at};
 ghost use Rattle.kept_locks.specs.Locks.{AreChained, held_in, ids_in, unlocked};
 ghost use Rattle.kept_locks.specs.Ties.{BeganBy};
 
+use crate::held::lock_of;
 use crate::life::ToldLocks;
 use crate::room::take_room;
 use kept_locks::KeptLocks;
@@ -92,8 +93,9 @@ fn put_ids(
 /// The ids of each file, where none has any yet.
 fn put_all_ids(locks: &mut KeptLocks, told: &Vec<ToldLocks>, ids: usize) -> Result<(), Memory>
     requires none { (number : ℕ) → standing_at locks.old.files number ≡ unlocked }
+    requires few { length told.now.items ≤ 4000000000 }
     requires long { length told.now.items ≤ length locks.old.files }
-    requires live { AreShown told.now.items }
+    requires live { (number : ℕ) → IsLive (standing_at told.now.items number).spent }
     requires latest { locks.old.latest ≡ 0 }
     requires chains { AreChained locks.old }
     requires room { ids < locks.old.room }
@@ -112,7 +114,9 @@ fn put_all_ids(locks: &mut KeptLocks, told: &Vec<ToldLocks>, ids: usize) -> Resu
 }
 
 /// When the lock of each file began that has one.
-fn turns_of(alloc: Global, told: &Vec<ToldLocks>) -> Result<Vec<Turn>, Memory> {
+fn turns_of(alloc: Global, told: &Vec<ToldLocks>) -> Result<Vec<Turn>, Memory>
+    requires { length told.now.items ≤ 4000000000 }
+{
     let mut turns = Vec::new(alloc);
     let mut place = 0;
     'told: while place < told.len() {
@@ -155,7 +159,7 @@ fn put_turn(
 ) -> Result<(), Memory>
     requires part { IsPartly told.now.items locks.old.files }
     requires long { length told.now.items ≤ length locks.old.files }
-    requires live { AreShown told.now.items }
+    requires live { (number : ℕ) → IsLive (standing_at told.now.items number).spent }
     requires since { BeganBy turn.since locks.old.files }
     requires latest { locks.old.latest ≡ 0 }
     requires chains { AreChained locks.old }
@@ -194,7 +198,7 @@ fn put_turns(
 ) -> Result<(), Memory>
     requires none { HoldsFrom told.now.items locks.old.files }
     requires long { length told.now.items ≤ length locks.old.files }
-    requires live { AreShown told.now.items }
+    requires live { (number : ℕ) → IsLive (standing_at told.now.items number).spent }
     requires latest { locks.old.latest ≡ 0 }
     requires chains { AreChained locks.old }
     requires room { ids < locks.old.room }
@@ -218,18 +222,32 @@ fn put_turns(
     Ok(())
 }
 
+/// The file of that number has a lock, if it was told of one.
+fn is_held(locks: &KeptLocks, number: u32, told: &ToldLocks) -> bool
+    requires { number < length locks.now.files }
+    ensures { result ≡ true → (told.now.lock ≡ None) ⊎ ((standing_at locks.now.files number).lock ≡ None → ⊥) }
+{
+    match &told.lock {
+        None => return true,
+        Some(_) => {}
+    }
+    match lock_of(locks, number) {
+        None => return false,
+        Some(_) => return true,
+    }
+}
+
 /// Each lock that was told is held.
 fn are_all_held(locks: &KeptLocks, told: &Vec<ToldLocks>) -> bool
     requires part { IsPartly told.now.items locks.now.files }
+    requires few { length told.now.items ≤ 4000000000 }
     requires long { length told.now.items ≤ length locks.now.files }
-    ensures { result ≡ true → (number : ℕ) → standing_at locks.now.files number ≡ standing_at told.now.items number }
+    ensures { result ≡ true → (number : ℕ) → number < length told.now.items → standing_at locks.now.files number ≡ standing_at told.now.items number }
 {
     let mut place = 0;
     'told: while place < told.len() {
-        if told[place].lock.is_some() {
-            if locks.lock(place as u32).is_none() {
-                return false;
-            }
+        if !is_held(locks, place as u32, &told[place]) {
+            return false;
         }
         place += 1;
     }
@@ -238,11 +256,12 @@ fn are_all_held(locks: &KeptLocks, told: &Vec<ToldLocks>) -> bool
 
 /// Holds the locks that were told and refuses the ids, for which there are so many places.
 pub fn hold(alloc: Global, told: &Vec<ToldLocks>, ids: usize, now: u64) -> Result<KeptLocks, Memory>
-    requires live { AreShown told.now.items }
-    requires began { AllHaveBegun now told.now.items }
+    requires few { length told.now.items ≤ 4000000000 }
+    requires settled { AllByRecursion (IsAsOf now) told.now.items }
+    requires ids { ids ≤ 32768 }
     ensures { IfOk result (AreHeld told.now.items now ids) }
 {
-    let mut locks = take_room(alloc, told.len(), ids.saturating_add(1))?;
+    let mut locks = take_room(alloc, told.len(), ids + 1)?;
     put_all_ids(&mut locks, told, ids)?;
     let mut turns = turns_of(alloc, told)?;
     turns.sort_by_key(|turn| turn.since)?;

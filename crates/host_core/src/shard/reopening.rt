@@ -5,7 +5,7 @@ ghost use Rattle.outside.specs.Folder.{Keeps};
 ghost use Rattle.wopi_model.specs.Begin.{Begin};
 ghost use Rattle.wopi_model.specs.Lives.{live_ids};
 ghost use Rattle.host_core.specs.Facts.{Dates};
-ghost use Rattle.host_core.specs.Going.{AllHaveBegun, AreHeld, AreShown, TakesUp, ids_told};
+ghost use Rattle.host_core.specs.Going.{AreHeld, TakesUp, ids_told};
 ghost use Rattle.host_core.specs.Life.{IfLarge, IsFolderOrMemory, IsGoodLife, IsOfLife, IsReopened, Mends, OpensDoubt, begin_listed, life_names, mended};
 ghost use Rattle.host_core.specs.Numbers.{IsNumbered};
 ghost use Rattle.host_core.specs.Opening.{IfTooLarge, IsTooLarge};
@@ -49,12 +49,12 @@ fn take_up<F: Lasting>(
 ) -> Result<Going, ReopenFault>
     requires good { IsGoodLife only life.now }
     requires numbered { IsNumbered index.now (life_names life.now.files.items) }
-    ensures going { IfOk result (TakesUp only (F.files folder.old) (F.times folder.old) life.now) }
-    ensures mends { OnOk result (Mends life.now.files.items (F.files folder.old) (F.files folder.new)) }
-    ensures large { IfErr result (λ fault. IfLarge fault (IsTooLarge only (option_map (mended life.now.files.items) (F.files folder.old)))) }
+    ensures going { IfOk result (TakesUp only (F.files folder.old) (F.times folder.old) life.entry.now) }
+    ensures mends { OnOk result (Mends life.entry.now.files.items (F.files folder.old) (F.files folder.new)) }
+    ensures large { IfErr result (λ fault. IfLarge fault (IsTooLarge only (option_map (mended life.entry.now.files.items) (F.files folder.old)))) }
     ensures failed { IfErr result (λ fault. fault ≡ ReopenFault.FolderFault → Rose (F.faults folder.old) (F.faults folder.new)) }
     ensures none { IfErr result (λ fault. IsOfLife fault → ⊥) }
-    ensures doubt { OpensDoubt life.now.files.items (F.files folder.old) (F.files folder.new) }
+    ensures doubt { OpensDoubt life.entry.now.files.items (F.files folder.old) (F.files folder.new) }
     ensures log { (F.notes folder.new).log ≡ (F.notes folder.old).log }
     ensures never_falls { F.faults folder.old ≤ F.faults folder.new }
 {
@@ -147,23 +147,23 @@ impl<F: Lasting> Shard<F> {
           limits = record { calls = None; ids = ids };
           dates = shard.dates;
           made = [];
-          time = life.now.now;
+          time = life.entry.now.now;
           ticked = false;
           start = folder;
           folder = shard.folder;
         }) }
-        ensures reopened { IfOk result (λ shard. IsReopened only (F.files folder) (F.times folder) life.now shard.begin shard.dates) }
-        ensures mends { IfOk result (λ shard. Mends life.now.files.items (F.files folder) (F.files shard.folder)) }
+        ensures reopened { IfOk result (λ shard. IsReopened only (F.files folder) (F.times folder) life.entry.now shard.begin shard.dates) }
+        ensures mends { IfOk result (λ shard. Mends life.entry.now.files.items (F.files folder) (F.files shard.folder)) }
         ensures going { IfOk result (λ shard. F.lost shard.folder ≡ false) }
         ensures log { IfOk result (λ shard. (F.notes shard.folder).log ≡ (F.notes folder).log) }
         ensures never_falls { IfOk result (λ shard. F.faults folder ≤ F.faults shard.folder) }
         ensures lawful { IfOk result (λ shard. IsLawful shard (F.files shard.start) (F.files shard.folder) (F.faults shard.start) (F.faults shard.folder)) }
         ensures too_many { IfErr result (λ refused. refused.1 ≡ ReopenFault.TooManyIds
-            → (begin : Begin) × (dates : Dates) × IsReopened only (F.files folder) (F.times folder) life.now begin dates × (ids < live_ids begin.files)) }
+            → (begin : Begin) × (dates : Dates) × IsReopened only (F.files folder) (F.times folder) life.entry.now begin dates × (ids < live_ids begin.files)) }
         ensures not_bad { IfErr result (λ refused. refused.1 ≡ ReopenFault.BadLife → ⊥) }
-        ensures too_large { IfErr result (λ refused. IfLarge refused.1 (IsTooLarge only (option_map (mended life.now.files.items) (F.files folder)))) }
+        ensures too_large { IfErr result (λ refused. IfLarge refused.1 (IsTooLarge only (option_map (mended life.entry.now.files.items) (F.files folder)))) }
         ensures failed { IfErr result (λ refused. refused.1 ≡ ReopenFault.FolderFault → Rose (F.faults folder) (F.faults refused.0)) }
-        ensures handed { IfErr result (λ refused. OpensDoubt life.now.files.items (F.files folder) (F.files refused.0)) }
+        ensures handed { IfErr result (λ refused. OpensDoubt life.entry.now.files.items (F.files folder) (F.files refused.0)) }
         ensures handed_log { IfErr result (λ refused. (F.notes refused.0).log ≡ (F.notes folder).log) }
         ensures counts { IfErr result (λ refused. F.faults folder ≤ F.faults refused.0) }
     {
@@ -226,12 +226,12 @@ impl<F: Lasting> Shard<F> {
           limits = record { calls = None; ids = ids };
           dates = result.dates;
           made = [];
-          time = life.now.now;
+          time = life.entry.now.now;
           ticked = false;
           start = start.value;
           folder = folder;
         } }
-        ensures reopened { IsReopened only (F.files start.value) (F.times start.value) life.now result.begin result.dates }
+        ensures reopened { IsReopened only (F.files start.value) (F.times start.value) life.entry.now result.begin result.dates }
         ensures lawful { IsLawful result (F.files result.start) (F.files result.folder) (F.faults result.start) (F.faults result.folder) }
     {
         let ticked = Snapshot::of(&false);
