@@ -1,6 +1,8 @@
 -- Lists that are gone through from the front, and the files of a life by their names.
 use Rattle.std.proofs.Common.{◌≡◌, ◌≢◌, ◌<◌, ◌≤◌, ◌+◌, ◌-◌, ℕ, zero, suc, Bool, true, false, if◌then◌else◌, List, [], ◌∷◌, ◌++◌, length, map, take, drop, get_or, Option, None, Some, option_map, refl, sym, ap, subst, ◌∙◌, arith, slice_get}
 use Rattle.std.proofs.lemmas.List.{take_more, map-append}
+use Rattle.std.specs.Prelude.{nat_le}
+use Rattle.std.proofs.lemmas.Bool.{leb-false}
 use Rattle.std.proofs.lemmas.Slice.Eq.{bytes_eq-Decides}
 use Rattle.std.specs.Str.{bytes_eq}
 use Rattle.std.specs.List.{AllByRecursion}
@@ -88,10 +90,13 @@ told_some [] name n e = cc
 told_some (file ∷ files) name n e = go (bytes_eq file.name name) (place_in (life_names files) name) n (told_some files name) e where
   go : (b : Bool) (p : Option ℕ) (n : ℕ) → ((m : ℕ) → p ≡ Some m → (one : LifeFile) × (told_at files name ≡ Some one) × (slice_get files m ≡ Some one) × (m < length files))
       → (if b then Some 0 else option_map suc p) ≡ Some n → (one : LifeFile) × ((if b then Some file else told_at files name) ≡ Some one) × (slice_get (file ∷ files) n ≡ Some one) × (n < suc (length files))
-  go true p n more e = let is : n ≡ 0 = ap (λ (o : Option ℕ). elim o [ | None ↦ 0 | Some m ↦ m ]) (sym e) in
+  go true p n more e = let is : n ≡ 0 = ap (λ (o : Option ℕ). elim o [ None ↦ 0 | Some m ↦ m ]) (sym e) in
       (file, refl, ap (slice_get (file ∷ files)) is, omega (arith, is))
   go false None n more e = cc
   go false (Some m) n more e =
-      let is : n ≡ suc m = ap (λ (o : Option ℕ). elim o [ | None ↦ 0 | Some k ↦ k ]) (sym e) in
+      let is : n ≡ suc m = ap (λ (o : Option ℕ). elim o [ None ↦ 0 | Some k ↦ k ]) (sym e) in
       let (one, told, there, inside) = more m refl in
       (one, told, ap (slice_get (file ∷ files)) is ∙ there, omega (arith, is, inside))
+
+pub not_enough : (n most : ℕ) → nat_le n most ≡ false → most < n
+not_enough n most e = leb-false n most e

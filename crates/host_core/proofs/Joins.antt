@@ -1,6 +1,6 @@
 -- What is told, joined to the files of a folder.
-use Rattle.std.proofs.Common.{◌≡◌, ◌<◌, ◌≤◌, ◌+◌, ◌-◌, ◌^◌, ℕ, zero, suc, Bool, true, false, if◌then◌else◌, List, [], ◌∷◌, ◌++◌, length, map, filter, take, drop, get_or, sum_by, is_none, Option, None, Some, option_map, unwrap_or, refl, sym, ap, subst, ◌∙◌, arith, slice_get}
-use Rattle.std.proofs.lemmas.List.{append_assoc, length-append, length-map, map-append, take_more}
+use Rattle.std.proofs.Common.{◌≡◌, ◌<◌, ◌≤◌, ◌+◌, ◌-◌, ◌^◌, ℕ, zero, suc, Bool, true, false, if◌then◌else◌, List, [], ◌∷◌, ◌++◌, length, map, filter, take, drop, get_or, sum_by, is_none, nat_lt, Option, None, Some, option_map, unwrap_or, refl, sym, ap, subst, ◌∙◌, arith, slice_get}
+use Rattle.std.proofs.lemmas.List.{append-nil, append_assoc, length-append, length-map, length-take-le, map-append, take_more}
 use Rattle.std.proofs.lemmas.List.Elements.{filter-append}
 use Rattle.std.proofs.lemmas.List.Sums.{sum_by-cons}
 use Rattle.std.proofs.lemmas.Slice.Eq.{bytes_eq-Decides}
@@ -38,8 +38,8 @@ use Rattle.host_core.proofs.Regains.{still_live}
 -- ---- ids that are refused still
 
 pub refused_push : (now : ℕ) (ended : Option Spent) (xs : List Spent) (x : Spent) → still_spent (with_spent ended (xs ++ x ∷ [])) now ≡ still_spent (with_spent ended xs) now ++ still_spent (x ∷ []) now
-refused_push now None xs x = filter-append _ xs (x ∷ [])
-refused_push now (Some one) xs x = filter-append _ (one ∷ xs) (x ∷ [])
+refused_push now None xs x = filter-append (λ (one : Spent). nat_lt now one.until) xs (x ∷ [])
+refused_push now (Some first) xs x = filter-append (λ (one : Spent). nat_lt now one.until) (first ∷ xs) (x ∷ [])
 
 -- ---- lists of files and of their locks
 
@@ -184,10 +184,10 @@ pub filter_step : {A : Type 0} (p : A → Bool) (xs : List A) (i : ℕ) (x : A) 
 filter_step p xs i x lt is =
     ap (filter p) (take_more xs i x lt ∙ ap (λ (y : _). take i xs ++ y ∷ []) (sym is)) ∙ filter-append p (take i xs) (x ∷ [])
 
-names_front : (files : List LifeFile) (i : ℕ) (file : LifeFile) → i < length files → file ≡ get_or files i file → AreOnce (life_names files) → place_in (life_names (take i files)) file.name ≡ None
+pub names_front : (files : List LifeFile) (i : ℕ) (file : LifeFile) → i < length files → file ≡ get_or files i file → AreOnce (life_names files) → place_in (life_names (take i files)) file.name ≡ None
 names_front [] i file lt is once = absurd (omega (arith, lt))
 names_front (one ∷ files) zero file lt is once = refl
-names_front (one ∷ files) (suc i) file lt is once = go (bytes_eq one.name file.name) refl where
+names_front (one ∷ files) (suc i) file lt is once = go (bytes_eq one.name file.name) refl (names_front files i file (omega (arith, lt)) is once.1) where
   later : (rest : List LifeFile) (j : ℕ) → j < length rest → file ≡ get_or rest j file → place_in (life_names rest) one.name ≡ None → bytes_eq one.name file.name ≡ false
   later [] j below at none = absurd (omega (arith, below))
   later (r ∷ rest) zero below at none = part (bytes_eq r.name one.name) refl none where
@@ -200,9 +200,9 @@ names_front (one ∷ files) (suc i) file lt is once = go (bytes_eq one.name file
     part false None more e = more refl
     part false (Some n) more e = absurd (cc (e))
 
-  go : (b : Bool) → bytes_eq one.name file.name ≡ b → (if b then Some 0 else option_map suc (place_in (life_names (take i files)) file.name)) ≡ None
-  go true at = absurd (cc (sym at ∙ later files i (omega (arith, lt)) is once.0))
-  go false at = ap (option_map suc) (names_front files i file (omega (arith, lt)) is once.1)
+  go : (b : Bool) → bytes_eq one.name file.name ≡ b → place_in (life_names (take i files)) file.name ≡ None → (if b then Some 0 else option_map suc (place_in (life_names (take i files)) file.name)) ≡ None
+  go true at rest = absurd (cc (sym at ∙ later files i (omega (arith, lt)) is once.0))
+  go false at rest = ap (option_map suc) rest
 
 -- ---- one file more that isn't there
 
@@ -260,6 +260,22 @@ gone_add now life place files0 files files' told0 told told' file lt is fresh fi
       once = subst (λ (l : List KeptFile). AreOnce (named l)) (sym files_is) (subst AreOnce (sym (named_push files (kept_gone file))) (once_push (named files) file.name fresh so.once));
     }
 
+pub gone_next : (now : ℕ) (life : List LifeFile) (place : ℕ) (files0 files files' : List KeptFile) (told0 told told' : List Standing) (file : LifeFile) → place < length life → file ≡ get_or life place file
+    → AreOnce (life_names life) → files' ≡ files ++ (if is_unmet (named files) file then kept_gone file ∷ [] else []) → told' ≡ told ++ (if is_unmet (named files) file then locks_on now file ∷ [] else [])
+    → GoneSoFar now life place files0 files told0 told → GoneSoFar now life (place + 1) files0 files' told0 told'
+gone_next now life place files0 files files' told0 told told' file lt is once files_is told_is so = go (place_in (named files) file.name) refl files_is told_is where
+  go : (o : Option ℕ) → place_in (named files) file.name ≡ o → files' ≡ files ++ (if is_none o then kept_gone file ∷ [] else []) → told' ≡ told ++ (if is_none o then locks_on now file ∷ [] else [])
+      → GoneSoFar now life (place + 1) files0 files' told0 told'
+  go (Some n) e f t =
+      let next = gone_skip now life place files0 files told0 told file n lt is once e so in
+      let same : files' ≡ files = f ∙ append-nil files in
+      record {
+        files_are = same ∙ next.files_are;
+        told_are = t ∙ append-nil told ∙ next.told_are;
+        once = subst (λ (l : List KeptFile). AreOnce (named l)) (sym same) next.once;
+      }
+  go None e f t = gone_add now life place files0 files files' told0 told told' file lt is e f t so
+
 -- ---- all together
 
 low_found : (first now last : ℕ) (told : Option LifeFile) (held : Option (List ℕ)) → first ≤ 10 ^ 18 → ((file : LifeFile) → told ≡ Some file → MayGoOn now last file) → version_found first told held ≤ last + (2 ^ 63 - 1)
@@ -271,12 +287,12 @@ low_found first now last (Some file) held low goes = go (is_as_told file.content
 
 told_own : (P : LifeFile → Type 0) (files : List LifeFile) (name : List ℕ) (file : LifeFile) → AllByRecursion P files → told_at files name ≡ Some file → P file
 told_own P [] name file all e = absurd (cc (e))
-told_own P (one ∷ files) name file all e = go (bytes_eq one.name name) e where
-  go : (b : Bool) → (if b then Some one else told_at files name) ≡ Some file → P file
-  go true h = subst P (inner one file h) all.0 where
+told_own P (one ∷ files) name file all e = go (bytes_eq one.name name) (λ h. told_own P files name file all.1 h) e where
+  go : (b : Bool) → (told_at files name ≡ Some file → P file) → (if b then Some one else told_at files name) ≡ Some file → P file
+  go true rest h = subst P (inner one file h) all.0 where
     inner : (x y : LifeFile) → Some x ≡ Some y → x ≡ y
     inner x y h = ap (λ (o : Option LifeFile). unwrap_or o x) h
-  go false h = told_own P files name file all.1 h
+  go false rest h = rest h
 
 low_on : (life : Life) (files : List KeptFile) → life.first ≤ 10 ^ 18 → AllByRecursion (MayGoOn life.now life.last) life.files.items → AreLow life.last (map (kept_on life) files)
 low_on life [] low goes = tt
@@ -285,10 +301,10 @@ low_on life (k ∷ files) low goes =
 
 all_filter : {A : Type 0} (P : A → Type 0) (p : A → Bool) (xs : List A) → AllByRecursion P xs → AllByRecursion P (filter p xs)
 all_filter P p [] all = tt
-all_filter P p (x ∷ xs) all = go (p x) where
-  go : (b : Bool) → AllByRecursion P (if b then x ∷ filter p xs else filter p xs)
-  go true = (all.0, all_filter P p xs all.1)
-  go false = all_filter P p xs all.1
+all_filter P p (x ∷ xs) all = go (p x) (all_filter P p xs all.1) where
+  go : (b : Bool) → AllByRecursion P (filter p xs) → AllByRecursion P (if b then x ∷ filter p xs else filter p xs)
+  go true rest = (all.0, rest)
+  go false rest = rest
 
 low_gone : (now last : ℕ) (files : List LifeFile) → AllByRecursion (MayGoOn now last) files → AreLow last (map kept_gone files)
 low_gone now last [] goes = tt
@@ -304,17 +320,17 @@ dates_gone (file ∷ files) = ap (λ (rest : Dates). (file.name, 0) ∷ rest) (d
 
 at_either : (P : ℕ → Type 0) (xs ys : Dates) (name : List ℕ) → P (at_name 0 xs name) → P (at_name 0 ys name) → P (at_name 0 (xs ++ ys) name)
 at_either P [] ys name p q = q
-at_either P (x ∷ xs) ys name p q = go (bytes_eq x.0 name) p where
-  go : (b : Bool) → P (if b then x.1 else at_name 0 xs name) → P (if b then x.1 else at_name 0 (xs ++ ys) name)
-  go true h = h
-  go false h = at_either P xs ys name h q
+at_either P (x ∷ xs) ys name p q = go (bytes_eq x.0 name) (λ h. at_either P xs ys name h q) p where
+  go : (b : Bool) → (P (at_name 0 xs name) → P (at_name 0 (xs ++ ys) name)) → P (if b then x.1 else at_name 0 xs name) → P (if b then x.1 else at_name 0 (xs ++ ys) name)
+  go true rest h = h
+  go false rest h = rest h
 
 at_none : (files : List LifeFile) (name : List ℕ) → at_name 0 (map (λ file. (file.name, 0)) files) name ≡ 0
 at_none [] name = refl
-at_none (file ∷ files) name = go (bytes_eq file.name name) where
-  go : (b : Bool) → (if b then 0 else at_name 0 (map (λ file. (file.name, 0)) files) name) ≡ 0
-  go true = refl
-  go false = at_none files name
+at_none (file ∷ files) name = go (bytes_eq file.name name) (at_none files name) where
+  go : (b : Bool) → at_name 0 (map (λ file. (file.name, 0)) files) name ≡ 0 → (if b then 0 else at_name 0 (map (λ file. (file.name, 0)) files) name) ≡ 0
+  go true rest = refl
+  go false rest = rest
 
 digested_on : (life : Life) (files : List KeptFile) → AreDigested files → AreDigested (map (kept_on life) files)
 digested_on life [] all = tt
@@ -410,3 +426,10 @@ going only life old new told good stock once files_is told_is numbered once' byt
       few = few;
       dates_are = ap dates_of files ∙ dates;
     }
+
+pub names_more : (files : List LifeFile) (i : ℕ) (file : LifeFile) → i < length files → file ≡ get_or files i file → life_names (take (i + 1) files) ≡ life_names (take i files) ++ file.name ∷ []
+names_more files i file lt is =
+    ap life_names (take_more files i file lt ∙ ap (λ (f : LifeFile). take i files ++ f ∷ []) (sym is)) ∙ map-append (λ (f : LifeFile). f.name) (take i files) (file ∷ [])
+
+pub names_long : (files : List LifeFile) (i : ℕ) → i ≤ length files → length (life_names (take i files)) ≡ i
+names_long files i le = length-map (take i files) (λ (f : LifeFile). f.name) ∙ length-take-le i files le

@@ -20,25 +20,26 @@ use Rattle.host_core.proofs.Goods.{told_none}
 
 pub mended_untold : (life : List LifeFile) (files : Files) (name : List ℕ) → told_at life name ≡ None → mended life files name ≡ files name
 mended_untold [] files name e = refl
-mended_untold (file ∷ life) files name e = go (bytes_eq file.name name) refl e where
-  go : (b : Bool) → bytes_eq file.name name ≡ b → (if b then Some file else told_at life name) ≡ None → mended life (mended_by file files) name ≡ files name
-  go true at h = absurd (cc (h))
-  go false at h = mended_untold life (mended_by file files) name h ∙ ap (λ (c : Bool). if c then mended_with file.contents (files name) else files name) at
+mended_untold (file ∷ life) files name e = go (bytes_eq file.name name) refl (λ h. mended_untold life (mended_by file files) name h) e where
+  go : (b : Bool) → bytes_eq file.name name ≡ b → (told_at life name ≡ None → mended life (mended_by file files) name ≡ mended_by file files name) → (if b then Some file else told_at life name) ≡ None → mended life (mended_by file files) name ≡ files name
+  go true at rest h = absurd (cc (h))
+  go false at rest h = rest h ∙ ap (λ (c : Bool). if c then mended_with file.contents (files name) else files name) at
 
 pub mended_told : (life : List LifeFile) (files : Files) (name : List ℕ) (told : LifeFile) → AreOnce (life_names life) → told_at life name ≡ Some told → mended life files name ≡ mended_with told.contents (files name)
 mended_told [] files name told once e = absurd (cc (e))
-mended_told (file ∷ life) files name told once e = go (bytes_eq file.name name) refl e where
+mended_told (file ∷ life) files name told once e = go (bytes_eq file.name name) refl (λ h. mended_told life (mended_by file files) name told once.1 h) e where
   same : (x y : LifeFile) → Some x ≡ Some y → x ≡ y
   same x y h = ap (λ (o : Option LifeFile). unwrap_or o x) h
 
-  go : (b : Bool) → bytes_eq file.name name ≡ b → (if b then Some file else told_at life name) ≡ Some told → mended life (mended_by file files) name ≡ mended_with told.contents (files name)
-  go true at h =
+  go : (b : Bool) → bytes_eq file.name name ≡ b → (told_at life name ≡ Some told → mended life (mended_by file files) name ≡ mended_with told.contents (mended_by file files name))
+      → (if b then Some file else told_at life name) ≡ Some told → mended life (mended_by file files) name ≡ mended_with told.contents (files name)
+  go true at rest h =
       let none : place_in (life_names life) name ≡ None = subst (λ (n : List ℕ). place_in (life_names life) n ≡ None) ((bytes_eq-Decides file.name name).0 at) once.0 in
       mended_untold life (mended_by file files) name (told_none life name none)
       ∙ ap (λ (c : Bool). if c then mended_with file.contents (files name) else files name) at
       ∙ ap (λ (f : LifeFile). mended_with f.contents (files name)) (same file told h)
-  go false at h =
-      mended_told life (mended_by file files) name told once.1 h
+  go false at rest h =
+      rest h
       ∙ ap (λ (c : Bool). mended_with told.contents (if c then mended_with file.contents (files name) else files name)) at
 
 -- ---- the beginning, by one name
@@ -46,68 +47,71 @@ mended_told (file ∷ life) files name told once e = go (bytes_eq file.name name
 at_found : (life : Life) (other : File) (rest : List (List ℕ × File)) (opening : Opening) (name held : List ℕ) → opened_contents opening name ≡ Some held
     → at_name other (map (found_on life) opening ++ rest) name ≡ found_as life.first life.now (told_at life.files.items name) held
 at_found life other rest [] name held e = absurd (cc (e))
-at_found life other rest (one ∷ opening) name held e = go (bytes_eq one.0 name) refl e where
+at_found life other rest (one ∷ opening) name held e = go (bytes_eq one.0 name) refl (λ h. at_found life other rest opening name held h) e where
   same : (x y : List ℕ) → Some x ≡ Some y → x ≡ y
   same x y h = ap (λ (o : Option (List ℕ)). unwrap_or o x) h
 
-  go : (b : Bool) → bytes_eq one.0 name ≡ b → (if b then Some one.1 else opened_contents opening name) ≡ Some held
+  go : (b : Bool) → bytes_eq one.0 name ≡ b
+      → (opened_contents opening name ≡ Some held → at_name other (map (found_on life) opening ++ rest) name ≡ found_as life.first life.now (told_at life.files.items name) held)
+      → (if b then Some one.1 else opened_contents opening name) ≡ Some held
       → (if b then found_as life.first life.now (told_at life.files.items one.0) one.1 else at_name other (map (found_on life) opening ++ rest) name) ≡ found_as life.first life.now (told_at life.files.items name) held
-  go true at h =
+  go true at more h =
       ap (λ (n : List ℕ). found_as life.first life.now (told_at life.files.items n) one.1) ((bytes_eq-Decides one.0 name).0 at)
       ∙ ap (λ (c : List ℕ). found_as life.first life.now (told_at life.files.items name) c) (same one.1 held h)
-  go false at h = at_found life other rest opening name held h
+  go false at more h = more h
 
 at_unfound : (life : Life) (other : File) (rest : List (List ℕ × File)) (opening : Opening) (name : List ℕ) → opened_contents opening name ≡ None
     → at_name other (map (found_on life) opening ++ rest) name ≡ at_name other rest name
 at_unfound life other rest [] name e = refl
-at_unfound life other rest (one ∷ opening) name e = go (bytes_eq one.0 name) e where
-  go : (b : Bool) → (if b then Some one.1 else opened_contents opening name) ≡ None
+at_unfound life other rest (one ∷ opening) name e = go (bytes_eq one.0 name) (λ h. at_unfound life other rest opening name h) e where
+  go : (b : Bool) → (opened_contents opening name ≡ None → at_name other (map (found_on life) opening ++ rest) name ≡ at_name other rest name) → (if b then Some one.1 else opened_contents opening name) ≡ None
       → (if b then found_as life.first life.now (told_at life.files.items one.0) one.1 else at_name other (map (found_on life) opening ++ rest) name) ≡ at_name other rest name
-  go true h = absurd (cc (h))
-  go false h = at_unfound life other rest opening name h
+  go true more h = absurd (cc (h))
+  go false more h = more h
 
 at_ungone : (life : Life) (other : File) (p : LifeFile → Bool) (files : List LifeFile) (name : List ℕ) → told_at files name ≡ None → at_name other (map (gone_on life) (filter p files)) name ≡ other
 at_ungone life other p [] name e = refl
-at_ungone life other p (file ∷ files) name e = go (p file) (bytes_eq file.name name) refl e where
-  go : (keep b : Bool) → bytes_eq file.name name ≡ b → (if b then Some file else told_at files name) ≡ None
+at_ungone life other p (file ∷ files) name e = go (p file) (bytes_eq file.name name) refl (λ h. at_ungone life other p files name h) e where
+  go : (keep b : Bool) → bytes_eq file.name name ≡ b → (told_at files name ≡ None → at_name other (map (gone_on life) (filter p files)) name ≡ other) → (if b then Some file else told_at files name) ≡ None
       → at_name other (map (gone_on life) (if keep then file ∷ filter p files else filter p files)) name ≡ other
-  go keep true at h = absurd (cc (h))
-  go false false at h = at_ungone life other p files name h
-  go true false at h = ap (λ (c : Bool). if c then file_on life.now file None else at_name other (map (gone_on life) (filter p files)) name) at ∙ at_ungone life other p files name h
+  go keep true at more h = absurd (cc (h))
+  go false false at more h = more h
+  go true false at more h = ap (λ (c : Bool). if c then file_on life.now file None else at_name other (map (gone_on life) (filter p files)) name) at ∙ more h
 
 at_gone : (life : Life) (other : File) (opening : Opening) (files : List LifeFile) (name : List ℕ) (told : LifeFile) → told_at files name ≡ Some told → opened_contents opening name ≡ None
     → at_name other (map (gone_on life) (filter (is_gone opening) files)) name ≡ file_on life.now told None
 at_gone life other opening [] name told e none = absurd (cc (e))
-at_gone life other opening (file ∷ files) name told e none = go (is_gone opening file) refl (bytes_eq file.name name) refl e where
+at_gone life other opening (file ∷ files) name told e none = go (is_gone opening file) refl (bytes_eq file.name name) refl (λ h. at_gone life other opening files name told h none) e where
   same : (x y : LifeFile) → Some x ≡ Some y → x ≡ y
   same x y h = ap (λ (o : Option LifeFile). unwrap_or o x) h
 
-  go : (keep : Bool) → is_gone opening file ≡ keep → (b : Bool) → bytes_eq file.name name ≡ b → (if b then Some file else told_at files name) ≡ Some told
+  go : (keep : Bool) → is_gone opening file ≡ keep → (b : Bool) → bytes_eq file.name name ≡ b
+      → (told_at files name ≡ Some told → at_name other (map (gone_on life) (filter (is_gone opening) files)) name ≡ file_on life.now told None) → (if b then Some file else told_at files name) ≡ Some told
       → at_name other (map (gone_on life) (if keep then file ∷ filter (is_gone opening) files else filter (is_gone opening) files)) name ≡ file_on life.now told None
-  go true kept true at h =
+  go true kept true at more h =
       ap (λ (c : Bool). if c then file_on life.now file None else at_name other (map (gone_on life) (filter (is_gone opening) files)) name) at
       ∙ ap (λ (f : LifeFile). file_on life.now f None) (same file told h)
-  go false kept true at h =
+  go false kept true at more h =
       let there : is_gone opening file ≡ true = ap (λ (n : List ℕ). is_none (opened_contents opening n)) ((bytes_eq-Decides file.name name).0 at) ∙ ap (λ (o : Option (List ℕ)). is_none o) none in
       absurd (cc (sym kept ∙ there))
-  go true kept false at h =
+  go true kept false at more h =
       ap (λ (c : Bool). if c then file_on life.now file None else at_name other (map (gone_on life) (filter (is_gone opening) files)) name) at
-      ∙ at_gone life other opening files name told h none
-  go false kept false at h = at_gone life other opening files name told h none
+      ∙ more h
+  go false kept false at more h = more h
 
 of_opening : (P : List ℕ → Type 0) (opening : Opening) (name held : List ℕ) → AllByRecursion (λ file. P file.0) opening → opened_contents opening name ≡ Some held → P name
 of_opening P [] name held all e = absurd (cc (e))
-of_opening P (one ∷ opening) name held all e = go (bytes_eq one.0 name) refl e where
-  go : (b : Bool) → bytes_eq one.0 name ≡ b → (if b then Some one.1 else opened_contents opening name) ≡ Some held → P name
-  go true at h = subst P ((bytes_eq-Decides one.0 name).0 at) all.0
-  go false at h = of_opening P opening name held all.1 h
+of_opening P (one ∷ opening) name held all e = go (bytes_eq one.0 name) refl (λ h. of_opening P opening name held all.1 h) e where
+  go : (b : Bool) → bytes_eq one.0 name ≡ b → (opened_contents opening name ≡ Some held → P name) → (if b then Some one.1 else opened_contents opening name) ≡ Some held → P name
+  go true at more h = subst P ((bytes_eq-Decides one.0 name).0 at) all.0
+  go false at more h = more h
 
 of_life : (P : List ℕ → Type 0) (files : List LifeFile) (name : List ℕ) (told : LifeFile) → AllByRecursion (λ file. P file.name) files → told_at files name ≡ Some told → P name
 of_life P [] name told all e = absurd (cc (e))
-of_life P (file ∷ files) name told all e = go (bytes_eq file.name name) refl e where
-  go : (b : Bool) → bytes_eq file.name name ≡ b → (if b then Some file else told_at files name) ≡ Some told → P name
-  go true at h = subst P ((bytes_eq-Decides file.name name).0 at) all.0
-  go false at h = of_life P files name told all.1 h
+of_life P (file ∷ files) name told all e = go (bytes_eq file.name name) refl (λ h. of_life P files name told all.1 h) e where
+  go : (b : Bool) → bytes_eq file.name name ≡ b → (told_at files name ≡ Some told → P name) → (if b then Some file else told_at files name) ≡ Some told → P name
+  go true at more h = subst P ((bytes_eq-Decides file.name name).0 at) all.0
+  go false at more h = more h
 
 -- a file that is as it was told goes on at its version
 kept_version : (now : ℕ) (told : LifeFile) (held : Option (List ℕ)) → is_as_told told.contents held ≡ true

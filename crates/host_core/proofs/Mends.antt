@@ -13,10 +13,12 @@ use Rattle.std.specs.Cmp.Lexicographic.{slice_cmp}
 use Rattle.host_core.specs.declared.file.KeptFile.{KeptFile}
 use Rattle.host_core.specs.declared.life.ReopenFault.{ReopenFault}
 use Rattle.host_core.specs.declared.life.ReopenFault.TheVariants as fault
+use Rattle.host_core.specs.declared.opening.StartFault.{StartFault}
+use Rattle.host_core.specs.declared.opening.StartFault.TheVariants as start
 use Rattle.host_core.specs.Notes.{opening_listed}
 use Rattle.host_core.specs.Facts.{Dates, dates_of}
-use Rattle.host_core.specs.Life.{AreDatesBeside, IfLarge, IsFolderOrMemory, IsOfLife, Mends, OpensDoubt, is_changed, is_in_doubt, mended, mended_by, mended_with}
-use Rattle.host_core.specs.Opening.{AreDatesOf, IsDateOf, HasAll, IsOpening, IsTooLarge, MayKeep, PassesLimit}
+use Rattle.host_core.specs.Life.{AreDatesBeside, as_reopening, IfLarge, IsFolderOrMemory, IsOfLife, Mends, OpensDoubt, is_changed, is_in_doubt, mended, mended_by, mended_with}
+use Rattle.host_core.specs.Opening.{AreDatesOf, IsDateOf, HasAll, IfTooLarge, IsOpening, IsTooLarge, MayKeep, PassesLimit}
 use Rattle.host_core.specs.Store.{Holds}
 use Rattle.wopi_model.specs.Shard.{Opening}
 
@@ -191,6 +193,37 @@ life_why (fault.TooLarge name) is of = is
 life_why fault.BadLife is of = is
 life_why fault.TooManyIds is of = is
 
+pub bad_why : (why : ReopenFault) → IsFolderOrMemory why → why ≡ fault.BadLife → ⊥
+bad_why why is e = subst IsFolderOrMemory e is
+
+pub many_why : (why : ReopenFault) → IsFolderOrMemory why → why ≡ fault.TooManyIds → ⊥
+many_why why is e = subst IsFolderOrMemory e is
+
+pub bad_none : (why : ReopenFault) → (IsOfLife why → ⊥) → why ≡ fault.BadLife → ⊥
+bad_none why none e = none (subst IsOfLife (sym e) tt)
+
+pub many_none : (why : ReopenFault) → (IsOfLife why → ⊥) → why ≡ fault.TooManyIds → ⊥
+many_none why none e = none (subst IsOfLife (sym e) tt)
+
 pub names_of_dates : (files : List KeptFile) → map (λ (one : List ℕ × ℕ). one.0) (dates_of files) ≡ map (λ (one : List ℕ × List ℕ). one.0) (opening_listed files)
 names_of_dates [] = refl
 names_of_dates (k ∷ files) = ap (λ (names : List (List ℕ)). k.name ∷ names) (names_of_dates files)
+
+pub large_as : (why : StartFault) (P : List ℕ → Type 0) → IfTooLarge why P → IfLarge (as_reopening why) P
+large_as start.FolderFault P is = tt
+large_as (start.TooLarge name) P is = is
+large_as start.Memory P is = tt
+
+pub folder_as : (why : StartFault) → as_reopening why ≡ fault.FolderFault → why ≡ start.FolderFault
+folder_as start.FolderFault e = refl
+folder_as (start.TooLarge name) e = absurd (cc (e))
+folder_as start.Memory e = absurd (cc (e))
+
+pub life_as : (why : StartFault) → IsOfLife (as_reopening why) → ⊥
+life_as start.FolderFault of = of
+life_as (start.TooLarge name) of = of
+life_as start.Memory of = of
+
+pub keeps_self : {A : Type 0} (old : Option (List ℕ → A)) → Keeps old old
+keeps_self None = tt
+keeps_self (Some old) = λ name. refl

@@ -7,7 +7,7 @@ use Rattle.kept_locks.specs.Ties.{BeganBy, GoesOn}
 use Rattle.wopi_model.specs.declared.locks.Lock.{Lock}
 use Rattle.wopi_model.specs.declared.locks.Spent.{Spent}
 use Rattle.wopi_model.specs.Settle.{expired, standing, still_spent, with_spent}
-use Rattle.host_core.specs.Going.{HoldsFrom, IsAsOf, IsFreeOf, IsLive, IsPartly}
+use Rattle.host_core.specs.Going.{AreHeld, HoldsFrom, IsAsOf, IsFreeOf, IsLive, IsPartly}
 use Rattle.host_core.specs.Life.{BeganBefore}
 use Rattle.host_core.specs.Turns.{AreAsOf}
 use Rattle.host_core.specs.Whole.{standing_at}
@@ -18,7 +18,7 @@ use Rattle.host_core.proofs.Turning.{stands_beside, stands_set}
 
 pub stands_of : (ss : List Standing) (n : ℕ) (s : Standing) → slice_get ss n ≡ Some s → standing_at ss n ≡ s
 stands_of [] n s e = absurd (cc (e))
-stands_of (x ∷ ss) zero s e = ap (λ (o : Option Standing). elim o [ | None ↦ x | Some y ↦ y ]) e
+stands_of (x ∷ ss) zero s e = ap (λ (o : Option Standing). elim o [ None ↦ x | Some y ↦ y ]) e
 stands_of (x ∷ ss) (suc n) s e = stands_of ss n s e
 
 pub stands_beyond : (ss : List Standing) (n : ℕ) → length ss ≤ n → standing_at ss n ≡ unlocked
@@ -48,10 +48,10 @@ live_still (one ∷ ids) live =
 
 pub still_live : (ids : List Spent) (now : ℕ) → IsLive (still_spent ids now)
 still_live [] now = tt
-still_live (one ∷ ids) now = go (nat_lt now one.until) refl where
-  go : (b : Bool) → nat_lt now one.until ≡ b → IsLive (if b then one ∷ still_spent ids now else still_spent ids now)
-  go true at = (let late = ltb-true now one.until at in omega (arith, late), still_live ids now)
-  go false at = still_live ids now
+still_live (one ∷ ids) now = go (nat_lt now one.until) refl (still_live ids now) where
+  go : (b : Bool) → nat_lt now one.until ≡ b → IsLive (still_spent ids now) → IsLive (if b then one ∷ still_spent ids now else still_spent ids now)
+  go true at rest = (let late = ltb-true now one.until at in omega (arith, late), rest)
+  go false at rest = rest
 
 unheld : (now : ℕ) (s : Standing) → s.lock ≡ None → ended_at now s ≡ s
 unheld now s e =
@@ -89,7 +89,7 @@ free_began files number since lock is free = inr (λ n file held at holds. absur
 -- ---- the ids of each file
 
 -- the files before that place have their ids, and the others none
-pub HoldsSome : ℕ → List Standing → List Standing → Type 0
+abbrev pub HoldsSome : ℕ → List Standing → List Standing → Type 0
 HoldsSome place told files = (number : ℕ) →
     (number < place → standing_at files number ≡ record { lock = None; spent = (standing_at told number).spent })
     × (place ≤ number → standing_at files number ≡ unlocked)
@@ -148,7 +148,7 @@ lock_began old new number lock ids began lt long here others = λ n file held at
   inside (x ∷ ss) (suc n) s e = let rest = inside ss n s e in omega (arith, rest)
 
   some_since : (a b : Lock) → Some a ≡ Some b → a.since ≡ b.since
-  some_since a b e = ap (λ (o : Option Lock). elim o [ | None ↦ 0 | Some l ↦ l.since ]) e
+  some_since a b e = ap (λ (o : Option Lock). elim o [ None ↦ 0 | Some l ↦ l.since ]) e
 
   go : (n : ℕ) (file : Standing) (held : Lock) → slice_get new n ≡ Some file → file.lock ≡ Some held → (b : Bool) → n == number ≡ b → held.since ≤ lock.since
   go n file held at is true same =
@@ -173,8 +173,8 @@ partly_put told old new number lock part is here others = λ n. go n (n == numbe
       subst (λ (s : Standing). (s.spent ≡ (standing_at told n).spent) × ((s.lock ≡ None) ⊎ (s.lock ≡ (standing_at told n).lock))) (sym (others n (eqb-false n number at))) (part n)
 
 -- a file whose lock isn't wanting has all
-pub whole_at : (told files : List Standing) (n : ℕ) → IsPartly told files → ((standing_at told n).lock ≡ None) ⊎ ((standing_at files n).lock ≡ None → ⊥) → standing_at files n ≡ standing_at told n
-whole_at told files n part held = λ i. record { lock = lock held (part n).1 i; spent = (part n).0 i } where
+pub whole_at : (told files : List Standing) (n : ℕ) → ((standing_at files n).spent ≡ (standing_at told n).spent) × (((standing_at files n).lock ≡ None) ⊎ ((standing_at files n).lock ≡ (standing_at told n).lock)) → ((standing_at told n).lock ≡ None) ⊎ ((standing_at files n).lock ≡ None → ⊥) → standing_at files n ≡ standing_at told n
+whole_at told files n part held = λ i. record { lock = lock held part.1 i; spent = part.0 i } where
   lock : ((standing_at told n).lock ≡ None) ⊎ ((standing_at files n).lock ≡ None → ⊥) → ((standing_at files n).lock ≡ None) ⊎ ((standing_at files n).lock ≡ (standing_at told n).lock)
       → (standing_at files n).lock ≡ (standing_at told n).lock
   lock held (inr same) = same
@@ -208,3 +208,33 @@ pub live_at : (ids : List Spent) (n : ℕ) (one : Spent) → IsLive ids → n < 
 live_at [] n one live lt is = absurd (omega (arith, lt))
 live_at (x ∷ ids) zero one live lt is = subst (λ (y : Spent). 0 < y.until) (sym is) live.0
 live_at (x ∷ ids) (suc n) one live lt is = live_at ids n one live.1 (omega (arith, lt)) is
+
+pub held_more : (place : ℕ) (told files : List Standing) → ((n : ℕ) → n < place → standing_at files n ≡ standing_at told n) → standing_at files place ≡ standing_at told place
+    → (n : ℕ) → n < place + 1 → standing_at files n ≡ standing_at told n
+held_more place told files so here n lt = go (n == place) refl where
+  go : (b : Bool) → n == place ≡ b → standing_at files n ≡ standing_at told n
+  go true at = subst (λ (m : ℕ). standing_at files m ≡ standing_at told m) (sym (eqb-true n place at)) here
+  go false at = so n (below n place lt (eqb-false n place at))
+
+-- all locks are held that were told, and no others
+pub all_held : (told : List Standing) (now ids : ℕ) (locks : Locks) → IsPartly told locks.files → ((n : ℕ) → n < length told → standing_at locks.files n ≡ standing_at told n) → AllByRecursion (IsAsOf now) told
+    → length told ≤ length locks.files → locks.latest ≡ 0 → AreChained locks → ids < locks.room → AreHeld told now ids locks
+all_held told now ids locks part same all long latest chains room =
+    let beyond : (n : ℕ) → length told ≤ n → standing_at locks.files n ≡ unlocked = λ n le. free_beyond told locks.files n le (part n) in
+    let whole : (n : ℕ) → standing_at locks.files n ≡ standing_at told n = λ n. either n (nat_lt n (length told)) refl beyond in
+    record {
+      stands = same;
+      beyond = beyond;
+      as_of = record { began = held_began told locks.files now whole all; stepped = omega (arith, latest); chains = chains };
+      long = long;
+      room = room;
+    }
+  where
+    free_beyond : (told files : List Standing) (n : ℕ) → length told ≤ n → ((standing_at files n).spent ≡ (standing_at told n).spent) × (((standing_at files n).lock ≡ None) ⊎ ((standing_at files n).lock ≡ (standing_at told n).lock))
+        → standing_at files n ≡ unlocked
+    free_beyond told files n le (spent, inl none) = λ i. record { lock = none i; spent = (spent ∙ ap (λ (s : Standing). s.spent) (stands_beyond told n le)) i }
+    free_beyond told files n le (spent, inr same) = λ i. record { lock = (same ∙ ap (λ (s : Standing). s.lock) (stands_beyond told n le)) i; spent = (spent ∙ ap (λ (s : Standing). s.spent) (stands_beyond told n le)) i }
+
+    either : (n : ℕ) (b : Bool) → nat_lt n (length told) ≡ b → ((n : ℕ) → length told ≤ n → standing_at locks.files n ≡ unlocked) → standing_at locks.files n ≡ standing_at told n
+    either n true at beyond = same n (ltb-true n (length told) at)
+    either n false at beyond = let le = ltb-false n (length told) at in beyond n le ∙ sym (stands_beyond told n le)

@@ -34,10 +34,10 @@ use Rattle.host_core.proofs.Regains.{stands_beyond}
 
 pub files_listed : (first : ℕ) (files : List Whole) (name : List ℕ) → files_of first files name ≡ at_name (never_met first) (listed_on files) name
 files_listed first [] name = refl
-files_listed first (k ∷ files) name = go (bytes_eq k.name name) where
-  go : (b : Bool) → unwrap_or (option_map file_of (if b then Some k else first_of (is_named name) files)) (never_met first) ≡ (if b then file_of k else at_name (never_met first) (listed_on files) name)
-  go true = refl
-  go false = files_listed first files name
+files_listed first (k ∷ files) name = go (bytes_eq k.name name) (files_listed first files name) where
+  go : (b : Bool) → files_of first files name ≡ at_name (never_met first) (listed_on files) name → unwrap_or (option_map file_of (if b then Some k else first_of (is_named name) files)) (never_met first) ≡ (if b then file_of k else at_name (never_met first) (listed_on files) name)
+  go true rest = refl
+  go false rest = rest
 
 pub names_listed : (files : List Whole) → names_in (listed_on files) ≡ names_of files
 names_listed [] = refl
@@ -45,10 +45,10 @@ names_listed (k ∷ files) = ap (λ (rest : List (List ℕ)). k.name ∷ rest) (
 
 gone_empty : (other : File) → other.contents ≡ None → (life : Life) (gone : List LifeFile) (name : List ℕ) → (at_name other (map (gone_on life) gone) name).contents ≡ None
 gone_empty other none life [] name = none
-gone_empty other none life (file ∷ gone) name = go (bytes_eq file.name name) where
-  go : (b : Bool) → (if b then file_on life.now file None else at_name other (map (gone_on life) gone) name).contents ≡ None
-  go true = refl
-  go false = gone_empty other none life gone name
+gone_empty other none life (file ∷ gone) name = go (bytes_eq file.name name) (gone_empty other none life gone name) where
+  go : (b : Bool) → (at_name other (map (gone_on life) gone) name).contents ≡ None → (if b then file_on life.now file None else at_name other (map (gone_on life) gone) name).contents ≡ None
+  go true rest = refl
+  go false rest = rest
 
 found_whole : (first now : ℕ) (told : Option LifeFile) (held : List ℕ) → (found_as first now told held).contents ≡ Some held
 found_whole first now None held = refl
@@ -57,11 +57,11 @@ found_whole first now (Some file) held = refl
 contents_joined : (life : Life) (gone : List LifeFile) (opening : Opening) (name : List ℕ)
     → (at_name (never_met life.first) (map (found_on life) opening ++ map (gone_on life) gone) name).contents ≡ opened_contents opening name
 contents_joined life gone [] name = gone_empty (never_met life.first) refl life gone name
-contents_joined life gone (one ∷ opening) name = go (bytes_eq one.0 name) where
-  go : (b : Bool) → (if b then found_as life.first life.now (told_at life.files.items one.0) one.1 else at_name (never_met life.first) (map (found_on life) opening ++ map (gone_on life) gone) name).contents
+contents_joined life gone (one ∷ opening) name = go (bytes_eq one.0 name) (contents_joined life gone opening name) where
+  go : (b : Bool) → (at_name (never_met life.first) (map (found_on life) opening ++ map (gone_on life) gone) name).contents ≡ opened_contents opening name → (if b then found_as life.first life.now (told_at life.files.items one.0) one.1 else at_name (never_met life.first) (map (found_on life) opening ++ map (gone_on life) gone) name).contents
       ≡ (if b then Some one.1 else opened_contents opening name)
-  go true = found_whole life.first life.now (told_at life.files.items one.0) one.1
-  go false = contents_joined life gone opening name
+  go true rest = found_whole life.first life.now (told_at life.files.items one.0) one.1
+  go false rest = rest
 
 pub contents_on : (life : Life) (opening : Opening) (name : List ℕ) → (at_name (never_met life.first) (goes_on life opening).files name).contents ≡ opened_contents opening name
 contents_on life opening name = contents_joined life (filter (is_gone opening) life.files.items) opening name
@@ -106,10 +106,10 @@ ids_on (k ∷ files) (s ∷ told) e =
 pub none_torn : (files : List KeptFile) (ss : List Standing) → NoneTorn files → (name : List ℕ) → torn_in (joined files ss) name ≡ false
 none_torn [] ss all name = refl
 none_torn (k ∷ files) ss all name =
-    ap (λ (l : List Whole). torn_in l name) (joined_cons k files ss) ∙ go (bytes_eq k.name name) where
-      go : (b : Bool) → unwrap_or (option_map (λ (w : Whole). w.torn) (if b then Some (whole k (standing_at ss 0)) else first_of (is_named name) (joined files (later ss)))) false ≡ false
-      go true = all.0
-      go false = none_torn files (later ss) all.1 name
+    ap (λ (l : List Whole). torn_in l name) (joined_cons k files ss) ∙ go (bytes_eq k.name name) (none_torn files (later ss) all.1 name) where
+      go : (b : Bool) → torn_in (joined files (later ss)) name ≡ false → unwrap_or (option_map (λ (w : Whole). w.torn) (if b then Some (whole k (standing_at ss 0)) else first_of (is_named name) (joined files (later ss)))) false ≡ false
+      go true rest = all.0
+      go false rest = rest
 
 pub low_within : (last : ℕ) (files : List KeptFile) (ss : List Standing) → AreLow last files → AreWithin (last + (2 ^ 63 - 1)) (joined files ss)
 low_within last [] ss low = tt
@@ -126,17 +126,18 @@ began_under ss now n began = go (standing_at ss n).lock refl where
   go None e = tt
   go (Some lock) e = began n (standing_at ss n) lock (stands_at ss n (inside ss n lock e)) e
 
-moment_of : (now : ℕ) (lock : Option Lock) → IsMoment now → BeganBefore now lock → BeganAtMoment lock
+pub moment_of : (now : ℕ) (lock : Option Lock) → IsMoment now → BeganBefore now lock → BeganAtMoment lock
 moment_of now None m began = tt
 moment_of now (Some lock) m began = omega (arith, m, began)
 
 pub began_files : (first now : ℕ) (files : List KeptFile) (ss : List Standing) → IsMoment now → ((n : ℕ) → BeganBefore now (standing_at ss n).lock) → (name : List ℕ) → BeganAtMoment (files_of first (joined files ss) name).lock
 began_files first now [] ss m began name = tt
 began_files first now (k ∷ files) ss m began name =
-    subst (λ (l : List Whole). BeganAtMoment (files_of first l name).lock) (sym (joined_cons k files ss)) (go (bytes_eq k.name name)) where
-      go : (b : Bool) → BeganAtMoment (unwrap_or (option_map file_of (if b then Some (whole k (standing_at ss 0)) else first_of (is_named name) (joined files (later ss)))) (never_met first)).lock
-      go true = moment_of now (standing_at ss 0).lock m (began 0)
-      go false = began_files first now files (later ss) m (λ n. subst (λ (s : Standing). BeganBefore now s.lock) (stands_later ss n) (began (suc n))) name
+    subst (λ (l : List Whole). BeganAtMoment (files_of first l name).lock) (sym (joined_cons k files ss))
+    (go (bytes_eq k.name name) (began_files first now files (later ss) m (λ n. subst (λ (s : Standing). BeganBefore now s.lock) (stands_later ss n) (began (suc n))) name)) where
+      go : (b : Bool) → BeganAtMoment (files_of first (joined files (later ss)) name).lock → BeganAtMoment (unwrap_or (option_map file_of (if b then Some (whole k (standing_at ss 0)) else first_of (is_named name) (joined files (later ss)))) (never_met first)).lock
+      go true rest = moment_of now (standing_at ss 0).lock m (began 0)
+      go false rest = rest
 
 pub began_all : (ss : List Standing) (now : ℕ) → BeganBy now ss → (n : ℕ) → BeganBefore now (standing_at ss n).lock
 began_all ss now began n = began_under ss now n began

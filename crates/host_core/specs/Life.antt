@@ -17,6 +17,8 @@ use Rattle.host_core.specs.declared.life.LifeContents.{LifeContents}
 use Rattle.host_core.specs.declared.life.LifeContents.TheVariants as contents
 use Rattle.host_core.specs.declared.life.ReopenFault.{ReopenFault}
 use Rattle.host_core.specs.declared.life.ReopenFault.TheVariants as fault
+use Rattle.host_core.specs.declared.opening.StartFault.{StartFault}
+use Rattle.host_core.specs.declared.opening.StartFault.TheVariants as start
 use Rattle.host_core.specs.Facts.{Dates}
 use Rattle.host_core.specs.Files.{file_of}
 use Rattle.host_core.specs.Names.{AreOnce}
@@ -178,6 +180,12 @@ IfLarge fault.FolderFault P = ⊤
 IfLarge fault.Memory P = ⊤
 IfLarge fault.BadLife P = ⊤
 IfLarge fault.TooManyIds P = ⊤
+
+-- the same fault as that of an opening
+abbrev pub as_reopening : StartFault → ReopenFault
+as_reopening start.FolderFault = fault.FolderFault
+as_reopening (start.TooLarge name) = fault.TooLarge name
+as_reopening start.Memory = fault.Memory
 
 -- there is none for the life, which is none of this shard, or whose ids are too many
 abbrev pub IsOfLife : ReopenFault → Type 0

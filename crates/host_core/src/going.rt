@@ -1,5 +1,5 @@
 //! The files of a shard that goes on: those of its folder, joined to what is told.
-ghost use Rattle.std.specs.Prelude.{◌≡◌, ◌≤◌, ◌<◌, ◌+◌, ◌-◌, ◌^◌, ◌++◌, ◌∷◌, [], ℕ, Option, IfOk, IfSome, OnOk, IsTrue, ◌↔◌, filter, is_none, length, map, nat_le, sum_by};
+ghost use Rattle.std.specs.Prelude.{◌≡◌, ◌≤◌, ◌<◌, ◌+◌, ◌-◌, ◌^◌, ◌++◌, ◌∷◌, [], ℕ, Option, IfOk, IfSome, OnOk, IsTrue, ◌↔◌, filter, if◌then◌else◌, length, map, nat_le};
 ghost use Rattle.std.specs.List.{AllByRecursion};
 ghost use Rattle.host_core.specs.Facts.{AreDigested, date_in, dates_of};
 ghost use Rattle.host_core.specs.Files.{BeganAtMoment};
@@ -201,6 +201,31 @@ fn add_gone(
     Ok(())
 }
 
+/// A file that was told is put behind the others, where none has its name.
+fn add_if_gone(
+    alloc: Global,
+    stock: &mut Stock,
+    told: &mut Vec<ToldLocks>,
+    file: &LifeFile,
+    now: u64,
+) -> Result<(), Memory>
+    requires began { BeganAtMoment file.now.lock }
+    requires numbered { IsNumbered stock.old.index (named stock.old.files.items) }
+    requires few { length stock.old.files.items ≤ 4000000000 }
+    ensures files { OnOk result (stock.new.files.items ≡ stock.old.files.items ++ (if is_unmet (named stock.old.files.items) file.now then kept_gone file.now ∷ [] else [])) }
+    ensures told { OnOk result (told.new.items ≡ told.old.items ++ (if is_unmet (named stock.old.files.items) file.now then locks_on now file.now ∷ [] else [])) }
+    ensures numbered { OnOk result (IsNumbered stock.new.index (named stock.new.files.items)) }
+    ensures bytes { stock.new.bytes ≡ stock.old.bytes }
+    ensures few { OnOk result (length stock.new.files.items ≤ 4000000000) }
+{
+    match stock.index.find(&file.name) {
+        Some(_) => return Ok(()),
+        None => {}
+    }
+    add_gone(alloc, stock, told, file, now)?;
+    Ok(())
+}
+
 /// Those files that were told and aren't in the folder are put behind the others.
 fn take_on_gone(
     alloc: Global,
@@ -223,11 +248,7 @@ fn take_on_gone(
 {
     let mut place = 0;
     'files: while place < life.files.len() {
-        let file = &life.files[place];
-        match stock.index.find(&file.name) {
-            Some(_) => {}
-            None => add_gone(alloc, stock, told, file, life.now)?,
-        }
+        add_if_gone(alloc, stock, told, &life.files[place], life.now)?;
         place += 1;
     }
     Ok(())

@@ -115,11 +115,12 @@ pub fn number_files(alloc: Global, files: &Vec<LifeFile>) -> Result<Option<NameI
     ensures numbered { IfOk result (λ found. IfSome found (λ index. IsNumbered index (life_names files.now.items))) }
 {
     let mut index = NameIndex::new(alloc);
-    if files.len() > MOST_FILES {
+    let count = files.len();
+    if count > MOST_FILES {
         return Err(Memory);
     }
     let mut place = 0;
-    'files: while place < files.len() {
+    'files: while place < count {
         let name = files[place].name.copy();
         match index.find(&name) {
             Some(_) => return Ok(None),

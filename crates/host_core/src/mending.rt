@@ -52,11 +52,7 @@ fn holds<F: Lasting>(folder: &mut F, name: &FileName, contents: &[u8]) -> Result
 }
 
 /// The name holds these bytes then.
-fn put_back<F: Lasting>(
-    folder: &mut F,
-    name: &FileName,
-    contents: &[u8],
-) -> Result<(), ReopenFault>
+fn put_back<F: Lasting>(folder: &mut F, name: &FileName, contents: &[u8]) -> Result<(), ReopenFault>
     ensures here { OnOk result (Holds (F.files folder.new) name.now (Some contents.now)) }
     ensures others { OpensOnly (F.files folder.old) (F.files folder.new) name.now }
     ensures other_times { OpensOnly (F.times folder.old) (F.times folder.new) name.now }

@@ -58,12 +58,7 @@ fn has_room(locks: &KeptLocks, ids: usize) -> bool
 }
 
 /// The ids that are refused on a file, which has none yet, where no file has a lock.
-fn put_ids(
-    locks: &mut KeptLocks,
-    number: u32,
-    spent: &Vec<Spent>,
-    ids: usize,
-) -> Result<(), Memory>
+fn put_ids(locks: &mut KeptLocks, number: u32, spent: &Vec<Spent>, ids: usize) -> Result<(), Memory>
     requires number { number < length locks.old.files }
     requires free { IsFreeOf locks.old.files }
     requires none { standing_at locks.old.files number ≡ unlocked }

@@ -6,9 +6,10 @@ ghost use Rattle.wopi_model.specs.Begin.{Begin};
 ghost use Rattle.wopi_model.specs.Lives.{live_ids};
 ghost use Rattle.host_core.specs.Facts.{Dates};
 ghost use Rattle.host_core.specs.Going.{AreHeld, TakesUp, ids_told};
+ghost use Rattle.host_core.specs.Life as lives;
 ghost use Rattle.host_core.specs.Life.{IfLarge, IsFolderOrMemory, IsGoodLife, IsOfLife, IsReopened, Mends, OpensDoubt, begin_listed, life_names, mended};
 ghost use Rattle.host_core.specs.Numbers.{IsNumbered};
-ghost use Rattle.host_core.specs.Opening.{IfTooLarge, IsTooLarge};
+ghost use Rattle.host_core.specs.Opening.{IsTooLarge};
 
 use crate::files::Rack;
 use crate::going::{Going, are_enough, join};
@@ -28,9 +29,7 @@ use std::snapshot::Snapshot;
 
 /// The same fault.
 fn as_reopening(fault: StartFault) -> ReopenFault
-    ensures large { (P : List ℕ → Type 0) → IfTooLarge fault P → IfLarge result P }
-    ensures failed { result ≡ ReopenFault.FolderFault → fault ≡ StartFault.FolderFault }
-    ensures none { IsOfLife result → ⊥ }
+    ensures { result ≡ lives.as_reopening fault }
 {
     match fault {
         StartFault::FolderFault => return ReopenFault::FolderFault,
@@ -72,6 +71,39 @@ fn take_up<F: Lasting>(
     }
 }
 
+/// The store goes on with what was taken up.
+fn begin_on<F: Lasting>(
+    alloc: Global,
+    folder: &mut F,
+    going: &Going,
+    life: &Life,
+) -> Result<(), ReopenFault>
+    ensures begin { OnOk result ((F.notes folder.new).begin ≡ begin_listed life.entry.now.opened life.entry.now.first life.entry.now.now life.entry.now.last going.now.stock.files.items going.now.told.items) }
+    ensures made { OnOk result ((F.notes folder.new).made ≡ []) }
+    ensures begun { OnOk result ((F.notes folder.new).begun ≡ None) }
+    ensures most { OnOk result ((F.notes folder.new).most ≡ None) }
+    ensures going { OnOk result (F.lost folder.new ≡ false) }
+    ensures log { (F.notes folder.new).log ≡ (F.notes folder.old).log }
+    ensures files { Keeps (F.files folder.old) (F.files folder.new) }
+    ensures never_falls { F.faults folder.old ≤ F.faults folder.new }
+    ensures failed { IfErr result (λ fault. fault ≡ ReopenFault.FolderFault → Rose (F.faults folder.old) (F.faults folder.new)) }
+    ensures why { IfErr result (λ fault. IsFolderOrMemory fault) }
+{
+    match folder.go_on(
+        alloc,
+        &going.stock.files,
+        &going.told,
+        life.opened,
+        life.first,
+        life.now,
+        life.last,
+    ) {
+        Ok(()) => return Ok(()),
+        Err(OutFault::Failed) => return Err(ReopenFault::FolderFault),
+        Err(OutFault::Memory) => return Err(ReopenFault::Memory),
+    }
+}
+
 impl<F: Lasting> Shard<F> {
     ghost use Rattle.host_core.specs.Value.{IsLawful};
 
@@ -102,6 +134,7 @@ impl<F: Lasting> Shard<F> {
         }) }
         ensures reopened { IfOk result (λ shard. IsReopened only (F.files folder) (F.times folder) life shard.begin shard.dates) }
         ensures mends { IfOk result (λ shard. Mends life.files.items (F.files folder) (F.files shard.folder)) }
+        ensures enough { IfOk result (λ shard. live_ids shard.begin.files ≤ ids) }
         ensures going { IfOk result (λ shard. F.lost shard.folder ≡ false) }
         ensures log { IfOk result (λ shard. (F.notes shard.folder).log ≡ (F.notes folder).log) }
         ensures never_falls { IfOk result (λ shard. F.faults folder ≤ F.faults shard.folder) }
@@ -154,6 +187,7 @@ impl<F: Lasting> Shard<F> {
         }) }
         ensures reopened { IfOk result (λ shard. IsReopened only (F.files folder) (F.times folder) life.entry.now shard.begin shard.dates) }
         ensures mends { IfOk result (λ shard. Mends life.entry.now.files.items (F.files folder) (F.files shard.folder)) }
+        ensures enough { IfOk result (λ shard. live_ids shard.begin.files ≤ ids) }
         ensures going { IfOk result (λ shard. F.lost shard.folder ≡ false) }
         ensures log { IfOk result (λ shard. (F.notes shard.folder).log ≡ (F.notes folder).log) }
         ensures never_falls { IfOk result (λ shard. F.faults folder ≤ F.faults shard.folder) }
@@ -180,22 +214,13 @@ impl<F: Lasting> Shard<F> {
             Ok(locks) => locks,
             Err(_) => return Err((folder, ReopenFault::Memory)),
         };
-        match folder.go_on(
-            alloc,
-            &going.stock.files,
-            &going.told,
-            life.opened,
-            life.first,
-            life.now,
-            life.last,
-        ) {
-            Ok(()) => {}
-            Err(OutFault::Failed) => return Err((folder, ReopenFault::FolderFault)),
-            Err(OutFault::Memory) => return Err((folder, ReopenFault::Memory)),
+        match begin_on(alloc, &mut folder, &going, life) {
+            Err(fault) => return Err((folder, fault)),
+            Ok(()) => {
+                let shard = Shard::assemble_on(alloc, folder, only, start, going, locks, ids, life);
+                return Ok(shard);
+            }
         }
-        Ok(Shard::assemble_on(
-            alloc, folder, only, start, going, locks, ids, life,
-        ))
     }
 
     /// The shard over a store that goes on, with the files and the locks that were taken up.
@@ -232,6 +257,7 @@ impl<F: Lasting> Shard<F> {
           folder = folder;
         } }
         ensures reopened { IsReopened only (F.files start.value) (F.times start.value) life.entry.now result.begin result.dates }
+        ensures enough { live_ids result.begin.files ≤ ids }
         ensures lawful { IsLawful result (F.files result.start) (F.files result.folder) (F.faults result.start) (F.faults result.folder) }
     {
         let ticked = Snapshot::of(&false);

@@ -1,4 +1,4 @@
-use Rattle.std.proofs.Common.{◌≡◌, ◌∷◌, List, length, refl, sym, ap, ◌∙◌, arith}
+use Rattle.std.proofs.Common.{◌≡◌, ◌∷◌, None, Some, List, length, refl, sym, ap, ◌∙◌, arith}
 use Rattle.std.proofs.lemmas.List.{length-map}
 use Rattle.kept_locks.specs.Locks.{Standing, all_ended, ended_at}
 use Rattle.wopi_model.specs.declared.locks.Lock.{Lock}
@@ -8,7 +8,7 @@ use Rattle.host_core.proofs.Turning.{long_set}
 use Rattle.host_core.proofs.relocking.put_id.Goals as goal
 
 pub set-requires-clause-since : goal.set-requires-clause-since
-set-requires-clause-since c = free_began c.args.locks.now.files c.args.number 0 _ refl c.requires.free
+set-requires-clause-since c = free_began c.args.locks.now.files c.args.number 0 (record { id = c.args.one.id; since = 0; until = c.args.one.until }) refl c.requires.free
 
 pub returns-clause-here : goal.returns-clause-here
 returns-clause-here c =
@@ -31,4 +31,4 @@ returns-clause-free c =
 pub returns-clause-long : goal.returns-clause-long
 returns-clause-long c =
     ap (λ (l : List Standing). length l) c.settle.ensures.files ∙ length-map c.set.new.self.files (ended_at 1800000)
-    ∙ ap (λ (l : List Standing). length l) c.set.ensures.files ∙ long_set c.args.locks.now.files c.args.number _ _ 0
+    ∙ ap (λ (l : List Standing). length l) c.set.ensures.files ∙ long_set c.args.locks.now.files c.args.number (Some (record { id = c.args.one.id; since = 0; until = c.args.one.until })) None 0

@@ -1,4 +1,4 @@
-use Rattle.std.proofs.Common.{inr, List, length, ap, ◌∙◌}
+use Rattle.std.proofs.Common.{inr, None, Some, List, length, ap, ◌∙◌}
 use Rattle.kept_locks.specs.Locks.{Standing}
 use Rattle.host_core.specs.Whole.{standing_at}
 use Rattle.host_core.proofs.Regains.{lock_began, lock_here}
@@ -14,10 +14,10 @@ returns-clause-here c =
 
 pub returns-clause-others : goal.returns-clause-others
 returns-clause-others c = λ other differ.
-    ap (λ (l : List Standing). standing_at l other) c.set.ensures.files ∙ stands_beside c.args.locks.now.files c.args.number _ _ 0 other differ
+    ap (λ (l : List Standing). standing_at l other) c.set.ensures.files ∙ stands_beside c.args.locks.now.files c.args.number (Some c.args.lock) None 0 other differ
 
 pub returns-clause-long : goal.returns-clause-long
-returns-clause-long c = ap (λ (l : List Standing). length l) c.set.ensures.files ∙ long_set c.args.locks.now.files c.args.number _ _ 0
+returns-clause-long c = ap (λ (l : List Standing). length l) c.set.ensures.files ∙ long_set c.args.locks.now.files c.args.number (Some c.args.lock) None 0
 
 pub returns-clause-began : goal.returns-clause-began
 returns-clause-began c =

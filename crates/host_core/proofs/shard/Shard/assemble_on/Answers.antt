@@ -23,7 +23,7 @@ use Rattle.host_core.proofs.Dating.{dated_start}
 use Rattle.host_core.proofs.Standing.{rose-begin, lawful}
 use Rattle.host_core.proofs.Regains.{all_stand}
 use Rattle.host_core.proofs.Reopens.{agrees_on, began_all, began_files, bytes_on, files_listed, ids_on, keeps_begin, keeps_live, low_within, names_listed, none_torn}
-use Rattle.host_core.proofs.shard.reopening.Shard.assemble_on.Goals as goal
+use Rattle.host_core.proofs.shard.Shard.assemble_on.Goals as goal
 
 pub invariant_of-result : goal.invariant_of-result
 invariant_of-result g c =
@@ -146,3 +146,12 @@ returns-clause-reopened g c =
       found_names = taken.found_names;
       dates_are = ap (λ v. dates_of v.items) c.of-opening.ensures ∙ is.dates_are;
     }
+
+pub returns-clause-enough : goal.returns-clause-enough
+returns-clause-enough g c =
+    let stock = c.args.going.stock in
+    let told = c.args.going.told.items in
+    let counted = ids_on stock.files.items told c.requires.going.going_is.long in
+    let enough = c.requires.enough in
+    let begins = ap (λ (b : Begin). live_ids b.files) c.requires.begin in
+    omega (arith, counted, enough, begins)
