@@ -325,10 +325,13 @@ at_either P (x ∷ xs) ys name p q = go (bytes_eq x.0 name) (λ h. at_either P x
   go true rest h = h
   go false rest h = rest h
 
-at_none : (files : List LifeFile) (name : List ℕ) → at_name 0 (map (λ file. (file.name, 0)) files) name ≡ 0
+abbrev zeros : List LifeFile → Dates
+zeros files = map (λ file. (file.name, 0)) files
+
+at_none : (files : List LifeFile) (name : List ℕ) → ◌≡◌ {A = ℕ} (at_name 0 (zeros files) name) 0
 at_none [] name = refl
 at_none (file ∷ files) name = go (bytes_eq file.name name) (at_none files name) where
-  go : (b : Bool) → at_name 0 (map (λ file. (file.name, 0)) files) name ≡ 0 → (if b then 0 else at_name 0 (map (λ file. (file.name, 0)) files) name) ≡ 0
+  go : (b : Bool) → ◌≡◌ {A = ℕ} (at_name 0 (zeros files) name) 0 → ◌≡◌ {A = ℕ} (if b then 0 else at_name 0 (zeros files) name) 0
   go true rest = refl
   go false rest = rest
 

@@ -114,7 +114,7 @@ pub fn number_files(alloc: Global, files: &Vec<LifeFile>) -> Result<Option<NameI
     ensures once { IfOk result (λ found. IsSome found ↔ AreOnce (life_names files.now.items)) }
     ensures numbered { IfOk result (λ found. IfSome found (λ index. IsNumbered index (life_names files.now.items))) }
 {
-    let mut index = NameIndex::new(alloc);
+    let mut numbers = NameIndex::new(alloc);
     let count = files.len();
     if count > MOST_FILES {
         return Err(Memory);
@@ -122,12 +122,12 @@ pub fn number_files(alloc: Global, files: &Vec<LifeFile>) -> Result<Option<NameI
     let mut place = 0;
     'files: while place < count {
         let name = files[place].name.copy();
-        match index.find(&name) {
+        match numbers.find(&name) {
             Some(_) => return Ok(None),
             None => {}
         }
-        index.add(name, place as u32)?;
+        numbers.add(name, place as u32)?;
         place += 1;
     }
-    Ok(Some(index))
+    Ok(Some(numbers))
 }

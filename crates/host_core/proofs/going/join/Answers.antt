@@ -3,10 +3,19 @@ use Rattle.kept_locks.specs.Locks.{Standing}
 use Rattle.host_core.specs.declared.file.KeptFile.{KeptFile}
 use Rattle.host_core.specs.Going.{is_unmet, kept_gone, kept_on, locks_in, locks_on}
 use Rattle.host_core.specs.Names.{AreOnce}
-use Rattle.host_core.specs.Numbers.{named}
-use Rattle.host_core.proofs.Joins.{going}
+use Rattle.host_core.specs.Numbers.{IsNumbered, named}
+use Rattle.host_core.proofs.Joins.{going, names_on}
 use Rattle.host_core.proofs.Starting.{sorted_once}
 use Rattle.host_core.proofs.going.join.Goals as goal
+
+pub take_on_gone-requires-clause-numbered : goal.take_on_gone-requires-clause-numbered
+take_on_gone-requires-clause-numbered c =
+    subst (IsNumbered c.args.stock.now.index) (sym (names_on c.args.life.now c.args.stock.now.files.items) ∙ sym (ap named c.in_ok-told.ensures.files)) c.requires.stock.numbered
+
+pub take_on_gone-requires-clause-once : goal.take_on_gone-requires-clause-once
+take_on_gone-requires-clause-once c =
+    subst AreOnce (sym (names_on c.args.life.now c.args.stock.now.files.items) ∙ sym (ap named c.in_ok-told.ensures.files))
+    (subst AreOnce (sym c.requires.stock.names) (sorted_once _ c.requires.ordered))
 
 pub returns : goal.returns
 returns c =

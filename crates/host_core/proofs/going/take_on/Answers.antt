@@ -15,8 +15,8 @@ index-told-requires c =
     let (one, told, there, inside) = told_some life.files.items name c.in-Some.number (sym (c.requires.numbered name) ∙ sym c.in-Some.ensures) in
     omega (arith, inside, life.files.ok.0)
 
-pub locks_of-locks-requires : goal.locks_of-locks-requires
-locks_of-locks-requires c =
+pub locks_of-requires : goal.locks_of-requires
+locks_of-requires c =
     let life = c.args.life.now in
     let name = c.args.file.now.name in
     let told = c.index-told.result.now in
@@ -49,16 +49,16 @@ returns-in-None-clause-locks c =
     let none = told_none life.files.items file.name (sym (c.requires.numbered file.name) ∙ sym c.in-None.ensures) in
     ap (λ (s : List Spent). record { lock = None; spent = s }) c.new.ensures.items ∙ sym (ap (locks_found life.now) none)
 
-pub returns-clause-file : goal.returns-clause-file
-returns-clause-file c =
+pub returns-in-Some-clause-file : goal.returns-in-Some-clause-file
+returns-in-Some-clause-file c =
     let life = c.args.life.now in
     let file = c.args.file.now in
     let told = told_found life.files.items file.name c.in-Some.number c.index-told.result.now (sym (c.requires.numbered file.name) ∙ sym c.in-Some.ensures) c.index-told.ensures in
     ap (λ (v : ℕ). record file { version = v }) c.version_on-file.ensures
     ∙ sym (ap (λ (o : Option LifeFile). record file { version = version_found life.first o file.contents }) told)
 
-pub returns-clause-locks : goal.returns-clause-locks
-returns-clause-locks c =
+pub returns-in-Some-clause-locks : goal.returns-in-Some-clause-locks
+returns-in-Some-clause-locks c =
     let life = c.args.life.now in
     let file = c.args.file.now in
     let told = told_found life.files.items file.name c.in-Some.number c.index-told.result.now (sym (c.requires.numbered file.name) ∙ sym c.in-Some.ensures) c.index-told.ensures in

@@ -19,9 +19,9 @@ files-preserved c =
     let more : life_names (take (place + 1) files) ≡ names ++ name ∷ [] =
     names_more files place file lt c.index.ensures ∙ ap (λ (n : List ℕ). names ++ n ∷ []) (sym c.copy-name.ensures) in
     let long = names_long files place (omega (arith, lt)) in
-    let none : number_of c.files.index name ≡ None = sym c.in-None.ensures in (
+    let none : number_of c.files.numbers name ≡ None = sym c.in-None.ensures in (
       omega (arith, lt),
-      subst (IsNumbered c.add.new.self) (sym more) (numbered_push c.files.index c.add.new.self names name place c.files.invariant.1 none (sym long) c.in_ok-add.ensures.ok),
+      subst (IsNumbered c.add.new.self) (sym more) (numbered_push c.files.numbers c.add.new.self names name place c.files.invariant.1 none (sym long) c.in_ok-add.ensures.ok),
       subst AreOnce (sym more) (once_push names name (sym (c.files.invariant.1 name) ∙ none) c.files.invariant.2),
     )
 

@@ -1,5 +1,5 @@
 use Rattle.std.proofs.Common.{◌≡◌, ◌<◌, ◌≤◌, ℕ, List, Option, option_map, refl, sym, ap, subst, ◌∙◌, arith}
-use Rattle.outside.specs.Folder.{Keeps}
+use Rattle.outside.specs.Folder.{Files, Keeps}
 use Rattle.wopi_model.specs.Lives.{live_ids}
 use Rattle.wopi_model.specs.File.{File}
 use Rattle.host_core.specs.Facts.{dates_of}
@@ -68,7 +68,8 @@ returns-in-Err-begin_on-clause-handed g c =
 pub assemble_on-shard-requires-clause-mends : goal.assemble_on-shard-requires-clause-mends
 assemble_on-shard-requires-clause-mends g c =
     let files = g.F.Store.files in
-    mends_then c.args.life.now.files.items (files c.args.folder) (files c.take_up.new.folder) (files c.begin_on.new.folder) c.in-Ok.ensures.mends c.begin_on.ensures.files
+    subst (λ (o : Option Files). Mends c.args.life.now.files.items o (files c.begin_on.new.folder)) (sym (ap files c.of-start.ensures))
+    (mends_then c.args.life.now.files.items (files c.args.folder) (files c.take_up.new.folder) (files c.begin_on.new.folder) c.in-Ok.ensures.mends c.begin_on.ensures.files)
 
 pub returns-in-Ok-begin_on-clause-mends : goal.returns-in-Ok-begin_on-clause-mends
 returns-in-Ok-begin_on-clause-mends g c =
