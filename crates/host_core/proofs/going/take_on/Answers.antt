@@ -62,4 +62,4 @@ returns-in-Some-clause-locks c =
     let life = c.args.life.now in
     let file = c.args.file.now in
     let told = told_found life.files.items file.name c.in-Some.number c.index-told.result.now (sym (c.requires.numbered file.name) ∙ sym c.in-Some.ensures) c.index-told.ensures in
-    c.in_ok-locks.ensures ∙ sym (ap (locks_found life.now) told)
+    c.in_ok-locks-in-Some.ensures ∙ sym (ap (locks_found life.now) told)
