@@ -30,7 +30,7 @@ brought_as saved = (Some saved.version, saved.contents.value)
 
 -- the log of the shard of that number, as it was taken into use
 abbrev pub started : ℕ → LinesView → LogStart
-started shard v = record { shard = shard; held = v.start; faults = v.began }
+started shard v = record { shard = shard; syncs_all = v.all; held = v.start; faults = v.began }
 
 abbrev pub view_of : {F L : Type 0} → Inside F L → LogView F
 view_of l = record {
