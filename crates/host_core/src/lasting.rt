@@ -34,6 +34,8 @@ pub trait Lasting: Store {
 
     /// Goes on with these files, each with the locks at its place: the shard was opened anew at `opened` over files of the
     /// version `first`, its time is `now`, and the last entry before has the stamp `last`.
+    /// Where that isn't what was told, as when a file was taken in at its next version, the store has to keep it: the version would else
+    /// be told of other contents once more is opened.
     fn go_on(
         &mut self,
         alloc: Global,
