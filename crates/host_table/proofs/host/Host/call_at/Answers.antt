@@ -1,7 +1,7 @@
 use Rattle.std.proofs.Common.{sym, ◌∙◌}
 use Rattle.host_core.proofs.Results.{ifok_map}
 use Rattle.host_table.proofs.Turning.{err_map, lost_of}
-use Rattle.host_table.proofs.host.Host.call.Goals as goal
+use Rattle.host_table.proofs.host.Host.call_at.Goals as goal
 
 pub returns-clause-told : goal.returns-clause-told
 returns-clause-told g c =
