@@ -1,8 +1,8 @@
 use Rattle.std.proofs.Common.{◌≡◌, Err, inl, ap}
 use Rattle.line_text.specs.declared.input.InputFault.TheVariants.{Text}
 use Rattle.journal_segments.specs.declared.walking.SegmentFault.TheVariants as fault
-use Rattle.journal_segments.proofs.Coming.{ended, missing, restored}
-use Rattle.journal_segments.proofs.reading.read_segment.Goals as goal
+use Rattle.journal_segments.proofs.Coming.{ended, missing, watched}
+use Rattle.journal_segments.proofs.reading.watch_segment.Goals as goal
 
 pub returns-in-Err-clause-head : goal.returns-in-Err-clause-head
 returns-in-Err-clause-head g c = λ is.
@@ -25,34 +25,34 @@ returns-in-Err-clause-too_long g c = λ is.
 pub finish-requires : goal.finish-requires
 finish-requires g c = let so = c.in-Ok-read_text.ensures.whole in (so.bytes, so.says)
 
-pub returns-in-Ok-finish-clause-restored : goal.returns-in-Ok-finish-clause-restored
-returns-in-Ok-finish-clause-restored g c =
-    restored (g.S.Source.left c.args.source.now) (g.S.Source.left c.read_text.new.source) c.read_text.new.text c.in-Ok-finish.read c.in-Ok-read_text.ensures.whole
-    c.in-Ok-read_text.ensures.end c.in-Ok-finish.ensures.restored
+pub returns-in-Ok-finish-clause-watched : goal.returns-in-Ok-finish-clause-watched
+returns-in-Ok-finish-clause-watched g c =
+    watched g.W.Watcher.has_seen (g.S.Source.left c.args.source.now) (g.S.Source.left c.read_text.new.source) c.read_text.new.text c.in-Ok-finish.read.0 c.in-Ok-finish.read.1
+    c.in-Ok-read_text.ensures.whole c.in-Ok-read_text.ensures.end c.in-Ok-finish.ensures.seen
 
 pub returns-in-Err-finish-clause-head : goal.returns-in-Err-finish-clause-head
 returns-in-Err-finish-clause-head g c = λ is.
     let same : c.in-Err-finish.fault ≡ fault.Head = cc is in
-    missing (g.S.Source.left c.args.source.now) (g.S.Source.left c.read_text.new.source) c.read_text.new.text c.in-Err-finish.fault c.in-Ok-read_text.ensures.whole
+    missing g.W.Watcher.has_seen (g.S.Source.left c.args.source.now) (g.S.Source.left c.read_text.new.source) c.read_text.new.text c.in-Err-finish.fault c.in-Ok-read_text.ensures.whole
     c.in-Ok-read_text.ensures.end c.in-Err-finish.ensures.head same
 
 pub returns-in-Err-finish-clause-bad : goal.returns-in-Err-finish-clause-bad
 returns-in-Err-finish-clause-bad g c = λ line is.
     let same : c.in-Err-finish.fault ≡ fault.Bad line = cc is in
-    let end = ended (g.S.Source.left c.args.source.now) (g.S.Source.left c.read_text.new.source) c.read_text.new.text c.in-Err-finish.fault (fault.Bad line) c.in-Ok-read_text.ensures.whole
+    let end = ended g.W.Watcher.has_seen (g.S.Source.left c.args.source.now) (g.S.Source.left c.read_text.new.source) c.read_text.new.text c.in-Err-finish.fault (fault.Bad line) c.in-Ok-read_text.ensures.whole
     c.in-Err-finish.ensures.head same in
     absurd end.1
 
 pub returns-in-Err-finish-clause-long : goal.returns-in-Err-finish-clause-long
 returns-in-Err-finish-clause-long g c = λ line is.
     let same : c.in-Err-finish.fault ≡ fault.Long line = cc is in
-    let end = ended (g.S.Source.left c.args.source.now) (g.S.Source.left c.read_text.new.source) c.read_text.new.text c.in-Err-finish.fault (fault.Long line) c.in-Ok-read_text.ensures.whole
+    let end = ended g.W.Watcher.has_seen (g.S.Source.left c.args.source.now) (g.S.Source.left c.read_text.new.source) c.read_text.new.text c.in-Err-finish.fault (fault.Long line) c.in-Ok-read_text.ensures.whole
     c.in-Err-finish.ensures.head same in
     absurd end.1
 
 pub returns-in-Err-finish-clause-too_long : goal.returns-in-Err-finish-clause-too_long
 returns-in-Err-finish-clause-too_long g c = λ is.
     let same : c.in-Err-finish.fault ≡ fault.TooLong = cc is in
-    let end = ended (g.S.Source.left c.args.source.now) (g.S.Source.left c.read_text.new.source) c.read_text.new.text c.in-Err-finish.fault fault.TooLong c.in-Ok-read_text.ensures.whole
+    let end = ended g.W.Watcher.has_seen (g.S.Source.left c.args.source.now) (g.S.Source.left c.read_text.new.source) c.read_text.new.text c.in-Err-finish.fault fault.TooLong c.in-Ok-read_text.ensures.whole
     c.in-Err-finish.ensures.head same in
     absurd end.1
