@@ -46,6 +46,8 @@ use std::snapshot::Snapshot;
 use wopi_model::{Call, Ruling};
 use wopi_text::{Bytes, FileName, Memory};
 
+mod reopening;
+
 /// A step that was made for an editor, and what its file is like then, if it exists.
 #[derive(Drop)]
 pub struct EditorStep {
