@@ -69,6 +69,7 @@ sample rule.Each = 49 ∷ []
 sample rule.First = 49 ∷ []
 sample rule.Links = 49 ∷ []
 sample rule.Ids = 49 ∷ []
+sample rule.Sync = codes "all"
 sample rule.Logs = letter
 sample rule.Origin = codes "http://a"
 
@@ -97,6 +98,7 @@ sample_keeps rule.Each = refl
 sample_keeps rule.First = refl
 sample_keeps rule.Links = refl
 sample_keeps rule.Ids = refl
+sample_keeps rule.Sync = refl
 sample_keeps rule.Logs = lit< tt
 sample_keeps rule.Origin = record {
   secure = false;

@@ -32,10 +32,10 @@ plain_parts k places plain =
 -- of these options the adapters take nothing
 as_default : (options : List (List ℕ)) (verbose : Bool) (around : Around) → AreRunOptions options → IsAround options verbose around → IsAround [] verbose around
 as_default options verbose around are is = record {
-  listen = subst (λ (l : List (List ℕ)). text_of (codes "127.0.0.1") l ≡ Some (string_bytes around.listen)) (no_values (codes "--listen") refl refl refl refl refl options are) is.listen;
-  idle = subst (λ (l : List (List ℕ)). number_of 60 l ≡ Some around.idle) (no_values (codes "--idle") refl refl refl refl refl options are) is.idle;
-  patience = subst (λ (l : List (List ℕ)). number_of 120 l ≡ Some around.patience) (no_values (codes "--patience") refl refl refl refl refl options are) is.patience;
-  grace = subst (λ (l : List (List ℕ)). number_of 30 l ≡ Some around.grace) (no_values (codes "--grace") refl refl refl refl refl options are) is.grace;
+  listen = subst (λ (l : List (List ℕ)). text_of (codes "127.0.0.1") l ≡ Some (string_bytes around.listen)) (no_values (codes "--listen") refl refl refl refl refl refl options are) is.listen;
+  idle = subst (λ (l : List (List ℕ)). number_of 60 l ≡ Some around.idle) (no_values (codes "--idle") refl refl refl refl refl refl options are) is.idle;
+  patience = subst (λ (l : List (List ℕ)). number_of 120 l ≡ Some around.patience) (no_values (codes "--patience") refl refl refl refl refl refl options are) is.patience;
+  grace = subst (λ (l : List (List ℕ)). number_of 30 l ≡ Some around.grace) (no_values (codes "--grace") refl refl refl refl refl refl options are) is.grace;
   verbose_is = is.verbose_is;
 }
 
@@ -143,10 +143,10 @@ all_lack k places options plain = ap (λ (l : List (List ℕ)). lacks_value k l)
 
 of_default : (options : List (List ℕ)) (around : Around) → AreRunOptions options → IsAround [] false around → IsAround options false around
 of_default options around are is = record {
-  listen = subst (λ (l : List (List ℕ)). text_of (codes "127.0.0.1") l ≡ Some (string_bytes around.listen)) (sym (no_values (codes "--listen") refl refl refl refl refl options are)) is.listen;
-  idle = subst (λ (l : List (List ℕ)). number_of 60 l ≡ Some around.idle) (sym (no_values (codes "--idle") refl refl refl refl refl options are)) is.idle;
-  patience = subst (λ (l : List (List ℕ)). number_of 120 l ≡ Some around.patience) (sym (no_values (codes "--patience") refl refl refl refl refl options are)) is.patience;
-  grace = subst (λ (l : List (List ℕ)). number_of 30 l ≡ Some around.grace) (sym (no_values (codes "--grace") refl refl refl refl refl options are)) is.grace;
+  listen = subst (λ (l : List (List ℕ)). text_of (codes "127.0.0.1") l ≡ Some (string_bytes around.listen)) (sym (no_values (codes "--listen") refl refl refl refl refl refl options are)) is.listen;
+  idle = subst (λ (l : List (List ℕ)). number_of 60 l ≡ Some around.idle) (sym (no_values (codes "--idle") refl refl refl refl refl refl options are)) is.idle;
+  patience = subst (λ (l : List (List ℕ)). number_of 120 l ≡ Some around.patience) (sym (no_values (codes "--patience") refl refl refl refl refl refl options are)) is.patience;
+  grace = subst (λ (l : List (List ℕ)). number_of 30 l ≡ Some around.grace) (sym (no_values (codes "--grace") refl refl refl refl refl refl options are)) is.grace;
   verbose_is = is.verbose_is;
 }
 

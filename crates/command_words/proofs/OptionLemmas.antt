@@ -21,26 +21,28 @@ pub not_true : (b : Bool) → (b ≡ true → ⊥) → b ≡ false
 not_true true never = absurd (never refl)
 not_true false never = refl
 
--- what holds of the five names holds of an option that the program reads itself
-pub of_run_name : (P : List ℕ → Type 0) → P (codes "--journal") → P (codes "--each") → P (codes "--first") → P (codes "--links") → P (codes "--ids")
+-- what holds of the six names holds of an option that the program reads itself
+pub of_run_name : (P : List ℕ → Type 0) → P (codes "--journal") → P (codes "--each") → P (codes "--first") → P (codes "--links") → P (codes "--ids") → P (codes "--sync")
     → (word : List ℕ) → is_run_option word ≡ true → P word
 unfolding is_run_option
-of_run_name P journal each first links ids word is =
+of_run_name P journal each first links ids sync word is =
     let at : (name : List ℕ) → P name → bytes_eq word name ≡ true → P word = λ name p e. subst P (sym (same_bytes word name e)) p in
-    or_cases (bytes_eq word (codes "--journal") || bytes_eq word (codes "--each") || bytes_eq word (codes "--first") || bytes_eq word (codes "--links")) (bytes_eq word (codes "--ids"))
+    or_cases (bytes_eq word (codes "--journal") || bytes_eq word (codes "--each") || bytes_eq word (codes "--first") || bytes_eq word (codes "--links") || bytes_eq word (codes "--ids")) (bytes_eq word (codes "--sync"))
+    (or_cases (bytes_eq word (codes "--journal") || bytes_eq word (codes "--each") || bytes_eq word (codes "--first") || bytes_eq word (codes "--links")) (bytes_eq word (codes "--ids"))
     (or_cases (bytes_eq word (codes "--journal") || bytes_eq word (codes "--each") || bytes_eq word (codes "--first")) (bytes_eq word (codes "--links"))
     (or_cases (bytes_eq word (codes "--journal") || bytes_eq word (codes "--each")) (bytes_eq word (codes "--first"))
     (or_cases (bytes_eq word (codes "--journal")) (bytes_eq word (codes "--each")) (at (codes "--journal") journal) (at (codes "--each") each))
     (at (codes "--first") first))
     (at (codes "--links") links))
-    (at (codes "--ids") ids) is
+    (at (codes "--ids") ids))
+    (at (codes "--sync") sync) is
 
 -- it begins with a hyphen
 abbrev HasHyphen : List ℕ → Type 0
 HasHyphen word = slice_index word 0 ≡ 45
 
 run_hyphen : (word : List ℕ) → is_run_option word ≡ true → HasHyphen word
-run_hyphen word is = of_run_name HasHyphen refl refl refl refl refl word is
+run_hyphen word is = of_run_name HasHyphen refl refl refl refl refl refl word is
 
 named_hyphen : (word name : List ℕ) → HasHyphen name → bytes_eq word name ≡ true → HasHyphen word
 named_hyphen word name has is = subst HasHyphen (sym (same_bytes word name is)) has

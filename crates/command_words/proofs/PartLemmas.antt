@@ -40,7 +40,7 @@ plain_halved k (word ∷ places) options plain =
     ap (λ (l : List (List ℕ)). l ++ halved k (places ++ options)) (plain_whole k word plain.0) ∙ ap (λ (l : List (List ℕ)). word ∷ l) (plain_halved k places options plain.1)
 
 run_whole : (name : List ℕ) → is_run_option name ≡ true → halves kind.Serve name ≡ name ∷ []
-run_whole name is = of_run_name (λ word. halves kind.Serve word ≡ word ∷ []) refl refl refl refl refl name is
+run_whole name is = of_run_name (λ word. halves kind.Serve word ≡ word ∷ []) refl refl refl refl refl refl name is
 
 pub options_halved : (options : List (List ℕ)) → AreRunOptions options → halved kind.Serve options ≡ options
 options_halved [] are = refl
@@ -61,7 +61,7 @@ plain_parted k (word ∷ places) options plain =
 
 pub run_no_flag : (name : List ℕ) → is_run_option name ≡ true → is_flag kind.Serve name ≡ false
 unfolding is_flag
-run_no_flag name is = of_run_name (λ word. (bytes_eq word (codes "--verbose") || bytes_eq word (codes "--editor")) ≡ false) refl refl refl refl refl name is
+run_no_flag name is = of_run_name (λ word. (bytes_eq word (codes "--verbose") || bytes_eq word (codes "--editor")) ≡ false) refl refl refl refl refl refl name is
 
 pub run_taken : (name : List ℕ) → is_run_option name ≡ true → takes kind.Serve name ≡ true
 unfolding takes
@@ -81,24 +81,24 @@ run_options_stay (name ∷ value ∷ options) are =
 
 -- an option of another name isn't among them
 pub no_option : (other : List ℕ) → bytes_eq (codes "--journal") other ≡ false → bytes_eq (codes "--each") other ≡ false → bytes_eq (codes "--first") other ≡ false
-    → bytes_eq (codes "--links") other ≡ false → bytes_eq (codes "--ids") other ≡ false → (options : List (List ℕ)) → AreRunOptions options → option_words other options ≡ []
-no_option other a b c d e [] are = refl
-no_option other a b c d e (name ∷ []) are = absurd are
-no_option other a b c d e (name ∷ value ∷ options) are =
-    let apart : bytes_eq name other ≡ false = of_run_name (λ word. bytes_eq word other ≡ false) a b c d e name are.0 in
-    ap (λ t. if t then name ∷ value ∷ option_words other options else option_words other options) apart ∙ no_option other a b c d e options are.2
+    → bytes_eq (codes "--links") other ≡ false → bytes_eq (codes "--ids") other ≡ false → bytes_eq (codes "--sync") other ≡ false → (options : List (List ℕ)) → AreRunOptions options → option_words other options ≡ []
+no_option other a b c d e f [] are = refl
+no_option other a b c d e f (name ∷ []) are = absurd are
+no_option other a b c d e f (name ∷ value ∷ options) are =
+    let apart : bytes_eq name other ≡ false = of_run_name (λ word. bytes_eq word other ≡ false) a b c d e f name are.0 in
+    ap (λ t. if t then name ∷ value ∷ option_words other options else option_words other options) apart ∙ no_option other a b c d e f options are.2
 
 -- none that stands in front is
 pub no_front : (options : List (List ℕ)) → AreRunOptions options → front_words options ≡ []
 no_front options are =
-    ap (λ (l : List (List ℕ)). l ++ option_words (codes "--keep") options) (no_option (codes "--origin") refl refl refl refl refl options are)
-    ∙ no_option (codes "--keep") refl refl refl refl refl options are
+    ap (λ (l : List (List ℕ)). l ++ option_words (codes "--keep") options) (no_option (codes "--origin") refl refl refl refl refl refl options are)
+    ∙ no_option (codes "--keep") refl refl refl refl refl refl options are
 
 -- an option of another name has no value among them
 pub no_values : (other : List ℕ) → bytes_eq (codes "--journal") other ≡ false → bytes_eq (codes "--each") other ≡ false → bytes_eq (codes "--first") other ≡ false
-    → bytes_eq (codes "--links") other ≡ false → bytes_eq (codes "--ids") other ≡ false → (options : List (List ℕ)) → AreRunOptions options → values_of other options ≡ []
-no_values other a b c d e [] are = refl
-no_values other a b c d e (name ∷ []) are = absurd are
-no_values other a b c d e (name ∷ value ∷ options) are =
-    let apart : bytes_eq name other ≡ false = of_run_name (λ word. bytes_eq word other ≡ false) a b c d e name are.0 in
-    ap (λ t. if t then value ∷ values_of other options else values_of other options) apart ∙ no_values other a b c d e options are.2
+    → bytes_eq (codes "--links") other ≡ false → bytes_eq (codes "--ids") other ≡ false → bytes_eq (codes "--sync") other ≡ false → (options : List (List ℕ)) → AreRunOptions options → values_of other options ≡ []
+no_values other a b c d e f [] are = refl
+no_values other a b c d e f (name ∷ []) are = absurd are
+no_values other a b c d e f (name ∷ value ∷ options) are =
+    let apart : bytes_eq name other ≡ false = of_run_name (λ word. bytes_eq word other ≡ false) a b c d e f name are.0 in
+    ap (λ t. if t then value ∷ values_of other options else values_of other options) apart ∙ no_values other a b c d e f options are.2

@@ -41,6 +41,7 @@ option_rule name =
     else if bytes_eq name (codes "--first") then Some rule.First
     else if bytes_eq name (codes "--links") then Some rule.Links
     else if bytes_eq name (codes "--ids") then Some rule.Ids
+    else if bytes_eq name (codes "--sync") then Some rule.Sync
     else None
 
 -- the words behind `--origin` and its value, where these stand at their front, or all of them
@@ -120,9 +121,9 @@ abbrev pub next_of : List (List ℕ) → Next
 next_of [] = next.Command
 next_of (name ∷ words) = next_in name words
 
--- no journal is written where logs are kept, and no number of ids stands where none are
+-- no journal is written where logs are kept; where none are, there stands no number of ids and nothing of syncs
 abbrev pub goes_with : Bool → List ℕ → Bool
-goes_with keeps word = if keeps then not (bytes_eq word (codes "--journal")) else not (bytes_eq word (codes "--ids"))
+goes_with keeps word = if keeps then not (bytes_eq word (codes "--journal")) else not (bytes_eq word (codes "--ids")) && not (bytes_eq word (codes "--sync"))
 
 abbrev pub is_keep_or_option : List ℕ → Bool
 is_keep_or_option word = bytes_eq word (codes "--keep") || (is_some (option_rule word) && goes_with false word)

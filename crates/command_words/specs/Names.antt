@@ -29,6 +29,7 @@ name_of_rule rule.Each = codes "--each"
 name_of_rule rule.First = codes "--first"
 name_of_rule rule.Links = codes "--links"
 name_of_rule rule.Ids = codes "--ids"
+name_of_rule rule.Sync = codes "--sync"
 name_of_rule rule.Logs = codes "--keep"
 name_of_rule rule.Origin = codes "--origin"
 

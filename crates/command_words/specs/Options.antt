@@ -6,7 +6,7 @@ use Rattle.command_words.specs.declared.options.Kind.TheVariants as kind
 
 -- those of `serve` that the program reads itself
 unfoldable pub is_run_option : List ℕ → Bool
-is_run_option word = bytes_eq word (codes "--journal") || bytes_eq word (codes "--each") || bytes_eq word (codes "--first") || bytes_eq word (codes "--links") || bytes_eq word (codes "--ids")
+is_run_option word = bytes_eq word (codes "--journal") || bytes_eq word (codes "--each") || bytes_eq word (codes "--first") || bytes_eq word (codes "--links") || bytes_eq word (codes "--ids") || bytes_eq word (codes "--sync")
 
 -- those of `serve` that the adapters take
 unfoldable pub is_around_option : List ℕ → Bool

@@ -1,7 +1,8 @@
 -- What the words of a command have to be. (Own: as the program reads them.)
-use Rattle.std.specs.Prelude.{◌≡◌, ◌<◌, ◌==◌, ℕ, ◌+◌, ◌-◌, ◌^◌, Bool, false, nat_lt, nat_le, ◌&&◌, IsTrue, List, length, drop, slice_index, decimal, Option, None, Some}
+use Rattle.std.specs.Prelude.{◌≡◌, ◌<◌, ◌==◌, ℕ, ◌+◌, ◌-◌, ◌^◌, Bool, false, nat_lt, nat_le, ◌&&◌, IsTrue, List, length, drop, slice_index, decimal, codes, Option, None, Some}
 use Rattle.std.specs.List.{list_all}
 use Rattle.std.specs.Char.{is_ascii_alphanumeric}
+use Rattle.std.specs.Str.{bytes_eq}
 use Rattle.wopi_text.specs.Decimals.{decimal_of}
 use Rattle.wopi_text.specs.FileName.{IsFileName}
 use Rattle.wopi_text.specs.Ids.{IsId}
@@ -68,5 +69,6 @@ Keeps rule.Each word = IsTrue (is_number 1 1000000 word)
 Keeps rule.First word = IsTrue (is_number 1 1000000000000000000 word)
 Keeps rule.Links word = IsTrue (is_number 1 1024 word)
 Keeps rule.Ids word = IsTrue (is_number 1 32768 word)
+Keeps rule.Sync word = IsTrue (bytes_eq word (codes "all"))
 Keeps rule.Logs word = 0 < length word
 Keeps rule.Origin word = IsOrigin word

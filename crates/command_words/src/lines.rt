@@ -124,6 +124,8 @@ fn option_rule(name: &str) -> Option<Rule>
         Some(Rule::Links)
     } else if name == "--ids" {
         Some(Rule::Ids)
+    } else if name == "--sync" {
+        Some(Rule::Sync)
     } else {
         None
     }
@@ -304,7 +306,7 @@ fn goes_with(keeps: bool, word: &str) -> bool
     if keeps {
         return word != "--journal";
     }
-    word != "--ids"
+    word != "--ids" && word != "--sync"
 }
 
 /// Whether the word is `--keep`, or an option of `serve` that stands without it.
@@ -430,7 +432,7 @@ const COMMANDS: &str =
 
 /// That of an option of `serve`.
 const OPTIONS: &str =
-    "--journal, --each, --first, --links, --listen, --idle, --patience, --grace, --verbose, --editor and beside it --origin, or --keep and beside it, in place of --journal, --ids, each once";
+    "--journal, --each, --first, --links, --listen, --idle, --patience, --grace, --verbose, --editor and beside it --origin, or --keep and beside it, in place of --journal, --ids and --sync, each once";
 
 /// That of a word behind the last one.
 const NO_WORD: &str = "no word stands there";

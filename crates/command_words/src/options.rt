@@ -21,6 +21,7 @@ pub(crate) fn is_run_option(word: &str) -> bool
         || word == "--first"
         || word == "--links"
         || word == "--ids"
+        || word == "--sync"
 }
 
 /// Whether it is an option of `serve` that the adapters take.

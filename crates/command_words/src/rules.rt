@@ -41,6 +41,7 @@ pub(crate) enum Rule {
     First,
     Links,
     Ids,
+    Sync,
     Logs,
     Origin,
 }
@@ -213,6 +214,7 @@ impl Rule {
             Rule::First => return is_number(word, 1, 1_000_000_000_000_000_000),
             Rule::Links => return is_number(word, 1, 1024),
             Rule::Ids => return is_number(word, 1, 32_768),
+            Rule::Sync => return word == b"all".as_slice(),
             Rule::Logs => return !word.is_empty(),
             Rule::Origin => return is_origin(word),
         }
@@ -247,6 +249,7 @@ impl Rule {
             Rule::First => "--first",
             Rule::Links => "--links",
             Rule::Ids => "--ids",
+            Rule::Sync => "--sync",
             Rule::Logs => "--keep",
             Rule::Origin => "--origin",
         }
@@ -281,6 +284,7 @@ impl Rule {
             Rule::First => "a number from 1 to 1000000000000000000, without leading zeros",
             Rule::Links => "a number from 1 to 1024, without leading zeros",
             Rule::Ids => "a number from 1 to 32768, without leading zeros",
+            Rule::Sync => "the word all",
             Rule::Logs => "the path of a folder, which isn't empty",
             Rule::Origin =>
                 "http:// or https://, a host in lower case, and a port where it isn't the scheme's own; at most 200 characters, and no path",

@@ -54,6 +54,7 @@ within-step told (Some calls) ids begin made time last all bytes bytes' places r
       most = within.most;
       places = below_full (length made) (length (made ++ one ∷ [])) calls more within.places (λ e. room (inl e));
       free = within.free;
+      anew = within.anew;
       bytes_are =
           is ∙ all_counted bytes call ruling ∙ ap (λ (n : ℕ). n + (if ruling.status == 200 then new_bytes call.act else 0)) within.bytes_are
           ∙ sym (kept_of-push begin made one);

@@ -13,8 +13,8 @@ use Rattle.wopi_model.proofs.Living.{begun-left}
 use Rattle.host_core.specs.Entries.{Made, items_of}
 use Rattle.host_core.specs.Files.{files_of}
 use Rattle.host_core.specs.Ledger.{IsWithinCalls}
-use Rattle.host_core.specs.Opening.{IsFirstVersion}
-use Rattle.host_core.specs.Value.{KeepsWithin, Reflects}
+use Rattle.host_core.specs.Value.{KeepsWithin, Reflects, most_version}
+use Rattle.host_core.specs.Names.{AreWithin}
 use Rattle.host_core.specs.Whole.{Whole}
 use Rattle.host_core.proofs.History.{length_of}
 
@@ -28,19 +28,23 @@ rising_long low (x ∷ xs) rises =
 
 -- so versions stay below 2^64
 pub low_versions : (calls : Option ℕ) (ids : ℕ) (begin : Begin) (made : List Made) (time last all bytes : ℕ) (files : List Whole) → Reflects begin made time last all files
-    → KeepsWithin calls ids begin made time last bytes → IsFirstVersion begin.first → begin.first + length made ≤ 2 ^ 64 - 2
-low_versions None ids begin made time last all bytes files k within first =
+    → KeepsWithin calls ids begin made time last bytes → most_version begin (length made) ≤ 2 ^ 64 - 2
+low_versions None ids begin made time last all bytes files k within =
     let long = length-map (entries (items_of made)) (λ (e : Entry). e.stamp) ∙ length_of made in
     let rose = rising_long begin.last (stamps (entries (items_of made))) k.legal.stamps in
     let is = k.last_is in
     let low = within.low in
-    let most = first.1 in
-    omega (arith, long, rose, is, low, most)
-low_versions (Some calls) ids begin made time last all bytes files k within first =
+    omega (arith, long, rose, is, low)
+low_versions (Some calls) ids begin made time last all bytes files k within =
     let few = within.places in
     let bound = within.most in
-    let most = first.1 in
-    omega (arith, few, bound, most)
+    let anew = within.anew in
+    omega (arith, few, bound, anew)
+
+-- no file has a version above a greater one
+pub within_up : (most more : ℕ) (files : List Whole) → most ≤ more → AreWithin most files → AreWithin more files
+within_up most more [] up within = tt
+within_up most more (kept ∷ files) up within = let here : kept.version ≤ most = within.0 in (omega (arith, up, here), within_up most more files up within.1)
 
 pub within_calls : (calls : Option ℕ) (ids : ℕ) (begin : Begin) (made : List Made) (time last bytes : ℕ) → KeepsWithin calls ids begin made time last bytes → IsWithinCalls calls (length made)
 within_calls None ids begin made time last bytes within = tt

@@ -29,7 +29,7 @@ use Rattle.host_core.specs.Facts.{dates_of}
 use Rattle.host_core.specs.Files.{files_of, torn_in}
 use Rattle.host_core.specs.Store.{StoresAs, is_store_call, torn_after, brought}
 use Rattle.host_core.specs.Steps.{TakesStep, ShowsSame}
-use Rattle.host_core.specs.Value.{Book, Stands, IsLawful, state_of, is_torn, KeepsWithin, Reflects, Agrees, faults_in}
+use Rattle.host_core.specs.Value.{Book, Stands, IsLawful, state_of, is_torn, KeepsWithin, Reflects, Agrees, faults_in, most_version}
 use Rattle.host_core.specs.declared.file.KeptFile.{KeptFile}
 use Rattle.host_core.specs.declared.ledger.Ledger.{Ledger}
 use Rattle.host_core.specs.Ledger.{HasSpare, IsFullFor, IsFullOn, IsTied, Takes, Stays, bytes_after, bytes_under, made_by, files_in, ended_in}
@@ -218,7 +218,7 @@ stands-step told book before after old new start now now' began count count' cal
     agrees-state book.only start now (files_of book.begin.first (files_in before)) (files_of book.begin.first mid) (torn_in (files_in before)) (torn_in mid)
     (λ name. contents_any book.begin.first before.rack.files.items (all_ended later before.rack.locks.files) before.rack.locks.files name)
     (λ name. torn_any before.rack.files.items before.rack.locks.files (all_ended later before.rack.locks.files) name) stands.folder in
-    let mid_within : AreWithin (book.begin.first + length book.made) mid = within_any (book.begin.first + length book.made) before.rack.files.items before.rack.locks.files (all_ended later before.rack.locks.files) stands.within in
+    let mid_within : AreWithin (most_version book.begin (length book.made)) mid = within_any (most_version book.begin (length book.made)) before.rack.files.items before.rack.locks.files (all_ended later before.rack.locks.files) stands.within in
     let stepped : Reflects book.begin (book.made ++ one ∷ []) later (max before.last floor + 1) (kept_from book.begin (items_of (book.made ++ one ∷ []))) (files_in after) =
     subst (λ (v : ℕ). Reflects book.begin (book.made ++ one ∷ []) later (max before.last floor + 1) v (files_in after)) (sym (kept_of-push book.begin book.made one))
     (subst (λ (t : ℕ). Reflects book.begin (book.made ++ record { time = t; step = one.step; told = told } ∷ []) t (max before.last floor + 1) (all + (if ruling.status == 200 then new_bytes call.act else 0)) (files_in after)) again
@@ -242,10 +242,10 @@ stands-step told book before after old new start now now' began count count' cal
       timely = λ h.
           subst (λ (x : Made). GoesByEntries book.begin.now (book.made ++ x ∷ []) (max book.time moment)) same (goes-push book.begin.now book.made one book.time (stands.timely h) refl);
       within =
-          let more : book.begin.first + length book.made + 1 ≡ book.begin.first + length (book.made ++ made_by told before call pass floor moment ruling ∷ []) = let long = made_long book.made (made_by told before call pass floor moment ruling) in omega (arith, long) in
-          let above : before.first ≤ book.begin.first + length book.made = omega (arith, first) in
+          let more : most_version book.begin (length book.made) + 1 ≡ most_version book.begin (length (book.made ++ made_by told before call pass floor moment ruling ∷ [])) = let long = made_long book.made (made_by told before call pass floor moment ruling) in omega (arith, long) in
+          let above : before.first ≤ most_version book.begin (length book.made) = let number = stands.number.1 in omega (arith, first, number) in
           subst (λ (n : ℕ). AreWithin n (files_in after)) more
-          (takes.within (book.begin.first + length book.made) above (subst (AreWithin (book.begin.first + length book.made)) (sym mid_is) mid_within));
+          (takes.within (most_version book.begin (length book.made)) above (subst (AreWithin (most_version book.begin (length book.made))) (sym mid_is) mid_within));
       number = stands.number;
       few = let few = takes.few in let is = long_joined after.rack.files.items after.rack.locks.files in omega (arith, few, is);
       limits =
@@ -267,7 +267,7 @@ stands-stays book before after old new start now now' began count count' folder'
       folder = agrees-stays book.begin.first book.only start now now' (files_in before) (files_in after) stands.folder same keeps;
       faults = rose-stays began (faults_in book.made) count count' stands.faults le;
       timely = stands.timely;
-      within = stays.within (book.begin.first + length book.made) stands.within;
+      within = stays.within (most_version book.begin (length book.made)) stands.within;
       number = stands.number;
       few =
           let old = stands.few in
@@ -344,7 +344,7 @@ stands-tick book ledger start now began count moment time ss ticked m time_is ss
       folder = agrees-any book files ledger.rack.locks.files ss start now stands.folder;
       faults = stands.faults;
       timely = λ h. absurd (cc (h, ticks));
-      within = within_any (book.begin.first + length book.made) files ledger.rack.locks.files ss stands.within;
+      within = within_any (most_version book.begin (length book.made)) files ledger.rack.locks.files ss stands.within;
       number = stands.number;
       few = let few = stands.few in let was = long_joined files ledger.rack.locks.files in let is = long_joined files ss in omega (arith, few, was, is);
       limits = subst (λ (t : ℕ). KeepsWithin book.limits.calls book.limits.ids book.begin book.made t ledger.last ledger.bytes) (sym time_is)
@@ -364,7 +364,7 @@ stands-gone book ledger start now began count purged ss ss_is stands =
       folder = agrees-any book files ledger.rack.locks.files ss start now stands.folder;
       faults = stands.faults;
       timely = stands.timely;
-      within = within_any (book.begin.first + length book.made) files ledger.rack.locks.files ss stands.within;
+      within = within_any (most_version book.begin (length book.made)) files ledger.rack.locks.files ss stands.within;
       number = stands.number;
       few = let few = stands.few in let was = long_joined files ledger.rack.locks.files in let is = long_joined files ss in omega (arith, few, was, is);
       limits = stands.limits;

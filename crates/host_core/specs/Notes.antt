@@ -1,5 +1,5 @@
 -- What a store has noted.
-use Rattle.std.specs.Prelude.{◌≡◌, ◌==◌, ⊤, ℕ, ◌<◌, ◌≤◌, true, List, map, unwrap_or, [], Option, None, Some, option_map, if◌then◌else◌}
+use Rattle.std.specs.Prelude.{◌≡◌, ◌==◌, ⊤, Bool, ℕ, ◌<◌, ◌≤◌, true, List, map, unwrap_or, [], Option, None, Some, option_map, if◌then◌else◌}
 use Rattle.wopi_model.specs.Begin.{Begin}
 use Rattle.wopi_model.specs.Shard.{Opening}
 use Rattle.wopi_model.specs.declared.calls.Act.TheVariants as act
@@ -18,9 +18,11 @@ Brought = Option ℕ × List ℕ
 abbrev pub saved_in : Made → Option Brought
 saved_in one = if one.step.ruling.status == 200 then option_map (λ contents. (one.step.ruling.version, contents)) (brought_by one.step.call.act) else None
 
--- Which shard's log it is, what it held as it was taken into use, where it tells, and how often a call of it had failed.
+-- Which shard's log it is, whether it syncs all changes, what it held as it was taken into use, where it tells, and how often a call of it had
+-- failed.
 pub record LogStart : Type 0 where
   pub shard : ℕ
+  pub syncs_all : Bool
   pub held : Option (List ℕ)
   pub faults : ℕ
 

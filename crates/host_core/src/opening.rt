@@ -29,10 +29,10 @@ use wopi_text::{Bytes, FileName, Memory};
 pub const MOST_FIRST: u64 = 1_000_000_000_000_000_000;
 
 /// The most bytes of one file: 16 MiB.
-const MOST_CONTENTS: usize = 16_777_216;
+pub const MOST_CONTENTS: usize = 16_777_216;
 
 /// The most files, so that each has a number of 32 bits and there are numbers left for new ones.
-const MOST_FILES: usize = 4_000_000_000;
+pub const MOST_FILES: usize = 4_000_000_000;
 
 /// A file that was read, and when it was last saved.
 #[derive(Drop)]
@@ -62,7 +62,7 @@ pub struct Stock {
 }
 
 /// The name belongs to the shard of that number, or to the only shard there is.
-fn is_of_shard(name: &FileName, only: Option<u8>) -> bool
+pub fn is_of_shard(name: &FileName, only: Option<u8>) -> bool
     ensures { IsTrue result ↔ IsOfShard only name.now }
 {
     match only {

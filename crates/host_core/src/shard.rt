@@ -9,6 +9,7 @@ ghost use Rattle.wopi_model.specs.Shard.{Opening, last_from, stamps, entries, Ar
 ghost use Rattle.host_core.specs.Whole.{standing_at};
 ghost use Rattle.kept_locks.specs.Locks.{unlocked};
 ghost use Rattle.host_core.specs.Stock.{IsStock};
+ghost use Rattle.host_core.specs.Caller.{IsFull, IsLost};
 ghost use Rattle.host_core.specs.Children.{AreChildren};
 ghost use Rattle.host_core.specs.Effects.{begun};
 ghost use Rattle.host_core.specs.Entries.{history_of, back_of, brought_by};
@@ -22,7 +23,8 @@ ghost use Rattle.host_core.specs.Value.{happened};
 ghost use Rattle.host_core.specs.Turns.{AreAsOf};
 ghost use Rattle.host_core.specs.Opening.{AreDatesOf, IsFirstVersion, IsOfShard, IsOpening, Fits, IsTooLarge, IfTooLarge};
 
-use crate::accept::{Carried, begin};
+use crate::accept::{Carried, begin, restart};
+use crate::caller::Refusal;
 use crate::carry::brought;
 use crate::children::{Children, children_of};
 use crate::decide::is_info;
@@ -43,6 +45,8 @@ use std::marker::Model;
 use std::snapshot::Snapshot;
 use wopi_model::{Call, Ruling};
 use wopi_text::{Bytes, FileName, Memory};
+
+mod reopening;
 
 /// A step that was made for an editor, and what its file is like then, if it exists.
 #[derive(Drop)]
@@ -298,19 +302,67 @@ impl<F: Store> Shard<F> {
         ensures fault { IfOk result (λ step. step.1.status ≡ 500 → Rose (F.faults self.old.folder) (F.faults self.new.folder)) }
         ensures lawful { IsLawful self.new (F.files self.new.start) (F.files self.new.folder) (F.faults self.new.start) (F.faults self.new.folder) }
     {
-        if self.is_lost() {
-            return Err(StepFault::Lost(call));
-        }
         let mut call = call;
         let mut carried = begin();
-        match self.make(&mut call, pass, floor, moment, &mut carried) {
+        match self.step_at(&mut call, pass, floor, moment, &mut carried) {
             Ok(stamp) => return Ok((stamp, carried.ruling, carried.back)),
-            Err(StoreRefusal::Full) => return Err(StepFault::Full(call)),
-            Err(StoreRefusal::Memory) => return Err(StepFault::Memory(call)),
+            Err(Refusal::Full) => return Err(StepFault::Full(call)),
+            Err(Refusal::Memory) => return Err(StepFault::Memory(call)),
+            Err(Refusal::Lost) => return Err(StepFault::Lost(call)),
         }
     }
 
-    /// The step, where the call and what is told of it stay where they lie. It gives the stamp.
+    /// The step, where the call and what is told of it stay where they lie. It gives the stamp. What a call that made an entry
+    /// brought is taken.
+    #[inline(always)]
+    pub fn step_at(
+        &mut self,
+        call: &mut Call,
+        pass: u32,
+        floor: u64,
+        moment: u64,
+        carried: &mut Carried,
+    ) -> Result<u64, Refusal>
+        requires moment { IsMoment moment }
+        requires only { IsOfShard self.old.only call.old.name }
+        ensures entry { IfOk result (λ stamp. self.new ≡ record self.old {
+          made = self.old.made ++ record {
+            time = max self.old.time moment;
+            step = record { stamp = stamp; pass = pass; moment = moment; call = call.old; ruling = carried.new.ruling };
+            told = not (F.lost self.new.folder);
+          } ∷ [];
+          time = max self.old.time moment;
+          folder = self.new.folder;
+        }) }
+        ensures stamp { IfOk result (λ stamp. stamp ≡ max (last_from self.old.begin.last (stamps (entries (history_of self.old.made self.old.time)))) floor + 1) }
+        ensures back { OnOk result (carried.new.back ≡ back_of call.old.act carried.new.ruling) }
+        ensures room { OnOk result (FullFrom self.old.limits self.old.begin (history_of self.old.made self.old.time) floor call.old moment → ⊥) }
+        ensures full { IfErr result (λ why. IsFull why
+            → FullFrom self.old.limits self.old.begin (history_of self.old.made self.old.time) floor call.old moment) }
+        ensures err { OnErr result (self.new ≡ record self.old { folder = self.new.folder }) }
+        ensures call { OnErr result (call.new ≡ call.old) }
+        ensures light { IfErr result (λ why. is_lock_act call.old.act ≡ true → F.lost self.old.folder ≡ false → IsFull why) }
+        ensures going { OnOk result (F.lost self.old.folder ≡ false) }
+        ensures lost { IfErr result (λ why. IsLost why ↔ (F.lost self.old.folder ≡ true)) }
+        ensures still { IfErr result (λ why. IsLost why → self.new ≡ self.old) }
+        ensures keeps { OnErr result (Keeps (F.files self.old.folder) (F.files self.new.folder)) }
+        ensures log { (F.notes self.new.folder).log ≡ (F.notes self.old.folder).log }
+        ensures never_falls { F.faults self.old.folder ≤ F.faults self.new.folder }
+        ensures fault { OnOk result (carried.new.ruling.status ≡ 500 → Rose (F.faults self.old.folder) (F.faults self.new.folder)) }
+        ensures lawful { IsLawful self.new (F.files self.new.start) (F.files self.new.folder) (F.faults self.new.start) (F.faults self.new.folder) }
+    {
+        if self.is_lost() {
+            return Err(Refusal::Lost);
+        }
+        restart(carried);
+        match self.make(call, pass, floor, moment, carried) {
+            Ok(stamp) => return Ok(stamp),
+            Err(StoreRefusal::Full) => return Err(Refusal::Full),
+            Err(StoreRefusal::Memory) => return Err(Refusal::Memory),
+        }
+    }
+
+    /// The same of a shard whose store isn't lost, where nothing is told yet.
     pub(crate) fn make(
         &mut self,
         call: &mut Call,

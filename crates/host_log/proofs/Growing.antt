@@ -1,5 +1,5 @@
 -- What a log holds, as more is appended to it.
-use Rattle.std.proofs.Common.{◌≡◌, ◌≤◌, ℕ, List, [], ◌∷◌, ◌++◌, Option, None, Some, refl, sym, ap, subst, ◌∙◌, append_assoc, append-nil, arith}
+use Rattle.std.proofs.Common.{◌≡◌, ◌≤◌, ℕ, Bool, List, [], ◌∷◌, ◌++◌, Option, None, Some, refl, sym, ap, subst, ◌∙◌, append_assoc, append-nil, arith}
 use Rattle.std.specs.List.{AllByRecursion}
 use Rattle.std.specs.Io.KnownBytes.{Appends}
 use Rattle.std.proofs.KnownBytes.{Appends-nil, Appends-trans}
@@ -22,16 +22,16 @@ text_more : (rows : List Row) (row : Row) → rows_text (rows ++ row ∷ []) ≡
 text_more rows row = flat_map-append row_text rows (row ∷ []) ∙ ap (λ (l : List ℕ). rows_text rows ++ l) (append-nil (row_text row))
 
 -- nothing was appended yet
-pub log_new : (start : Option (List ℕ)) → IsLog start start start [] [] []
-log_new start = record { sure = []; loose = []; told_are = refl; idle = tt; grew = Appends-nil start; more = []; reached = Appends-nil start }
+pub log_new : (all : Bool) (start : Option (List ℕ)) → IsLog all start start start [] [] []
+log_new all start = record { sure = []; loose = []; told_are = refl; idle = tt; grew = Appends-nil start; more = []; reached = Appends-nil start }
 
 -- a front of a beginning was appended, and some of it was synced
-pub log_cut : (start held synced : Option (List ℕ)) (front : List ℕ) → Appends start held front → IsFront start synced → IsLog start held synced [] [] front
-log_cut start held synced front grew reached = record { sure = []; loose = []; told_are = refl; idle = tt; grew = grew; more = reached.0; reached = reached.1 }
+pub log_cut : (all : Bool) (start held synced : Option (List ℕ)) (front : List ℕ) → Appends start held front → IsFront start synced → IsLog all start held synced [] [] front
+log_cut all start held synced front grew reached = record { sure = []; loose = []; told_are = refl; idle = tt; grew = grew; more = reached.0; reached = reached.1 }
 
 -- a beginning was appended, and all is synced
-pub log_begun : (start held : Option (List ℕ)) (head : List ℕ) → Appends start held head → IsLog start held held head [] []
-log_begun start held head grew =
+pub log_begun : (all : Bool) (start held : Option (List ℕ)) (head : List ℕ) → Appends start held head → IsLog all start held held head [] []
+log_begun all start held head grew =
     let whole : Appends start held (head ++ []) = subst (Appends start held) (sym (append-nil head)) grew in
     record { sure = []; loose = []; told_are = refl; idle = tt; grew = whole; more = []; reached = whole }
 
@@ -40,9 +40,9 @@ behind : (head text tail more : List ℕ) → (head ++ (text ++ tail)) ++ more �
 behind head text tail more = append_assoc head (text ++ tail) more ∙ ap (λ (l : List ℕ). head ++ l) (append_assoc text tail more)
 
 -- more was appended
-pub log_longer : (start held held' synced : Option (List ℕ)) (head : List ℕ) (told : List Made) (tail more : List ℕ) → IsLog start held synced head told tail → Appends held held' more
-    → IsLog start held' synced head told (tail ++ more)
-log_longer start held held' synced head told tail more log grew = record {
+pub log_longer : (all : Bool) (start held held' synced : Option (List ℕ)) (head : List ℕ) (told : List Made) (tail more : List ℕ) → IsLog all start held synced head told tail → Appends held held' more
+    → IsLog all start held' synced head told (tail ++ more)
+log_longer all start held held' synced head told tail more log grew = record {
   sure = log.sure;
   loose = log.loose;
   told_are = log.told_are;
@@ -54,8 +54,8 @@ log_longer start held held' synced head told tail more log grew = record {
 }
 
 -- all of it was synced
-pub log_synced : (start held synced : Option (List ℕ)) (head : List ℕ) (told : List Made) (tail : List ℕ) → IsLog start held synced head told tail → IsLog start held held head told tail
-log_synced start held synced head told tail log =
+pub log_synced : (all : Bool) (start held synced : Option (List ℕ)) (head : List ℕ) (told : List Made) (tail : List ℕ) → IsLog all start held synced head told tail → IsLog all start held held head told tail
+log_synced all start held synced head told tail log =
     let rows = log.sure ++ log.loose in
     record {
       sure = rows;
@@ -68,9 +68,9 @@ log_synced start held synced head told tail log =
     }
 
 -- some more of it was synced
-pub log_reached : (start held synced synced' : Option (List ℕ)) (head : List ℕ) (told : List Made) (tail : List ℕ) → IsLog start held synced head told tail → IsFront synced synced'
-    → IsLog start held synced' head told tail
-log_reached start held synced synced' head told tail log front = record {
+pub log_reached : (all : Bool) (start held synced synced' : Option (List ℕ)) (head : List ℕ) (told : List Made) (tail : List ℕ) → IsLog all start held synced head told tail → IsFront synced synced'
+    → IsLog all start held synced' head told tail
+log_reached all start held synced synced' head told tail log front = record {
   sure = log.sure;
   loose = log.loose;
   told_are = log.told_are;
@@ -85,9 +85,9 @@ counts_more : (sure loose : List Row) (row : Row) (told : List Made) → counted
 counts_more sure loose row told are = counted_append (sure ++ loose) (row ∷ []) ∙ ap (λ (l : List Made). l ++ counted (row ∷ [])) are
 
 -- a row that changed nothing stands in it
-pub log_idle : (start held synced : Option (List ℕ)) (head : List ℕ) (told : List Made) (row : Row) → IsIdle row → IsLog start held synced head told (row_text row)
-    → IsLog start held synced head (told ++ counted (row ∷ [])) []
-log_idle start held synced head told row idle log =
+pub log_idle : (all : Bool) (start held synced : Option (List ℕ)) (head : List ℕ) (told : List Made) (row : Row) → IsIdle all row → IsLog all start held synced head told (row_text row)
+    → IsLog all start held synced head (told ++ counted (row ∷ [])) []
+log_idle all start held synced head told row idle log =
     let assoc : log.sure ++ (log.loose ++ row ∷ []) ≡ (log.sure ++ log.loose) ++ row ∷ [] = sym (append_assoc log.sure log.loose (row ∷ [])) in
     let text : rows_text (log.sure ++ (log.loose ++ row ∷ [])) ++ [] ≡ rows_text (log.sure ++ log.loose) ++ row_text row =
     append-nil (rows_text (log.sure ++ (log.loose ++ row ∷ []))) ∙ ap (λ (l : List Row). rows_text l) assoc ∙ text_more (log.sure ++ log.loose) row in
@@ -95,16 +95,16 @@ log_idle start held synced head told row idle log =
       sure = log.sure;
       loose = log.loose ++ row ∷ [];
       told_are = ap (λ (l : List Row). counted l) assoc ∙ counts_more log.sure log.loose row told log.told_are;
-      idle = all_append IsIdle log.loose (row ∷ []) log.idle (idle, tt);
+      idle = all_append (IsIdle all) log.loose (row ∷ []) log.idle (idle, tt);
       grew = subst (λ (l : List ℕ). Appends start held (head ++ l)) (sym text) log.grew;
       more = log.more;
       reached = log.reached;
     }
 
 -- a row stands in it, and all is synced
-pub log_sure : (start held : Option (List ℕ)) (head : List ℕ) (told : List Made) (row : Row) → IsLog start held held head told (row_text row)
-    → IsLog start held held head (told ++ counted (row ∷ [])) []
-log_sure start held head told row log =
+pub log_sure : (all : Bool) (start held : Option (List ℕ)) (head : List ℕ) (told : List Made) (row : Row) → IsLog all start held held head told (row_text row)
+    → IsLog all start held held head (told ++ counted (row ∷ [])) []
+log_sure all start held head told row log =
     let rows = (log.sure ++ log.loose) ++ row ∷ [] in
     let text : rows_text rows ++ [] ≡ rows_text (log.sure ++ log.loose) ++ row_text row = append-nil (rows_text rows) ∙ text_more (log.sure ++ log.loose) row in
     let synced : Appends start held (head ++ (rows_text rows ++ [])) = subst (λ (l : List ℕ). Appends start held (head ++ l)) (sym text) log.grew in

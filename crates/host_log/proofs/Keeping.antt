@@ -312,24 +312,24 @@ module _ {F L : Type 0} where
 
   -- what is held and synced is what the log has
   log_as : (i : Inside F L) (held synced : Option (List ℕ)) (told : List Made) (tail : List ℕ) → held ≡ i.lines.held → synced ≡ i.lines.synced → told ≡ i.lines.told
-      → IsLog i.lines.start i.lines.held i.lines.synced i.lines.head i.lines.told tail → IsLog i.lines.start held synced i.lines.head told tail
+      → IsLog i.lines.all i.lines.start i.lines.held i.lines.synced i.lines.head i.lines.told tail → IsLog i.lines.all i.lines.start held synced i.lines.head told tail
   log_as i held synced told tail same reached made log =
-      let all : IsLog i.lines.start i.lines.held i.lines.synced i.lines.head told tail = subst (λ (l : List Made). IsLog i.lines.start i.lines.held i.lines.synced i.lines.head l tail) (sym made) log in
-      let there : IsLog i.lines.start held i.lines.synced i.lines.head told tail = subst (λ (h : Option (List ℕ)). IsLog i.lines.start h i.lines.synced i.lines.head told tail) (sym same) all in
-      subst (λ (s : Option (List ℕ)). IsLog i.lines.start held s i.lines.head told tail) (sym reached) there
+      let all : IsLog i.lines.all i.lines.start i.lines.held i.lines.synced i.lines.head told tail = subst (λ (l : List Made). IsLog i.lines.all i.lines.start i.lines.held i.lines.synced i.lines.head l tail) (sym made) log in
+      let there : IsLog i.lines.all i.lines.start held i.lines.synced i.lines.head told tail = subst (λ (h : Option (List ℕ)). IsLog i.lines.all i.lines.start h i.lines.synced i.lines.head told tail) (sym same) all in
+      subst (λ (s : Option (List ℕ)). IsLog i.lines.all i.lines.start held s i.lines.head told tail) (sym reached) there
 
   -- unless it was lost, the log has all entries
   told_log : (i : Inside F L) (held synced : Option (List ℕ)) → IsLogged i → AreLines i.lines → held ≡ i.lines.held → synced ≡ i.lines.synced → i.lines.lost ≡ false → i.begun ≡ None
-      → IsLog i.lines.start held synced i.lines.head (i.lines.told ++ i.missing) []
+      → IsLog i.lines.all i.lines.start held synced i.lines.head (i.lines.told ++ i.missing) []
   told_log i held synced inv are same reached fine none =
       let free = no_standing i.begun (option_map brought_as i.saved) i.lines.standing inv.ahead none in
       let made : i.lines.told ++ i.missing ≡ i.lines.told = ap (λ (l : List Made). i.lines.told ++ l) (inv.told fine) ∙ append-nil i.lines.told in
-      let log : IsLog i.lines.start i.lines.held i.lines.synced i.lines.head i.lines.told [] = log_of i.lines are fine None free in
+      let log : IsLog i.lines.all i.lines.start i.lines.held i.lines.synced i.lines.head i.lines.told [] = log_of i.lines are fine None free in
       log_as i held synced (i.lines.told ++ i.missing) [] same reached made log
 
   -- and else those that were told, and a front of one line
   lost_log : (i : Inside F L) (held synced : Option (List ℕ)) → AreLines i.lines → held ≡ i.lines.held → synced ≡ i.lines.synced → i.lines.lost ≡ true
-      → (tail : List ℕ) × IsInDoubt i.lines.head i.lines.told i.lines.doubt tail × IsLog i.lines.start held synced i.lines.head i.lines.told tail
+      → (tail : List ℕ) × IsInDoubt i.lines.head i.lines.told i.lines.doubt tail × IsLog i.lines.all i.lines.start held synced i.lines.head i.lines.told tail
   lost_log i held synced are same reached lost =
       let doubt : IsTail i.lines.head i.lines.told true i.lines.standing i.lines.doubt are.tail = subst (λ (b : Bool). IsTail i.lines.head i.lines.told b i.lines.standing i.lines.doubt are.tail) lost are.tail_is in
       (are.tail, doubt.1, log_as i held synced i.lines.told are.tail same reached refl are.log)

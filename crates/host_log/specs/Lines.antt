@@ -6,10 +6,11 @@ use Rattle.host_core.specs.Entries.{Asked, Made, ruled}
 use Rattle.host_log.specs.declared.lines.Lines.TheInside.{Inside}
 use Rattle.host_log.specs.Rows.{IsLog, IsTail}
 
--- What the log held at the start, holds now, and has synced, where it tells that; whether nothing was appended yet; the beginning that was
+-- Whether all changes are synced; what the log held at the start, holds now, and has synced, where it tells that; whether nothing was appended yet; the beginning that was
 -- appended, if one was; the entries that were told; the one that stands and may yet be taken back; whether a call of the log failed, and at
 -- which entry; and how often one had at the start and has now.
 pub record LinesView : Type 0 where
+  pub all : Bool
   pub start : Option (List ℕ)
   pub held : Option (List ℕ)
   pub synced : Option (List ℕ)
@@ -24,6 +25,7 @@ pub record LinesView : Type 0 where
 
 abbrev pub lines_view : {L : Type 0} → (L → Option (List ℕ)) → (L → Option (List ℕ)) → (L → ℕ) → Inside L → LinesView
 lines_view held synced faults l = record {
+  all = l.syncs_all;
   start = held l.start.value;
   held = held l.log;
   synced = synced l.log;
@@ -51,7 +53,7 @@ pub record IsUntouched (v : LinesView) : Type 0 where
 pub record AreLines (v : LinesView) : Type 0 where
   pub tail : List ℕ
   pub tail_is : IsTail v.head v.told v.lost v.standing v.doubt tail
-  pub log : IsLog v.start v.held v.synced v.head v.told tail
+  pub log : IsLog v.all v.start v.held v.synced v.head v.told tail
   pub fresh : v.untouched ≡ true → IsUntouched v
   pub sure : is_some v.standing ≡ true → v.synced ≡ v.held
   pub rose : v.lost ≡ true → Rose v.began v.faults
@@ -63,6 +65,7 @@ IsOf one made = (ruling : Ruling) × (made ≡ Some (ruled ruling one))
 
 -- it goes on from the same start and beginning, and is never found again
 pub record GoesOn (old new : LinesView) : Type 0 where
+  pub all : new.all ≡ old.all
   pub lost : new.lost ≡ false → old.lost ≡ false
   pub start : new.start ≡ old.start
   pub head : new.head ≡ old.head

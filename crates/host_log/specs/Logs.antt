@@ -30,7 +30,7 @@ brought_as saved = (Some saved.version, saved.contents.value)
 
 -- the log of the shard of that number, as it was taken into use
 abbrev pub started : ℕ → LinesView → LogStart
-started shard v = record { shard = shard; held = v.start; faults = v.began }
+started shard v = record { shard = shard; syncs_all = v.all; held = v.start; faults = v.began }
 
 abbrev pub view_of : {F L : Type 0} → Inside F L → LogView F
 view_of l = record {
@@ -121,9 +121,9 @@ pub record HasEnded {F : Type 0} (v : LogView F) (folder : F) (held synced : Opt
   pub unsaved : AreUnsaved v.missing
   pub refusals : v.lines.lost ≡ false → v.refused ≡ 0
   pub front : IsFront v.lines.start held
-  pub told : v.lines.lost ≡ false → v.notes.begun ≡ None → IsLog v.lines.start held synced v.lines.head v.notes.made []
+  pub told : v.lines.lost ≡ false → v.notes.begun ≡ None → IsLog v.lines.all v.lines.start held synced v.lines.head v.notes.made []
   pub full : v.lost ≡ true → v.lines.lost ≡ false → length v.notes.made ≡ 2 ^ 62
-  pub lost : v.lines.lost ≡ true → (tail : List ℕ) × IsInDoubt v.lines.head v.lines.told v.lines.doubt tail × IsLog v.lines.start held synced v.lines.head v.lines.told tail
+  pub lost : v.lines.lost ≡ true → (tail : List ℕ) × IsInDoubt v.lines.head v.lines.told v.lines.doubt tail × IsLog v.lines.all v.lines.start held synced v.lines.head v.lines.told tail
   pub doubt : v.lines.lost ≡ true → IsDoubt v.notes.begun v.missing v.lines.doubt
   pub rose : v.lines.lost ≡ true → Rose v.lines.began v.lines.faults
   pub counts : v.lines.began ≤ v.lines.faults

@@ -1,10 +1,12 @@
 -- What stands in a log.
-use Rattle.std.specs.Prelude.{◌≡◌, ◌==◌, ◌&&◌, ℕ, Bool, true, false, List, [], ◌∷◌, ◌++◌, length, Option, None, Some, codes, decimal, if◌then◌else◌, option_map, unwrap_or}
+use Rattle.std.specs.Prelude.{◌≡◌, ◌==◌, ◌&&◌, ℕ, Bool, true, false, List, [], ◌∷◌, ◌++◌, length, Option, None, Some, codes, decimal, if◌then◌else◌, not, option_map, unwrap_or}
 use Rattle.std.specs.List.{AllByRecursion, flat_map}
 use Rattle.std.specs.Io.KnownBytes.{Appends}
 use Rattle.wopi_text.specs.FileName.{shard_of}
 use Rattle.wopi_text.specs.Ids.{id_of}
 use Rattle.wopi_model.specs.Act.{is_stored}
+use Rattle.wopi_model.specs.declared.calls.Act.{Act}
+use Rattle.wopi_model.specs.declared.calls.Act.TheVariants as act
 use Rattle.wopi_model.specs.Host.{shard_of_entry}
 use Rattle.wopi_model.specs.Shard.{Opening}
 use Rattle.host_core.specs.declared.file.KeptFile.{KeptFile}
@@ -87,22 +89,30 @@ counted [] = []
 counted (Counts one ∷ rows) = one ∷ counted rows
 counted (TakenBack one ∷ rows) = counted rows
 
--- the entry changed the folder
-abbrev pub changes : Made → Bool
-changes one = one.step.ruling.status == 200 && is_stored one.step.call.act
+-- the act leaves the file and its lock as they are
+abbrev pub only_looks : Act → Bool
+only_looks act.Info = true
+only_looks (act.Get most) = true
+only_looks act.GetLock = true
+only_looks act.Look = true
+only_looks _ = false
 
--- nothing was changed or taken back
-abbrev pub IsIdle : Row → Type 0
-IsIdle (Counts one) = changes one ≡ false
-IsIdle (TakenBack one) = ⊥
+-- An entry that is synced before it's told: it changed the folder, or, in a log that syncs all changes, the folder or a lock.
+abbrev pub is_synced : Bool → Made → Bool
+is_synced all one = one.step.ruling.status == 200 && (if all then not (only_looks one.step.call.act) else is_stored one.step.call.act)
+
+-- nothing was changed that is synced, or taken back
+abbrev pub IsIdle : Bool → Row → Type 0
+IsIdle all (Counts one) = is_synced all one ≡ false
+IsIdle all (TakenBack one) = ⊥
 
 -- The log grew by the head, by the texts of these entries, among which stand some that were taken back, and then by the tail. What was
--- synced of it has the head and all that changed the folder.
-pub record IsLog (start held synced : Option (List ℕ)) (head : List ℕ) (told : List Made) (tail : List ℕ) : Type 0 where
+-- synced of it has the head and all that changed the folder, and where all changes are synced, a lock.
+pub record IsLog (all : Bool) (start held synced : Option (List ℕ)) (head : List ℕ) (told : List Made) (tail : List ℕ) : Type 0 where
   pub sure : List Row
   pub loose : List Row
   pub told_are : counted (sure ++ loose) ≡ told
-  pub idle : AllByRecursion IsIdle loose
+  pub idle : AllByRecursion (IsIdle all) loose
   pub grew : Appends start held (head ++ (rows_text (sure ++ loose) ++ tail))
   pub more : List ℕ
   pub reached : Appends start synced (head ++ (rows_text sure ++ more))

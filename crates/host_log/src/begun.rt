@@ -6,6 +6,7 @@ ghost use Rattle.wopi_text.specs.FileName.{shard_of};
 ghost use Rattle.host_table.specs.Pieces.{piece_text, place_text};
 ghost use Rattle.host_table.specs.Text.{space, act_text, token_fields};
 ghost use Rattle.wopi_model.specs.Act.{is_stored};
+ghost use Rattle.host_log.specs.Rows.{only_looks};
 
 use host_core::{Act, Beginning, Call, EntryAct};
 use host_table::lines::{Piece, act_pieces, head_pieces, token_pieces};
@@ -111,6 +112,19 @@ impl Begun {
             EntryAct::Put { .. } => return true,
             EntryAct::Create { .. } => return true,
             EntryAct::Delete => return true,
+            _ => return false,
+        }
+    }
+
+    /// Whether it leaves the file and its lock as they are.
+    pub fn only_looks(&self) -> bool
+        ensures { result ≡ only_looks self.now.call.act }
+    {
+        match &self.act {
+            EntryAct::Info => return true,
+            EntryAct::Get { .. } => return true,
+            EntryAct::GetLock => return true,
+            EntryAct::Look => return true,
             _ => return false,
         }
     }

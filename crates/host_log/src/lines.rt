@@ -3,7 +3,7 @@ ghost use Rattle.std.specs.Prelude.{◌≡◌, ◌≤◌, ◌++◌, ◌∷◌, [
 ghost use Rattle.outside.specs.Faults.{Rose};
 ghost use Rattle.host_core.specs.Entries.{accepted_contents, ruled, ruled_as};
 ghost use Rattle.host_core.specs.Notes.{accepted, opening_listed};
-ghost use Rattle.host_log.specs.Rows.{changes, off_line, opening_text};
+ghost use Rattle.host_log.specs.Rows.{is_synced, off_line, opening_text};
 ghost use Rattle.host_log.specs.Lines.{AreLines, GoesOn, IsOf, IsUntouched};
 
 use crate::begun::Begun;
@@ -24,6 +24,7 @@ use wopi_text::LockField;
 #[derive(Drop)]
 pub struct Lines<L: Log> {
     log: L,
+    syncs_all: bool,
     room: WriteRoom,
     start: Snapshot<L>,
     untouched: bool,
@@ -60,11 +61,17 @@ fn accepted(version: Option<u64>) -> Ruling
     }
 }
 
-/// Whether the entry changes the folder.
-fn changes(begun: &Begun, ruling: &Ruling) -> bool
-    ensures { result ≡ changes (ruled ruling.now begun.now) }
+/// Whether the entry is synced before it's told, in a log that syncs all changes, or those of the folder alone.
+fn is_synced(all: bool, begun: &Begun, ruling: &Ruling) -> bool
+    ensures { result ≡ is_synced all (ruled ruling.now begun.now) }
 {
-    ruling.status == 200 && begun.is_stored()
+    if ruling.status != 200 {
+        return false;
+    }
+    if all {
+        return !begun.only_looks();
+    }
+    begun.is_stored()
 }
 
 /// Notes an entry behind the others, and whether it may be told.
@@ -84,10 +91,12 @@ fn off_line() -> &'static [u8]
 }
 
 impl<L: Log> Lines<L> {
-    /// Over a log all of which is synced, with nothing told to it yet.
-    pub fn new(log: L, room: WriteRoom) -> Lines<L>
+    /// Over a log all of which is synced, with nothing told to it yet. It syncs each entry that changes something, or those alone
+    /// that change the folder.
+    pub fn new(log: L, room: WriteRoom, syncs_all: bool) -> Lines<L>
         requires { L.synced log ≡ L.held log }
         ensures { result ≡ record {
+          all = syncs_all;
           start = L.held log;
           held = L.held log;
           synced = L.synced log;
@@ -104,6 +113,7 @@ impl<L: Log> Lines<L> {
         let start = Snapshot::of(&log);
         Lines {
             log,
+            syncs_all,
             room,
             start,
             untouched: true,
@@ -124,6 +134,7 @@ impl<L: Log> Lines<L> {
     {
         let Lines {
             log,
+            syncs_all: _syncs_all,
             room: _room,
             start: _start,
             untouched: _untouched,
@@ -180,6 +191,7 @@ impl<L: Log> Lines<L> {
         ensures told { self.new.told ≡ [] }
         ensures free { self.new.standing ≡ None }
         ensures doubt { self.new.doubt ≡ None }
+        ensures all { self.new.all ≡ self.old.all }
         ensures start { self.new.start ≡ self.old.start }
         ensures began { self.new.began ≡ self.old.began }
         ensures never_falls { self.old.faults ≤ self.new.faults }
@@ -197,7 +209,7 @@ impl<L: Log> Lines<L> {
         }
     }
 
-    /// Appends the line of an entry, and syncs it where it changed the folder.
+    /// Appends the line of an entry, and syncs it where it changed what is synced.
     fn add(&mut self, begun: &Begun, ruling: &Ruling, is_told: bool)
         requires fine { self.old.lost ≡ false }
         requires free { self.old.standing ≡ None }
@@ -217,7 +229,7 @@ impl<L: Log> Lines<L> {
                 return;
             }
         }
-        if !changes(begun, ruling) {
+        if !is_synced(self.syncs_all, begun, ruling) {
             keep_note(&mut self.told, begun, ruling, is_told);
             return;
         }

@@ -142,10 +142,19 @@ fn conclude<L: Log>(
 }
 
 impl<F: Folder, L: Log> Logged<F, L> {
-    /// Of the shard of that number, over a folder, and a log all of which is synced. The room is what lines are gathered in.
-    pub fn new(alloc: Global, shard: u8, folder: F, log: L, room: WriteRoom) -> Logged<F, L>
+    /// Of the shard of that number, over a folder, and a log all of which is synced. The room is what lines are gathered in. With
+    /// `syncs_all` the log is synced at each entry that changes something, and else at those that change the folder alone.
+    pub fn new(
+        alloc: Global,
+        shard: u8,
+        folder: F,
+        log: L,
+        room: WriteRoom,
+        syncs_all: bool,
+    ) -> Logged<F, L>
         requires { L.synced log ≡ L.held log }
         ensures anew { IsAnew shard folder result }
+        ensures all { result.lines.all ≡ syncs_all }
         ensures start { result.lines.start ≡ L.held log }
         ensures began { result.lines.began ≡ L.write_faults log }
     {
@@ -153,7 +162,7 @@ impl<F: Folder, L: Log> Logged<F, L> {
         Logged {
             shard,
             folder,
-            lines: Lines::new(log, room),
+            lines: Lines::new(log, room, syncs_all),
             opening: Snapshot::of(&none),
             opened: 0,
             first: 0,
@@ -175,8 +184,10 @@ impl<F: Folder, L: Log> Logged<F, L> {
         log: L,
         count: u64,
         room: WriteRoom,
+        syncs_all: bool,
     ) -> Result<Logged<F, L>, (F, L)>
         ensures anew { IfOk result (λ logged. IsAnew shard folder logged) }
+        ensures all { IfOk result (λ logged. logged.lines.all ≡ syncs_all) }
         ensures start { IfOk result (λ logged. IsCutAt count (L.held log) logged.lines.start) }
         ensures began { IfOk result (λ logged. L.write_faults log ≤ logged.lines.began) }
         ensures handed { IfErr result (λ handed. handed.0 ≡ folder) }
@@ -185,7 +196,7 @@ impl<F: Folder, L: Log> Logged<F, L> {
     {
         let mut log = log;
         match log.resume(count) {
-            Ok(()) => return Ok(Logged::new(alloc, shard, folder, log, room)),
+            Ok(()) => return Ok(Logged::new(alloc, shard, folder, log, room, syncs_all)),
             Err(Failed) => return Err((folder, log)),
         }
     }

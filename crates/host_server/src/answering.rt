@@ -21,7 +21,7 @@ use crate::saving::{is_info, told_by};
 use crate::telling::{info_told, journal_full, ruling_told, status_only};
 use access_tokens::{RecentTokens, Token};
 use containers::container_answer;
-use host_core::{Act, Call, CallFault, Caller, Lister};
+use host_core::{Act, Call, CallFault, Caller, Carried, Lister, Refusal};
 use std::alloc::Global;
 use std::mem;
 use wopi_headers::{Answer, Ask, AskFault, ContainerAsk, Op, Target, place_into};
@@ -92,11 +92,13 @@ fn make_and_tell<C: Caller>(
 {
     let name = ask.file.copy();
     let act = act_of(&ask.op, body);
-    match caller.call(Call { name, token, act }, moment) {
-        Ok(receipt) => ruling_told(alloc, receipt.ruling),
-        Err(CallFault::Full(_)) => journal_full(alloc),
-        Err(CallFault::Memory(_)) => Err(Memory),
-        Err(CallFault::Lost(_)) => Err(Memory),
+    let mut call = Call { name, token, act };
+    let mut carried = Carried::new();
+    match caller.call_at(&mut call, moment, &mut carried) {
+        Ok(_placed) => ruling_told(alloc, carried.ruling),
+        Err(Refusal::Full) => journal_full(alloc),
+        Err(Refusal::Memory) => Err(Memory),
+        Err(Refusal::Lost) => Err(Memory),
     }
 }
 

@@ -4,7 +4,7 @@ ghost use Rattle.wopi_model.specs.Moment.{IsMoment};
 ghost use Rattle.host_server.specs.Keeping.{KeepsTold};
 ghost use Rattle.host_server.specs.Calls.{Calls};
 
-use host_core::{Call, CallFault, Caller, Ruling};
+use host_core::{Call, Caller, Carried, Refusal, Ruling};
 use wopi_text::Bytes;
 
 /// What became of a call.
@@ -25,13 +25,15 @@ pub fn make<C: Caller>(caller: &mut C, call: Call, moment: u64) -> Called
     ensures basis { C.basis caller.new ≡ C.basis caller.old }
     ensures references { C.references caller.new ≡ C.references caller.old }
 {
-    match caller.call(call, moment) {
-        Ok(receipt) => Called::Ruled {
-            ruling: receipt.ruling,
-            back: receipt.back,
+    let mut call = call;
+    let mut carried = Carried::new();
+    match caller.call_at(&mut call, moment, &mut carried) {
+        Ok(_placed) => Called::Ruled {
+            ruling: carried.ruling,
+            back: carried.back,
         },
-        Err(CallFault::Full(_)) => Called::Full,
-        Err(CallFault::Memory(_)) => Called::Memory,
-        Err(CallFault::Lost(_)) => Called::Memory,
+        Err(Refusal::Full) => Called::Full,
+        Err(Refusal::Memory) => Called::Memory,
+        Err(Refusal::Lost) => Called::Memory,
     }
 }

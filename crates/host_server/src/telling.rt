@@ -64,27 +64,33 @@ fn body_told(
     }
 }
 
-/// The answer that tells a ruling. Contents are moved into it.
+/// The answer that tells a ruling. Contents are moved into it. Most rulings tell no lock, and then no place of one is moved.
 pub fn ruling_told(alloc: Global, ruling: Ruling) -> Result<Answer, Memory>
     ensures { IfOk result (λ a. a ≡ ruling_told ruling) }
 {
-    let Ruling {
-        status,
-        lock,
-        reason,
-        version,
-        size: _,
-        contents,
-    } = ruling;
-    let (kind, body) = body_told(alloc, status, contents)?;
-    Ok(Answer {
-        status,
-        lock,
-        reason,
-        version,
-        kind,
-        body,
-    })
+    let (kind, body) = body_told(alloc, ruling.status, ruling.contents)?;
+    match &ruling.lock {
+        LockField::Absent => {
+            return Ok(Answer {
+                status: ruling.status,
+                lock: LockField::Absent,
+                reason: ruling.reason,
+                version: ruling.version,
+                kind,
+                body,
+            });
+        }
+        _ => {
+            return Ok(Answer {
+                status: ruling.status,
+                lock: ruling.lock,
+                reason: ruling.reason,
+                version: ruling.version,
+                kind,
+                body,
+            });
+        }
+    }
 }
 
 /// What is told of the file of that name.

@@ -9,7 +9,11 @@ use Rattle.wopi_model.specs.Host.{FullFrom}
 use Rattle.host_core.specs.declared.caller.Receipt.{Receipt}
 use Rattle.host_core.specs.declared.caller.CallFault.{CallFault}
 use Rattle.host_core.specs.declared.caller.EditorReceipt.{EditorReceipt}
-use Rattle.host_core.specs.Caller.{entry_of, IsFullCall, next_stamp}
+use Rattle.host_core.specs.declared.caller.Placed.{Placed}
+use Rattle.host_core.specs.declared.caller.Refusal.{Refusal}
+use Rattle.host_core.specs.declared.caller.Refusal.TheVariants as refusal
+use Rattle.host_core.specs.declared.accept.Carried.{Carried}
+use Rattle.host_core.specs.Caller.{answer_of, entry_of, IsFullCall, next_stamp}
 use Rattle.host_core.specs.declared.listing.Listing.{Listing}
 use Rattle.host_core.specs.Fullness.{IsNearlyFull}
 use Rattle.host_core.specs.Listing.{IsListing}
@@ -29,6 +33,13 @@ places_one made one = let n : length (made ++ one ∷ []) - length made ≡ 1 = 
 
 places_none : (made : List Made) → places_behind made made ≡ []
 places_none made = let n : length made - length made ≡ 0 = omega arith in ap (places_from (length made)) n
+
+-- what an answer leaves of a call that made no entry, in its place
+pub onerr_placed : (answer : Result Placed Refusal) (call : Call) (carried : Carried) (P : Type 0) → OnErr (answer_of answer call carried) P → OnErr answer P
+onerr_placed (Ok placed) call carried P h = tt
+onerr_placed (Err refusal.Full) call carried P h = h
+onerr_placed (Err refusal.Memory) call carried P h = h
+onerr_placed (Err refusal.Lost) call carried P h = h
 
 -- a call adds at most an entry
 pub grown : {F : Type 0} (old new : Book F) (call : Call) (pass floor moment : ℕ) (answer : Result Receipt CallFault) → IfOk answer (Adds old new call pass floor moment) → IfErr answer (Declines old new call floor moment) → IsPrefix old.made new.made

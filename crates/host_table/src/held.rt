@@ -6,7 +6,7 @@ ghost use Rattle.wopi_model.specs.Begin.{new_life};
 ghost use Rattle.wopi_model.specs.Host.{kept_limits};
 ghost use Rattle.wopi_model.specs.Moment.{IsMoment};
 ghost use Rattle.wopi_model.specs.Shard.{Opening};
-ghost use Rattle.host_core.specs.Caller.{IsLostCall};
+ghost use Rattle.host_core.specs.Caller.{IsLost, IsLostCall, answer_of};
 ghost use Rattle.host_core.specs.Fullness.{IsNearlyFull};
 ghost use Rattle.host_core.specs.Listing.{IsListing};
 ghost use Rattle.host_core.specs.Opening.{AreDatesOf, IsFirstVersion, IsOpening, Fits, IsTooLarge, IfTooLarge};
@@ -18,8 +18,8 @@ ghost use Rattle.host_table.specs.Held.{Adds, AddsForEditor, Declines, IsGiven, 
 
 use crate::opening::Most;
 use host_core::{
-    CallFault, EditorReceipt, Kept, Listing, Past, Receipt, Shard, StartFault, StepFault, Store,
-    leave,
+    CallFault, Carried, EditorReceipt, Kept, Listing, Past, Placed, Receipt, Refusal, Shard,
+    StartFault, StepFault, Store, leave,
 };
 use outside::Folder;
 use std::alloc::Global;
@@ -196,40 +196,40 @@ impl<F: Store> Held<F> {
         }
     }
 
-    /// One step of the shard. It tells whether the answer may be told: the store is not lost at it.
-    pub fn call(
+    /// One step of the shard, of a call that stays where it lies, as does what is told of it. It tells whether the answer may be told:
+    /// the store is not lost at it.
+    pub fn call_at(
         &mut self,
-        call: Call,
+        call: &mut Call,
         pass: u32,
         floor: u64,
         moment: u64,
-    ) -> Result<Receipt, CallFault>
+        carried: &mut Carried,
+    ) -> Result<Placed, Refusal>
         requires moment { IsMoment moment }
-        requires only { self.old.only ≡ Some (shard_of call.name) }
+        requires only { self.old.only ≡ Some (shard_of call.old.name) }
         ensures base { as_opened self.new ≡ as_opened self.old }
         ensures seen { IsSeen (as_opened self.new) self.new.made }
-        ensures made { IfOk result (λ receipt. Adds self.old self.new call pass floor moment receipt) }
-        ensures refused { IfErr result (λ refusal. Declines self.old self.new call floor moment refusal) }
-        ensures told { IfOk result (λ receipt. receipt.told ≡ not (F.lost self.new.folder)) }
-        ensures lost { IfErr result (λ refusal. IsLostCall refusal → F.lost self.new.folder ≡ true) }
+        ensures made { IfOk (answer_of result call.new carried.new) (λ receipt. Adds self.old self.new call.old pass floor moment receipt) }
+        ensures refused { IfErr (answer_of result call.new carried.new) (λ refusal. Declines self.old self.new call.old floor moment refusal) }
+        ensures told { IfOk result (λ placed. placed.told ≡ not (F.lost self.new.folder)) }
+        ensures lost { IfErr result (λ refusal. IsLost refusal → F.lost self.new.folder ≡ true) }
     {
         let shard = call.name.shard();
         let place = self.shard.len();
-        match self.shard.step(call, pass, floor, moment) {
-            Ok((stamp, ruling, back)) => {
+        match self.shard.step_at(call, pass, floor, moment, carried) {
+            Ok(stamp) => {
                 let told = !self.shard.is_lost();
-                return Ok(Receipt {
+                return Ok(Placed {
                     stamp,
                     shard,
                     place,
-                    ruling,
-                    back,
                     told,
                 });
             }
-            Err(StepFault::Full(call)) => return Err(CallFault::Full(call)),
-            Err(StepFault::Memory(call)) => return Err(CallFault::Memory(call)),
-            Err(StepFault::Lost(call)) => return Err(CallFault::Lost(call)),
+            Err(Refusal::Full) => return Err(Refusal::Full),
+            Err(Refusal::Memory) => return Err(Refusal::Memory),
+            Err(Refusal::Lost) => return Err(Refusal::Lost),
         }
     }
 

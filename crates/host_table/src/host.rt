@@ -5,7 +5,7 @@ ghost use Rattle.wopi_model.specs.Host.{kept_limits};
 ghost use Rattle.wopi_model.specs.Moment.{IsMoment};
 ghost use Rattle.host_core.specs.Opening.{IsFirstVersion};
 ghost use Rattle.wopi_text.specs.FileName.{shard_of};
-ghost use Rattle.host_core.specs.Caller.{Makes, MakesForEditor, Refuses, Frames, entry_of, IsLostCall};
+ghost use Rattle.host_core.specs.Caller.{Makes, MakesForEditor, Refuses, Frames, answer_of, entry_of, IsLost, IsLostCall};
 ghost use Rattle.host_core.specs.Facts.{made_for};
 ghost use Rattle.host_core.specs.Fullness.{IsNearlyFull, IsNearlyFullAt};
 ghost use Rattle.host_core.specs.Listing.{IsListing, Lists, LooksAt};
@@ -25,7 +25,9 @@ use crate::rooms::{CloseRoom, EndRoom, SplitRoom};
 use crate::rows::split_all;
 use crate::stores::{free_all, keep_all};
 use crate::whole::{are_numbered, weigh_whole};
-use host_core::{CallFault, EditorReceipt, Kept, Listing, Receipt, StartFault, Store};
+use host_core::{
+    CallFault, Carried, EditorReceipt, Kept, Listing, Placed, Receipt, Refusal, StartFault, Store,
+};
 use outside::Folder;
 use std::alloc::Global;
 use std::marker::Model;
@@ -78,25 +80,26 @@ fn turn<F: Store, R: Wait>(
     rt: &R,
     lock: &TurnLock<Held<F>>,
     seat: &mut Seat<Held<F>>,
-    call: Call,
+    call: &mut Call,
     number: u32,
     last: &mut u64,
     moment: u64,
-) -> (Result<Receipt, CallFault>, Snapshot<F>)
+    carried: &mut Carried,
+) -> (Result<Placed, Refusal>, Snapshot<F>)
     requires lock { seat.old.lock ≡ lock.now }
     requires free { seat.old.taken ≡ None }
-    requires based { IsSomeAnd seat.old.base (λ base. base.only ≡ Some (shard_of call.name)) }
+    requires based { IsSomeAnd seat.old.base (λ base. base.only ≡ Some (shard_of call.old.name)) }
     requires moment { IsMoment moment }
     ensures last { last.new ≡ max last.old (last_seen seat.new) }
     ensures seen { IsSomeAnd seat.old.base (λ base. IsSeen base seat.new.seen) }
-    ensures made { IfOk result.0 (λ receipt. Calls seat.old call number last.old moment receipt seat.new) }
-    ensures refused { IfErr result.0 (λ refusal. Looks seat.old call last.old moment refusal seat.new) }
+    ensures made { IfOk (answer_of result.0 call.new carried.new) (λ receipt. Calls seat.old call.old number last.old moment receipt seat.new) }
+    ensures refused { IfErr (answer_of result.0 call.new carried.new) (λ refusal. Looks seat.old call.old last.old moment refusal seat.new) }
     ensures noted { AreSeenAt (F.notes result.1.value) seat.new }
-    ensures told { IfOk result.0 (λ receipt. receipt.told ≡ not (F.lost result.1.value)) }
-    ensures lost { IfErr result.0 (λ refusal. IsLostCall refusal → F.lost result.1.value ≡ true) }
+    ensures told { IfOk result.0 (λ placed. placed.told ≡ not (F.lost result.1.value)) }
+    ensures lost { IfErr result.0 (λ refusal. IsLost refusal → F.lost result.1.value ≡ true) }
 {
     let mut held = lock.take(rt, seat);
-    let answer = held.call(call, number, *last, moment);
+    let answer = held.call_at(call, number, *last, moment, carried);
     *last = (*last).max(held.last());
     let store = Snapshot::of(held.store());
     lock.give_back(seat, held);
@@ -365,7 +368,37 @@ impl<F: Store> Host<F> {
 
     /// One step of the call's shard at a moment, in milliseconds, in a turn that the pass waits for. The entry's
     /// stamp passes the pass's last stamp, and so all that the pass had seen in any shard. The answer may be told where the
-    /// shard's store, which has noted the entry, is not lost; a call is refused as lost where it is.
+    /// shard's store, which has noted the entry, is not lost; a call is refused as lost where it is. The call and what is told of it
+    /// stay where they lie: the ruling is in `carried` then, whatever was there, and a call that made no entry is as it was. What a
+    /// call that made one brought is taken.
+    pub fn call_at<R: Wait>(
+        &self,
+        rt: &R,
+        pass: &mut Pass<F>,
+        call: &mut Call,
+        moment: u64,
+        carried: &mut Carried,
+    ) -> Result<Placed, Refusal>
+        requires host { locks_of pass.old ≡ self.now.locks }
+        requires moment { IsMoment moment }
+        ensures made { IfOk (answer_of result call.new carried.new) (Makes (sight_of pass.old) (sight_of pass.new) call.old moment) }
+        ensures refused { IfErr (answer_of result call.new carried.new) (Refuses (sight_of pass.old) (sight_of pass.new) call.old moment) }
+        ensures frame { Frames (sight_of pass.old) (sight_of pass.new) call.old.name }
+        ensures told { IfOk result (λ placed. (store : F) × AreNotesOf (sight_of pass.new) (shard_of call.old.name) (F.notes store) × (placed.told ≡ not (F.lost store))) }
+        ensures loses { IfOk result (λ placed. placed.told ≡ false → F.loses ≡ true) }
+        ensures lost { IfErr result (λ refusal. IsLost refusal → (store : F) × AreNotesOf (sight_of pass.new) (shard_of call.old.name) (F.notes store) × (F.lost store ≡ true)) }
+        ensures may_lose { IfErr result (λ refusal. IsLost refusal → F.loses ≡ true) }
+        ensures own { IfOk (answer_of result call.new carried.new) (λ receipt. own_of pass.new ≡ own_of pass.old
+            ++ record { shard = receipt.shard; place = receipt.place; entry = entry_of pass.old.number call.old moment receipt; told = receipt.told } ∷ []) }
+        ensures none { OnErr result (own_of pass.new ≡ own_of pass.old) }
+        ensures same { IsSamePass pass.old pass.new }
+        ensures seen { HasSeen pass.new }
+    {
+        let (answer, _store) = self.call_at_store(rt, pass, call, moment, carried);
+        answer
+    }
+
+    /// The same of a call that comes by value, as does what it is answered.
     pub fn call<R: Wait>(
         &self,
         rt: &R,
@@ -388,28 +421,44 @@ impl<F: Store> Host<F> {
         ensures same { IsSamePass pass.old pass.new }
         ensures seen { HasSeen pass.new }
     {
-        let (answer, _store) = self.call_at_store(rt, pass, call, moment);
-        answer
+        let mut call = call;
+        let mut carried = Carried::new();
+        match self.call_at(rt, pass, &mut call, moment, &mut carried) {
+            Ok(placed) => {
+                return Ok(Receipt {
+                    stamp: placed.stamp,
+                    shard: placed.shard,
+                    place: placed.place,
+                    ruling: carried.ruling,
+                    back: carried.back,
+                    told: placed.told,
+                });
+            }
+            Err(Refusal::Full) => return Err(CallFault::Full(call)),
+            Err(Refusal::Memory) => return Err(CallFault::Memory(call)),
+            Err(Refusal::Lost) => return Err(CallFault::Lost(call)),
+        }
     }
 
-    /// The same, where contracts see the store of the call's shard, as the turn left it.
+    /// A call that stays where it lies, where contracts see the store of its shard, as the turn left it.
     pub(crate) fn call_at_store<R: Wait>(
         &self,
         rt: &R,
         pass: &mut Pass<F>,
-        call: Call,
+        call: &mut Call,
         moment: u64,
-    ) -> (Result<Receipt, CallFault>, Snapshot<F>)
+        carried: &mut Carried,
+    ) -> (Result<Placed, Refusal>, Snapshot<F>)
         requires host { locks_of pass.old ≡ self.now.locks }
         requires moment { IsMoment moment }
-        ensures made { IfOk result.0 (Makes (sight_of pass.old) (sight_of pass.new) call moment) }
-        ensures refused { IfErr result.0 (Refuses (sight_of pass.old) (sight_of pass.new) call moment) }
-        ensures frame { Frames (sight_of pass.old) (sight_of pass.new) call.name }
-        ensures noted { AreNotesOf (sight_of pass.new) (shard_of call.name) (F.notes result.1.value) }
-        ensures told { IfOk result.0 (λ receipt. receipt.told ≡ not (F.lost result.1.value)) }
-        ensures lost { IfErr result.0 (λ refusal. IsLostCall refusal → F.lost result.1.value ≡ true) }
-        ensures own { IfOk result.0 (λ receipt. own_of pass.new ≡ own_of pass.old
-            ++ record { shard = receipt.shard; place = receipt.place; entry = entry_of pass.old.number call moment receipt; told = receipt.told } ∷ []) }
+        ensures made { IfOk (answer_of result.0 call.new carried.new) (Makes (sight_of pass.old) (sight_of pass.new) call.old moment) }
+        ensures refused { IfErr (answer_of result.0 call.new carried.new) (Refuses (sight_of pass.old) (sight_of pass.new) call.old moment) }
+        ensures frame { Frames (sight_of pass.old) (sight_of pass.new) call.old.name }
+        ensures noted { AreNotesOf (sight_of pass.new) (shard_of call.old.name) (F.notes result.1.value) }
+        ensures told { IfOk result.0 (λ placed. placed.told ≡ not (F.lost result.1.value)) }
+        ensures lost { IfErr result.0 (λ refusal. IsLost refusal → F.lost result.1.value ≡ true) }
+        ensures own { IfOk (answer_of result.0 call.new carried.new) (λ receipt. own_of pass.new ≡ own_of pass.old
+            ++ record { shard = receipt.shard; place = receipt.place; entry = entry_of pass.old.number call.old moment receipt; told = receipt.told } ∷ []) }
         ensures none { OnErr result.0 (own_of pass.new ≡ own_of pass.old) }
         ensures same { IsSamePass pass.old pass.new }
         ensures seen { HasSeen pass.new }
@@ -418,7 +467,16 @@ impl<F: Store> Host<F> {
         let shard = usize::from(call.name.shard());
         let lock = &self.locks[shard];
         let seat = &mut pass.seats[shard];
-        turn(rt, lock, seat, call, number, &mut pass.last, moment)
+        turn(
+            rt,
+            lock,
+            seat,
+            call,
+            number,
+            &mut pass.last,
+            moment,
+            carried,
+        )
     }
 
     /// The same for an editor, which knows of the moment at which the file was last saved. A Put that would be accepted, of a

@@ -1,11 +1,13 @@
 //! A pass at its host, as a caller.
 ghost use Rattle.std.specs.Prelude.{◌≡◌, ◌&&◌, not, [], ◌∷◌, true, false};
 ghost use Rattle.host_table.specs.Passes.{locks_of, top, AreBelow, IsPassOf, AreInShards};
-ghost use Rattle.host_table.specs.Seated.{AreInShards-prop, told_in};
+ghost use Rattle.host_table.specs.Seated.{AreInShards-prop, is_told, told_in};
 
 use crate::host::{Host, SHARDS};
 use crate::pass::Pass;
-use host_core::{CallFault, Caller, EditorReceipt, Lister, Listing, Receipt, Store};
+use host_core::{
+    CallFault, Caller, Carried, EditorReceipt, Lister, Listing, Placed, Refusal, Store,
+};
 use std::marker::Model;
 use std::snapshot::Snapshot;
 use std::sync::Wait;
@@ -81,12 +83,12 @@ impl<R: Wait, F: Store> Seated<'_, R, F> {
 }
 
 /// Whether what a call was answered may be told.
-fn is_told(answer: &Result<Receipt, CallFault>) -> bool
-    ensures { result ≡ told_in (λ receipt. receipt.told) answer.now }
+fn is_told(answer: &Result<Placed, Refusal>) -> bool
+    ensures { result ≡ is_told answer.now }
 {
     match answer {
-        Ok(receipt) => return receipt.told,
-        Err(CallFault::Lost(_)) => return false,
+        Ok(placed) => return placed.told,
+        Err(Refusal::Lost) => return false,
         Err(_) => return true,
     }
 }
@@ -130,9 +132,14 @@ impl<R: Wait, F: Store> Caller for Seated<'_, R, F> {
 
     ghost is_always = { λ seated. sees_its_shards seated.pass.now seated.named seated.below };
 
-    fn call(&mut self, call: Call, moment: u64) -> Result<Receipt, CallFault> {
+    fn call_at(
+        &mut self,
+        call: &mut Call,
+        moment: u64,
+        carried: &mut Carried,
+    ) -> Result<Placed, Refusal> {
         let shard = call.name.shard();
-        let answer = self.host.call(self.rt, self.pass, call, moment);
+        let answer = self.host.call_at(self.rt, self.pass, call, moment, carried);
         self.note(shard, is_told(&answer));
         answer
     }

@@ -9,7 +9,8 @@ use Rattle.journal_segments.specs.declared.walking.SegmentFault.{SegmentFault}
 use Rattle.journal_segments.specs.declared.walking.SegmentFault.TheVariants as fault
 use Rattle.journal_segments.specs.declared.reading.Restored.{Restored}
 use Rattle.journal_segments.specs.Rows.{AreRows, IsCut, IsForm, IsHead, MayCome, head_text, rows_text, segment_text, start, state_after, step, text_of, told_with}
-use Rattle.journal_segments.specs.Reading.{EndsIn, Goes, HasLine, HasTaken, IsBadRow, IsLong, IsLongBehind, IsLongRow, IsOverlong, IsStopped, IsTimed, IsUnfit, IsWhole, Refuses, Stops, Waits}
+use Rattle.journal_segments.specs.Reading.{EndsIn, Goes, HasLine, HasTaken, IsBadRow, IsLong, IsLongBehind, IsLongRow, IsOverlong, IsStopped, IsTimed, IsUnfit, IsWhole, Refuses, Stops, Waits, Walks}
+use Rattle.journal_segments.specs.Seen.{Sees}
 
 -- ---- lists that grow
 
@@ -40,11 +41,11 @@ shard_after state (one ∷ rows) = shard_after (step state one) rows ∙ shard_s
 
 -- ---- lines at the front of a text
 
-pub goes_none : (state : State) (text : List ℕ) (number : ℕ) → Goes state text number state text number
+unfoldable pub goes_none : (state : State) (text : List ℕ) (number : ℕ) → Goes state text number state text number
 goes_none state text number = record { rows = []; rows_are = tt; state_is = refl; parts = refl; number_is = omega arith }
 
 -- and more of them
-pub goes_join : (old mid new : State) (text left rest : List ℕ) (a b c : ℕ) → Goes old text a mid left b → Goes mid left b new rest c → Goes old text a new rest c
+unfoldable pub goes_join : (old mid new : State) (text left rest : List ℕ) (a b c : ℕ) → Goes old text a mid left b → Goes mid left b new rest c → Goes old text a new rest c
 goes_join old mid new text left rest a b c f s =
     let P : State → Type 0 = λ state. AreRows state s.rows in
     let m = f.number_is in
@@ -60,7 +61,7 @@ goes_join old mid new text left rest a b c f s =
     }
 
 -- and one more
-pub goes_row : (old mid new : State) (text left behind : List ℕ) (one : Row) (a b c : ℕ) → Goes old text a mid left b → IsWhole mid left one behind → new ≡ step mid one → c ≡ b + 1
+unfoldable pub goes_row : (old mid new : State) (text left behind : List ℕ) (one : Row) (a b c : ℕ) → Goes old text a mid left b → IsWhole mid left one behind → new ≡ step mid one → c ≡ b + 1
     → Goes old text a new behind c
 goes_row old mid new text left behind one a b c f whole is counted =
     goes_join old mid new text left behind a b c f (record {
@@ -71,8 +72,37 @@ goes_row old mid new text left behind one a b c f whole is counted =
       number_is = omega (arith, counted);
     })
 
+module _ {W : Type 0} (has_seen : W → Head → List Row → Type 0) where
+  -- nothing was walked
+  pub walks_none : (watcher : W) (state : State) (text : List ℕ) (number : ℕ) → Walks has_seen watcher watcher state text number state text number
+  unfolding goes_none
+  walks_none watcher state text number =
+      record {
+        goes = goes_none state text number;
+        sees = λ head before is counted seen. subst (λ (l : List Row). has_seen watcher head l) (sym (append-nil before)) seen;
+      }
+
+  -- what saw lines, and then others, has seen both
+  sees_join : (first second third : W) (old mid : State) (a b : ℕ) (rows more : List Row) → mid ≡ state_after old rows → b ≡ a + length rows → Sees has_seen first second old a rows
+      → Sees has_seen second third mid b more → Sees has_seen first third old a (rows ++ more)
+  sees_join first second third old mid a b rows more is count f s head before at counted seen =
+      let len = length-append before rows in
+      subst (λ (l : List Row). has_seen third head l) (append_assoc before rows more)
+      (s head (before ++ rows) (is ∙ ap (λ (state : State). state_after state rows) at ∙ sym (state-append (start head) before rows)) (omega (arith, len, count, counted))
+      (f head before at counted seen))
+
+  -- one line more was walked
+  pub walks_row : (first second third : W) (old mid new : State) (text left behind : List ℕ) (one : Row) (a b c : ℕ) → Walks has_seen first second old text a mid left b → IsWhole mid left one behind
+      → new ≡ step mid one → c ≡ b + 1 → Sees has_seen second third mid b (one ∷ []) → Walks has_seen first third old text a new behind c
+  unfolding goes_row goes_join
+  walks_row first second third old mid new text left behind one a b c f whole is counted seen =
+      record {
+        goes = goes_row old mid new text left behind one a b c f.goes whole is counted;
+        sees = sees_join first second third old mid a b f.goes.rows (one ∷ []) f.goes.state_is f.goes.number_is f.sees seen;
+      }
+
 -- and more bytes
-pub goes_more : (old new : State) (text left piece : List ℕ) (a b : ℕ) → Goes old text a new left b → Goes old (text ++ piece) a new (left ++ piece) b
+unfoldable pub goes_more : (old new : State) (text left piece : List ℕ) (a b : ℕ) → Goes old text a new left b → Goes old (text ++ piece) a new (left ++ piece) b
 goes_more old new text left piece a b f =
     record {
       rows = f.rows;
@@ -116,11 +146,11 @@ overlong_row old mid text left a b line f long counted =
 
 -- ---- behind the first line
 
-pub taken_first : (text rest : List ℕ) (head : Head) → IsHead head → text ≡ head_text head ++ rest → IsTimed (start head) → HasTaken text rest 1 (start head)
+unfoldable pub taken_first : (text rest : List ℕ) (head : Head) → IsHead head → text ≡ head_text head ++ rest → IsTimed (start head) → HasTaken text rest 1 (start head)
 taken_first text rest head is parts timed =
     record { head = head; rest = rest; head_is = is; parts = parts; goes = goes_none (start head) rest 1; timed = timed }
 
-pub taken_on : (text held left : List ℕ) (number counted : ℕ) (state next : State) → HasTaken text held number state → Goes state held number next left counted → IsTimed next
+unfoldable pub taken_on : (text held left : List ℕ) (number counted : ℕ) (state next : State) → HasTaken text held number state → Goes state held number next left counted → IsTimed next
     → HasTaken text left counted next
 taken_on text held left number counted state next taken goes timed =
     record {
@@ -132,7 +162,7 @@ taken_on text held left number counted state next taken goes timed =
       timed = timed;
     }
 
-pub taken_more : (text held piece : List ℕ) (number : ℕ) (state : State) → HasTaken text held number state → HasTaken (text ++ piece) (held ++ piece) number state
+unfoldable pub taken_more : (text held piece : List ℕ) (number : ℕ) (state : State) → HasTaken text held number state → HasTaken (text ++ piece) (held ++ piece) number state
 taken_more text held piece number state taken =
     record {
       head = taken.head;
@@ -204,7 +234,7 @@ refused text held number state fault.TooLong taken stops = absurd stops
 
 -- ---- all that was read
 
-pub ends : (text held : List ℕ) (number wanted : ℕ) (state : State) (read : Restored) → HasTaken text held number state → Waits state held wanted
+unfoldable pub ends : (text held : List ℕ) (number wanted : ℕ) (state : State) (read : Restored) → HasTaken text held number state → Waits state held wanted
     → read.shard ≡ state.shard → read.told ≡ told_with state.told state.pending → read.used + length held ≡ length text → EndsIn text read
 ends text held number wanted state read taken waits shard told used =
     let rows = taken.goes.rows in

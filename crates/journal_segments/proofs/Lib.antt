@@ -6,6 +6,8 @@ pub mod Lines
 pub mod Apart
 pub mod Fronts
 pub mod Going
+pub mod Seeing
+pub mod Refusing
 pub mod Coming
 pub mod Written
 pub mod Texts

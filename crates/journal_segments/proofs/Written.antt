@@ -91,7 +91,7 @@ files-rows state (file ∷ files) are behind =
     rows-append state (place_rows file) (opening_rows files) (file-rows state file are.0 behind.0)
     (subst (λ (s : State). AreRows s (opening_rows files)) (sym (after-file state file are.0.none)) (files-rows next files are.1 behind.1))
 
-no-entry : (state : State) (files : List (List ℕ × Placed)) → AllByRecursion (IsPlaced state.shard) files → (MayTakeBack state.pending → ⊥) → MayTakeBack (state_after state (opening_rows files)).pending → ⊥
+pub no-entry : (state : State) (files : List (List ℕ × Placed)) → AllByRecursion (IsPlaced state.shard) files → (MayTakeBack state.pending → ⊥) → MayTakeBack (state_after state (opening_rows files)).pending → ⊥
 no-entry state [] are not = not
 no-entry state (file ∷ files) are not =
     let next = at_file state.shard (all_told state) file.0 file.1 in

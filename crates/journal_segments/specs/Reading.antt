@@ -14,6 +14,7 @@ use Rattle.journal_segments.specs.declared.reading.Stage.{Stage}
 use Rattle.journal_segments.specs.declared.reading.Stage.TheVariants as stage
 use Rattle.journal_segments.specs.declared.reading.SegmentReader.{SegmentReader}
 use Rattle.journal_segments.specs.declared.reading.Restored.{Restored}
+use Rattle.journal_segments.specs.Seen.{IsFresh, Sees}
 use Rattle.journal_segments.specs.Rows.{AreRows, IsCut, IsForm, IsHead, IsSegment, MayCome, filled, head_text, now_with, rows_text, segment_text, start, state_after, text_of, told_by}
 
 -- ---- bounds
@@ -78,6 +79,11 @@ pub record Goes (old : State) (text : List ℕ) (number : ℕ) (new : State) (le
   pub parts : text ≡ rows_text rows ++ left
   pub number_is : counted ≡ number + length rows
 
+-- and each of them was seen
+pub record Walks {W : Type 0} (has_seen : W → Head → List Row → Type 0) (before after : W) (old : State) (text : List ℕ) (number : ℕ) (new : State) (left : List ℕ) (counted : ℕ) : Type 0 where
+  pub goes : Goes old text number new left counted
+  pub sees : Sees has_seen before after old number goes.rows
+
 -- behind these lines no other may come
 pub record IsStopped (state : State) (text : List ℕ) (number line : ℕ) : Type 0 where
   pub rows : List Row
@@ -114,12 +120,17 @@ pub record HasTaken (text held : List ℕ) (number : ℕ) (state : State) : Type
   pub goes : Goes (start head) rest 1 state held number
   pub timed : IsTimed state
 
-abbrev pub Reaches : List ℕ → Stage → ℕ → List ℕ → ℕ → Type 0
-Reaches text stage.First number held wanted = (held ≡ text) × (number ≡ 0) × IsRow held × (wanted ≡ length held + 1)
-Reaches text (stage.Rows state) number held wanted = HasTaken text held number state × Waits state held wanted
+-- and each of them was seen
+pub record HasSeen {W : Type 0} (has_seen : W → Head → List Row → Type 0) (watcher : W) (text held : List ℕ) (number : ℕ) (state : State) : Type 0 where
+  pub taken : HasTaken text held number state
+  pub seen_are : has_seen watcher taken.head taken.goes.rows
 
-pub record HasCome (reader : SegmentReader) (text : List ℕ) : Type 0 where
-  pub reaches : Reaches text reader.stage reader.number reader.held.items reader.wanted
+abbrev pub Reaches : {W : Type 0} → (W → Head → List Row → Type 0) → W → List ℕ → Stage → ℕ → List ℕ → ℕ → Type 0
+Reaches has_seen watcher text stage.First number held wanted = (held ≡ text) × (number ≡ 0) × IsRow held × (wanted ≡ length held + 1) × IsFresh has_seen watcher
+Reaches has_seen watcher text (stage.Rows state) number held wanted = HasSeen has_seen watcher text held number state × Waits state held wanted
+
+pub record HasCome {W : Type 0} (has_seen : W → Head → List Row → Type 0) (reader : SegmentReader W) (text : List ℕ) : Type 0 where
+  pub reaches : Reaches has_seen reader.watcher text reader.stage reader.number reader.held.items reader.wanted
   pub size : reader.size ≡ length text
   pub few : length text ≤ most_bytes
   pub count : reader.number + length reader.held.items ≤ length text
@@ -193,3 +204,15 @@ pub record IsRestored (left left' : Option (List ℕ)) (read : Restored) : Type 
   pub consumed : Consumes left left' bytes
   pub end : IsAtEnd left'
   pub ends : EndsIn bytes read
+
+-- ---- what was seen
+
+-- and the watcher has seen these lines
+pub record IsSeen {W : Type 0} (has_seen : W → Head → List Row → Type 0) (bytes : List ℕ) (read : Restored) (watcher : W) : Type 0 where
+  pub ends : EndsIn bytes read
+  pub seen_are : has_seen watcher ends.head ends.rows
+
+-- the source was read to its end, and the watcher has seen the lines
+pub record IsWatched {W : Type 0} (has_seen : W → Head → List Row → Type 0) (left left' : Option (List ℕ)) (read : Restored) (watcher : W) : Type 0 where
+  pub restored : IsRestored left left' read
+  pub seen_are : has_seen watcher restored.ends.head restored.ends.rows

@@ -207,6 +207,11 @@ abbrev pub MayTakeBack : Pending → Type 0
 MayTakeBack (pending.Entry line) = ⊤
 MayTakeBack _ = ⊥
 
+-- the last line, if it is that of an entry
+abbrev pub last_entry : Pending → Option Line
+last_entry (pending.Entry line) = Some line
+last_entry _ = None
+
 abbrev pub now_with : Told → Pending → ℕ
 now_with told (pending.Entry line) = line.now
 now_with told _ = told.now

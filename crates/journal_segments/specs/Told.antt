@@ -1,11 +1,12 @@
 -- What the lines of a segment leave, told by their rulings alone. (Own.)
-use Rattle.std.specs.Prelude.{◌≡◌, ⊤, ℕ, ◌-◌, false, ◌==◌, List, [], ◌∷◌, map, Option, None, Some, unwrap_or, if◌then◌else◌}
+use Rattle.std.specs.Prelude.{◌≡◌, ⊤, ℕ, ◌-◌, Bool, false, ◌&&◌, ◌==◌, nat_lt, List, [], ◌∷◌, map, Option, None, Some, unwrap_or, if◌then◌else◌}
+use Rattle.std.specs.Str.{bytes_eq}
 use Rattle.wopi_model.specs.declared.locks.Lock.{Lock}
 use Rattle.wopi_model.specs.declared.locks.Spent.{Spent}
 use Rattle.wopi_model.specs.declared.locks.LockAct.{LockAct}
 use Rattle.wopi_model.specs.declared.locks.LockAct.TheVariants as asks
 use Rattle.wopi_model.specs.File.{File}
-use Rattle.wopi_model.specs.Settle.{standing, expired, with_spent, still_spent, settled}
+use Rattle.wopi_model.specs.Settle.{is_over, standing, expired, with_spent, still_spent, settled}
 use Rattle.wopi_model.specs.LockTable.{lock_after, spent_by}
 use Rattle.wopi_model.specs.Shard.{Shard}
 use Rattle.wopi_model.specs.Kept.{Shows}
@@ -38,6 +39,11 @@ settled_place place now =
       spent = still_spent (with_spent (expired place.lock now) place.spent) now;
       fresh = place.fresh;
     }
+
+-- the lock has ended then, and its id is still refused
+abbrev pub ends_in : Option Lock → List ℕ → ℕ → Bool
+ends_in None id now = false
+ends_in (Some lock) id now = is_over lock now && (nat_lt now lock.until && bytes_eq lock.id id)
 
 -- the act as the lock table sees it; what an accepted act does to a lock doesn't depend on the contents
 abbrev pub asked : EntryAct → LockAct

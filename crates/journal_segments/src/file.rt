@@ -1,19 +1,24 @@
 //! What is told of one file.
-ghost use Rattle.std.specs.Prelude.{◌≡◌, ◌↔◌, [], None, IfSome, IsTrue, OnOk, option_map};
+ghost use Rattle.std.specs.Prelude.{◌≡◌, ◌↔◌, ◌&&◌, [], None, IfSome, IsTrue, OnOk, nat_lt, option_map};
+ghost use Rattle.std.specs.List.{list_any};
+ghost use Rattle.std.specs.Str.{bytes_eq};
 ghost use Rattle.wopi_model.specs.Moment.{IsMoment};
-ghost use Rattle.wopi_model.specs.Settle.{still_spent, with_spent};
+ghost use Rattle.wopi_model.specs.Act.{is_spent};
+ghost use Rattle.wopi_model.specs.Settle.{expired, standing, still_spent, with_spent};
 ghost use Rattle.wopi_model.specs.LockTable.{lock_after, spent_by};
 ghost use Rattle.lock_machine.specs.Asks.{act_of};
-ghost use Rattle.journal_segments.specs.Told.{asked, fresh_after, placed_after, settled_place, size_after, unmet, version_told};
+ghost use Rattle.journal_segments.specs.Told.{asked, ends_in, fresh_after, placed_after, settled_place, size_after, unmet, version_told};
 ghost use Rattle.journal_segments.specs.Line.{size_in};
 ghost use Rattle.journal_segments.specs.Rows.{held_place, holding, placed_at, spent_place};
 
 use journal_text::{Line, LineAct};
-use lock_machine::{LockAsk, change_by, lock_left, settle, spent_left, spent_until, taken_in};
+use lock_machine::{
+    LockAsk, change_by, is_over, lock_left, settle, spent_left, spent_until, taken_in,
+};
 use std::alloc::Global;
 use std::marker::Model;
 use wopi_model::{Lock, Spent};
-use wopi_text::{Bytes, Memory};
+use wopi_text::{Bytes, LockId, Memory};
 
 /// What is told of a file. What it keeps of contents are those that lines brought.
 #[derive(Drop)]
@@ -154,6 +159,48 @@ fn size_of(contents: &Option<Bytes>) -> Option<u64>
     }
 }
 
+/// A lock, where it still stands then.
+fn standing_in(lock: &Option<Lock>, now: u64) -> Option<&Lock>
+    requires { IfSome lock.now (λ held. IsMoment held.since) }
+    ensures { option_map (λ held. held.now) result ≡ standing lock.now now }
+{
+    match lock {
+        None => return None,
+        Some(held) => {
+            if is_over(held, now) {
+                return None;
+            }
+            return Some(held);
+        }
+    }
+}
+
+/// Whether a lock has ended then, of which the id is still refused.
+fn ends(lock: &Option<Lock>, id: &LockId, now: u64) -> bool
+    requires { IfSome lock.now (λ held. IsMoment held.since) }
+    ensures { result ≡ ends_in lock.now id.now now }
+{
+    match lock {
+        None => return false,
+        Some(held) => {
+            if !is_over(held, now) {
+                return false;
+            }
+            if held.until <= now {
+                return false;
+            }
+            return held.id == *id;
+        }
+    }
+}
+
+/// Whether an id is one of these, and still refused then.
+fn is_refused(spent: &[Spent], id: &LockId, now: u64) -> bool
+    ensures { result ≡ list_any (λ one. nat_lt now one.until && bytes_eq one.id id.now) spent.now }
+{
+    spent.iter().any(|one| now < one.until && one.id == *id)
+}
+
 impl ToldFile {
     /// A name that was never met.
     pub fn unmet(alloc: Global, first: u64) -> ToldFile
@@ -238,6 +285,23 @@ impl ToldFile {
         ensures { IsTrue result ↔ ((self.now.lock ≡ None) × (self.now.spent ≡ [])) }
     {
         self.lock.is_none() && self.spent.is_empty()
+    }
+
+    /// Its lock, where that still stands then.
+    pub fn standing(&self, now: u64) -> Option<&Lock>
+        ensures { option_map (λ held. held.now) result ≡ standing self.now.lock now }
+    {
+        standing_in(&self.lock, now)
+    }
+
+    /// Whether an id is refused then: it is spent, or that of a lock that has ended.
+    pub fn refuses(&self, id: &LockId, now: u64) -> bool
+        ensures { result ≡ is_spent (still_spent (with_spent (expired self.now.lock now) self.now.spent) now) id.now }
+    {
+        if ends(&self.lock, id, now) {
+            return true;
+        }
+        is_refused(&self.spent, id, now)
     }
 
     /// Ends its lock where that is over, and drops the ids that are no longer refused.

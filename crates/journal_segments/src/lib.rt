@@ -21,6 +21,8 @@
 //!   that one is named by its number. A line may be too long, the segment may have more bytes than can be counted, a read
 //!   may fail, and memory may be wanting; nothing else is refused.
 //!
+//! [`watch_segment`] does the same, and shows each line to a [`Watcher`] as it comes.
+//!
 //! What each line makes of what was told before it is one step of a [`State`], and no line but the last is kept. So a
 //! reading takes the memory of what is live, and twice that of the longest line with its contents.
 //!
@@ -40,13 +42,15 @@ mod state;
 mod tests;
 mod told;
 mod walking;
+mod watching;
 mod writing;
 
 pub use file::ToldFile;
-pub use reading::{Restored, read_segment};
+pub use reading::{Restored, read_segment, watch_segment};
 pub use rows::{Head, Row};
 pub use shelf::Shelf;
 pub use state::State;
 pub use told::ToldShard;
 pub use walking::SegmentFault;
+pub use watching::Watcher;
 pub use writing::write_opening;

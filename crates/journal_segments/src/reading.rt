@@ -4,12 +4,14 @@ ghost use Rattle.outside.specs.Faults.{Rose};
 ghost use Rattle.line_text.specs.Inputs.{HasRead};
 ghost use Rattle.line_text.specs.declared.input.InputFault.TheVariants.{Read, Text};
 ghost use Rattle.journal_segments.specs.declared.walking.SegmentFault.TheVariants as fault;
-ghost use Rattle.journal_segments.specs.Reading.{EndsIn, IsBadRow, AreTooMany, HasCome, HasTaken, IsHeadless, IsLongRow, IsMissing, IsRestored, Reaches, Refuses};
+ghost use Rattle.journal_segments.specs.Reading.{IsBadRow, AreTooMany, HasCome, HasSeen, IsHeadless, IsLongRow, IsMissing, IsRestored, IsSeen, IsWatched, Reaches, Refuses};
+ghost use Rattle.journal_segments.specs.Seen.{IsFresh};
 
 use crate::rows::head_read;
 use crate::state::State;
 use crate::told::ToldShard;
 use crate::walking::{MOST_LINE, SegmentFault, walk};
+use crate::watching::{Nothing, Watcher};
 use line_text::{InputFault, TakesText, read_text, split_row};
 use outside::{Source, piece_room};
 use std::alloc::Global;
@@ -39,10 +41,11 @@ pub(crate) enum Stage {
     Rows(State),
 }
 
-/// A segment as far as its bytes have come: what its whole lines tell, and what there is of the next one.
+/// A segment as far as its bytes have come: what its whole lines tell, what has seen them, and what there is of the next one.
 #[derive(Drop)]
-pub(crate) struct SegmentReader {
+pub(crate) struct SegmentReader<W> {
     pub(crate) alloc: Global,
+    pub(crate) watcher: W,
     pub(crate) stage: Stage,
     pub(crate) number: u64,
     pub(crate) held: Vec<u8>,
@@ -81,14 +84,20 @@ pub(crate) struct Reached {
 }
 
 /// Takes the whole lines of what is held behind the first one.
-fn go_on(alloc: Global, state: State, number: u64, held: &[u8]) -> Result<Reached, SegmentFault>
+fn go_on<W: Watcher>(
+    alloc: Global,
+    watcher: &mut W,
+    state: State,
+    number: u64,
+    held: &[u8],
+) -> Result<Reached, SegmentFault>
     requires few { number + length held.now < 2 ^ 62 }
-    requires at { (text : List ℕ) × HasTaken text held.now number state }
-    ensures on { IfOk result (λ reached. (text : List ℕ) → HasTaken text held.now number state → Reaches text reached.stage reached.number reached.held.items reached.wanted) }
+    requires at { (text : List ℕ) × HasSeen W.has_seen watcher.old text held.now number state }
+    ensures on { IfOk result (λ reached. (text : List ℕ) → HasSeen W.has_seen watcher.old text held.now number state → Reaches W.has_seen watcher.new text reached.stage reached.number reached.held.items reached.wanted) }
     ensures few { IfOk result (λ reached. reached.number + length reached.held.items ≤ number + length held.now) }
-    ensures stops { IfErr result (λ why. (text : List ℕ) → HasTaken text held.now number state → Refuses text why) }
+    ensures stops { IfErr result (λ why. (text : List ℕ) → HasSeen W.has_seen watcher.old text held.now number state → Refuses text why) }
 {
-    let walked = match walk(alloc, state, number, held) {
+    let walked = match walk(alloc, watcher, state, number, held) {
         Ok(walked) => walked,
         Err(fault) => return Err(fault),
     };
@@ -104,9 +113,10 @@ fn go_on(alloc: Global, state: State, number: u64, held: &[u8]) -> Result<Reache
 }
 
 /// Takes the first line, if it is there, and the whole ones behind it.
-fn begin(alloc: Global, held: Vec<u8>) -> Result<Reached, SegmentFault>
-    requires { length held.items + 1 < 2 ^ 62 }
-    ensures on { IfOk result (λ reached. Reaches held.items reached.stage reached.number reached.held.items reached.wanted) }
+fn begin<W: Watcher>(alloc: Global, watcher: &mut W, held: Vec<u8>) -> Result<Reached, SegmentFault>
+    requires few { length held.items + 1 < 2 ^ 62 }
+    requires fresh { IsFresh W.has_seen watcher.old }
+    ensures on { IfOk result (λ reached. Reaches W.has_seen watcher.new held.items reached.stage reached.number reached.held.items reached.wanted) }
     ensures few { IfOk result (λ reached. reached.number + length reached.held.items ≤ length held.items) }
     ensures stops { IfErr result (λ why. Refuses held.items why) }
 {
@@ -128,25 +138,26 @@ fn begin(alloc: Global, held: Vec<u8>) -> Result<Reached, SegmentFault>
     let Some(head) = head_read(row) else {
         return Err(SegmentFault::Head);
     };
-    match go_on(alloc, State::new(alloc, &head), 1, behind) {
+    match go_on(alloc, watcher, State::new(alloc, &head), 1, behind) {
         Ok(reached) => return Ok(reached),
         Err(fault) => return Err(fault),
     }
 }
 
 /// Takes the whole lines of what is held.
-fn go(
+fn go<W: Watcher>(
     alloc: Global,
+    watcher: &mut W,
     stage: Stage,
     number: u64,
     held: Vec<u8>,
     wanted: usize,
 ) -> Result<Reached, SegmentFault>
     requires few { number + length held.items + 1 < 2 ^ 62 }
-    requires at { (text : List ℕ) × (piece : List ℕ) × (before : List ℕ) × Reaches text stage number before wanted × (held.items ≡ before ++ piece) }
-    ensures on { IfOk result (λ reached. (text piece before : List ℕ) → Reaches text stage number before wanted → held.items ≡ before ++ piece → Reaches (text ++ piece) reached.stage reached.number reached.held.items reached.wanted) }
+    requires at { (text : List ℕ) × (piece : List ℕ) × (before : List ℕ) × Reaches W.has_seen watcher.old text stage number before wanted × (held.items ≡ before ++ piece) }
+    ensures on { IfOk result (λ reached. (text piece before : List ℕ) → Reaches W.has_seen watcher.old text stage number before wanted → held.items ≡ before ++ piece → Reaches W.has_seen watcher.new (text ++ piece) reached.stage reached.number reached.held.items reached.wanted) }
     ensures few { IfOk result (λ reached. reached.number + length reached.held.items ≤ number + length held.items) }
-    ensures stops { IfErr result (λ why. (text piece before : List ℕ) → Reaches text stage number before wanted → held.items ≡ before ++ piece → Refuses (text ++ piece) why) }
+    ensures stops { IfErr result (λ why. (text piece before : List ℕ) → Reaches W.has_seen watcher.old text stage number before wanted → held.items ≡ before ++ piece → Refuses (text ++ piece) why) }
 {
     if held.len() < wanted {
         return Ok(Reached {
@@ -157,24 +168,24 @@ fn go(
         });
     }
     match stage {
-        Stage::First => match begin(alloc, held) {
+        Stage::First => match begin(alloc, watcher, held) {
             Ok(reached) => return Ok(reached),
             Err(fault) => return Err(fault),
         },
-        Stage::Rows(state) => match go_on(alloc, state, number, &held) {
+        Stage::Rows(state) => match go_on(alloc, watcher, state, number, &held) {
             Ok(reached) => return Ok(reached),
             Err(fault) => return Err(fault),
         },
     }
 }
 
-impl TakesText for SegmentReader {
+impl<W: Watcher> TakesText for SegmentReader<W> {
     ghost use Rattle.std.specs.Prelude.{◌-◌, ℕ, List};
     ghost use Rattle.journal_segments.specs.Reading.{HasCome, Refuses, most_bytes};
 
     type Fault = SegmentFault;
 
-    ghost has_come = { HasCome };
+    ghost has_come = { λ reader text. HasCome W.has_seen reader text };
 
     ghost refuses = { Refuses };
 
@@ -197,7 +208,14 @@ impl TakesText for SegmentReader {
             Ok(()) => {}
             Err(Memory) => return Err(SegmentFault::Memory),
         }
-        let reached = match go(self.alloc, stage, self.number, held, self.wanted) {
+        let reached = match go(
+            self.alloc,
+            &mut self.watcher,
+            stage,
+            self.number,
+            held,
+            self.wanted,
+        ) {
             Ok(reached) => reached,
             Err(fault) => return Err(fault),
         };
@@ -209,12 +227,14 @@ impl TakesText for SegmentReader {
     }
 }
 
-impl SegmentReader {
-    fn new(alloc: Global) -> SegmentReader
-        ensures { HasCome result [] }
+impl<W: Watcher> SegmentReader<W> {
+    fn new(alloc: Global, watcher: W) -> SegmentReader<W>
+        requires { IsFresh W.has_seen watcher }
+        ensures { HasCome W.has_seen result [] }
     {
         SegmentReader {
             alloc,
+            watcher,
             stage: Stage::First,
             number: 0,
             held: Vec::new(alloc),
@@ -224,13 +244,14 @@ impl SegmentReader {
     }
 
     /// The input has come to its end.
-    fn finish(self) -> Result<Restored, SegmentFault>
-        requires { (text : List ℕ) × HasCome self text }
-        ensures restored { IfOk result (λ read. (text : List ℕ) → HasCome self text → EndsIn text read) }
-        ensures head { IfErr result (λ why. (text : List ℕ) → HasCome self text → IsMissing text why) }
+    fn finish(self) -> Result<(Restored, W), SegmentFault>
+        requires { (text : List ℕ) × HasCome W.has_seen self text }
+        ensures seen { IfOk result (λ read. (text : List ℕ) → HasCome W.has_seen self text → IsSeen W.has_seen text read.0 read.1) }
+        ensures head { IfErr result (λ why. (text : List ℕ) → HasCome W.has_seen self text → IsMissing text why) }
     {
         let SegmentReader {
             alloc,
+            watcher,
             stage,
             number: _,
             held,
@@ -244,19 +265,54 @@ impl SegmentReader {
         let shard = state.shard();
         match state.finish(alloc) {
             Ok(told) => {
-                return Ok(Restored {
-                    shard,
-                    told,
-                    used: size - held.len() as u64,
-                });
+                return Ok((
+                    Restored {
+                        shard,
+                        told,
+                        used: size - held.len() as u64,
+                    },
+                    watcher,
+                ));
             }
             Err(Memory) => return Err(SegmentFault::Memory),
         }
     }
 }
 
-/// What the segment tells that the source has, up to what was cut off at its end. It is read once, piece by piece, and
-/// no line is kept but the last: beside what is live this takes twice the memory of the longest line with its contents.
+/// What the segment tells that the source has, up to what was cut off at its end, with what has seen its lines. It is
+/// read once, piece by piece, and no line is kept but the last: beside what is live this takes twice the memory of the
+/// longest line with its contents.
+pub fn watch_segment<S: Source, W: Watcher>(
+    alloc: Global,
+    source: &mut S,
+    watcher: W,
+) -> Result<(Restored, W), InputFault<SegmentFault>>
+    requires { IsFresh W.has_seen watcher }
+    ensures watched { IfOk result (λ read. IsWatched W.has_seen (S.left source.old) (S.left source.new) read.0 read.1) }
+    ensures head { result ≡ Err (Text fault.Head) → HasRead (S.left source.old) (S.left source.new) (IsHeadless (S.left source.new)) }
+    ensures bad { (line : ℕ) → result ≡ Err (Text (fault.Bad line)) → HasRead (S.left source.old) (S.left source.new) (λ bytes. IsBadRow bytes line) }
+    ensures long { (line : ℕ) → result ≡ Err (Text (fault.Long line)) → HasRead (S.left source.old) (S.left source.new) (λ bytes. IsLongRow bytes line) }
+    ensures too_long { result ≡ Err (Text fault.TooLong) → HasRead (S.left source.old) (S.left source.new) AreTooMany }
+    ensures beside { S.beside_reads source.new ≡ S.beside_reads source.old }
+    ensures never_falls { S.read_faults source.old ≤ S.read_faults source.new }
+    ensures fine { result ≢ Err Read → S.read_faults source.new ≡ S.read_faults source.old }
+    ensures failed { result ≡ Err Read → Rose (S.read_faults source.old) (S.read_faults source.new) }
+{
+    let Ok(mut piece) = piece_room(alloc) else {
+        return Err(InputFault::Text(SegmentFault::Memory));
+    };
+    let mut reader = SegmentReader::new(alloc, watcher);
+    match read_text(source, &mut piece[0..], &mut reader) {
+        Ok(()) => {}
+        Err(fault) => return Err(fault),
+    }
+    match reader.finish() {
+        Ok(read) => return Ok(read),
+        Err(fault) => return Err(InputFault::Text(fault)),
+    }
+}
+
+/// The same, where nothing sees the lines.
 pub fn read_segment<S: Source>(
     alloc: Global,
     source: &mut S,
@@ -271,16 +327,8 @@ pub fn read_segment<S: Source>(
     ensures fine { result ≢ Err Read → S.read_faults source.new ≡ S.read_faults source.old }
     ensures failed { result ≡ Err Read → Rose (S.read_faults source.old) (S.read_faults source.new) }
 {
-    let Ok(mut piece) = piece_room(alloc) else {
-        return Err(InputFault::Text(SegmentFault::Memory));
-    };
-    let mut reader = SegmentReader::new(alloc);
-    match read_text(source, &mut piece[0..], &mut reader) {
-        Ok(()) => {}
+    match watch_segment(alloc, source, Nothing) {
+        Ok((read, _nothing)) => return Ok(read),
         Err(fault) => return Err(fault),
-    }
-    match reader.finish() {
-        Ok(read) => return Ok(read),
-        Err(fault) => return Err(InputFault::Text(fault)),
     }
 }

@@ -12,6 +12,7 @@ ghost use Rattle.journal_segments.specs.declared.rows.Head.{Head};
 ghost use Rattle.journal_segments.specs.declared.rows.Row.{Row};
 ghost use Rattle.journal_segments.specs.Line.{holds_words, off_words};
 ghost use Rattle.journal_segments.specs.Rows.{IsAt, IsForm, IsHead, IsHeld, IsLine, IsLock, IsSpent, at_words, filled, head_words, held_words, lock_words, now_words, opened_words, row_words, shard_words, spent_words, words_with};
+ghost use Rattle.journal_segments.specs.Seen.{is_off};
 
 use host_core::MOST_FIRST;
 use journal_text::{
@@ -262,6 +263,16 @@ pub(crate) fn filled(row: Row, contents: Bytes) -> Row
         }
         Row::Holds(name, _before) => return Row::Holds(name, Some(contents)),
         other => return other,
+    }
+}
+
+/// Whether a line takes back the one before it.
+pub(crate) fn takes_back(row: &Row) -> bool
+    ensures { result ≡ is_off row.now }
+{
+    match row {
+        Row::Off => return true,
+        _ => return false,
     }
 }
 

@@ -1,9 +1,9 @@
 //! Files by name.
-ghost use Rattle.std.specs.Prelude.{◌≡◌, ◌∷◌, ◌++◌, [], IfOk};
+ghost use Rattle.std.specs.Prelude.{◌≡◌, ◌∷◌, ◌++◌, [], IfOk, option_map, unwrap_or};
 ghost use Rattle.wopi_model.specs.Moment.{IsMoment};
 ghost use Rattle.wopi_model.specs.Begin.{at_name, put_name};
 ghost use Rattle.journal_segments.specs.Places.{IsNumbered, place_in};
-ghost use Rattle.journal_segments.specs.Told.{placed_by, unmet};
+ghost use Rattle.journal_segments.specs.Told.{Placed, placed_by, unmet};
 ghost use Rattle.journal_segments.specs.Rows.{holding};
 
 use crate::file::ToldFile;
@@ -121,6 +121,24 @@ fn hold(
     }
 }
 
+/// The file of a name.
+fn file_of<'a>(
+    names: &NameIndex,
+    files: &'a Vec<(FileName, ToldFile)>,
+    name: &FileName,
+) -> Option<&'a ToldFile>
+    requires { IsNumbered names.now files.now.items }
+    ensures { (other : Placed) → at_name other files.now.items name.now ≡ unwrap_or (option_map (λ file. file.now) result) other }
+{
+    match place_of(names, files, name) {
+        None => return None,
+        Some(place) => {
+            let file = &files[place];
+            return Some(&file.1);
+        }
+    }
+}
+
 impl Shelf {
     /// With no file.
     pub(crate) fn new(alloc: Global) -> Shelf
@@ -158,6 +176,13 @@ impl Shelf {
         ensures { IfOk result (λ shelf. shelf ≡ put_name name (holding (at_name (unmet first) self name) contents) self) }
     {
         hold(alloc, self.names, self.files, first, name, contents)
+    }
+
+    /// The file of a name, if it was met.
+    pub fn find(&self, name: &FileName) -> Option<&ToldFile>
+        ensures { (other : Placed) → at_name other self.now name.now ≡ unwrap_or (option_map (λ file. file.now) result) other }
+    {
+        file_of(&self.names, &self.files, name)
     }
 
     /// The files, in their order.

@@ -1,8 +1,8 @@
 //! What was told so far.
-ghost use Rattle.std.specs.Prelude.{◌≡◌, ◌↔◌, IsTrue, IfOk};
+ghost use Rattle.std.specs.Prelude.{◌≡◌, ◌↔◌, IsTrue, IfOk, option_map};
 ghost use Rattle.wopi_model.specs.Moment.{IsMoment};
 ghost use Rattle.journal_segments.specs.Reading.{IsTimed};
-ghost use Rattle.journal_segments.specs.Rows.{IsForm, IsHead, MayBegin, MayCome, MayEnter, MayHold, MaySpend, MayStand, MayTakeBack, held_place, last_with, now_with, pending_held, pending_spent, shard_at, start, step, told_at, told_with};
+ghost use Rattle.journal_segments.specs.Rows.{IsForm, IsHead, MayBegin, MayCome, MayEnter, MayHold, MaySpend, MayStand, MayTakeBack, held_place, last_entry, last_with, now_with, pending_held, pending_spent, shard_at, start, step, told_at, told_with};
 
 use crate::file::ToldFile;
 use crate::rows::{Head, Row};
@@ -180,6 +180,23 @@ impl State {
         ensures { result ≡ shard_at self.now }
     {
         self.shard
+    }
+
+    /// What was told before the last line.
+    pub fn told(&self) -> &ToldShard
+        ensures { result.now ≡ self.now.told }
+    {
+        &self.told
+    }
+
+    /// The last line, if it is that of an entry.
+    pub fn last_entry(&self) -> Option<&Line>
+        ensures { option_map (λ line. line.now) result ≡ last_entry self.now.pending }
+    {
+        match &self.pending {
+            Pending::Entry(line) => return Some(line),
+            _ => return None,
+        }
     }
 
     /// Whether a line may come next.

@@ -1,7 +1,8 @@
 //! What is told of a shard.
-ghost use Rattle.std.specs.Prelude.{◌≡◌, [], IfOk};
+ghost use Rattle.std.specs.Prelude.{◌≡◌, [], IfOk, option_map, unwrap_or};
 ghost use Rattle.wopi_model.specs.Moment.{IsMoment};
-ghost use Rattle.journal_segments.specs.Told.{told_line};
+ghost use Rattle.journal_segments.specs.Told.{Placed, told_line};
+ghost use Rattle.wopi_model.specs.Begin.{at_name};
 ghost use Rattle.journal_segments.specs.Rows.{told_holds, with_place};
 
 use crate::file::ToldFile;
@@ -76,6 +77,13 @@ impl ToldShard {
         ensures { result.now ≡ self.entry.now.files }
     {
         self.files.as_slice()
+    }
+
+    /// The file of a name, if it was met.
+    pub fn find(&self, name: &FileName) -> Option<&ToldFile>
+        ensures { (other : Placed) → at_name other self.entry.now.files name.now ≡ unwrap_or (option_map (λ file. file.now) result) other }
+    {
+        self.files.find(name)
     }
 
     /// The files that were met, by value.

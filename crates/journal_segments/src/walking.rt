@@ -1,9 +1,12 @@
 //! Whole lines at the front of a text.
-ghost use Rattle.std.specs.Prelude.{◌≡◌, ◌≤◌, ◌<◌, ◌+◌, ◌^◌, ℕ, IfOk, IfErr, length};
-ghost use Rattle.journal_segments.specs.Reading.{Goes, Stands, StandsBehind, Stops, IsTimed, Waits};
+ghost use Rattle.std.specs.Prelude.{◌≡◌, ◌≤◌, ◌<◌, ◌+◌, ◌^◌, ◌∷◌, [], ℕ, IfOk, IfErr, length};
+ghost use Rattle.journal_segments.specs.Rows.{IsForm, MayCome, step};
+ghost use Rattle.journal_segments.specs.Seen.{Sees};
+ghost use Rattle.journal_segments.specs.Reading.{Stands, StandsBehind, Stops, IsTimed, Waits, Walks};
 
-use crate::rows::{Row, filled, row_read};
+use crate::rows::{Row, filled, row_read, takes_back};
 use crate::state::State;
+use crate::watching::Watcher;
 use line_text::split_row;
 use std::alloc::Global;
 use wopi_text::{Bytes, Memory};
@@ -94,16 +97,43 @@ pub(crate) struct Walked<'a> {
     pub(crate) wanted: usize,
 }
 
-/// Takes the whole lines at the front of a text. So many lines were taken before.
-pub(crate) fn walk<'a>(
+/// Takes one line, which has that number, and shows it to a watcher.
+fn take_row<W: Watcher>(
     alloc: Global,
+    watcher: &mut W,
+    state: State,
+    number: u64,
+    row: Row,
+) -> Result<State, Memory>
+    requires form { IsForm row }
+    requires comes { MayCome state row }
+    requires timed { IsTimed state }
+    requires few { number < 2 ^ 62 }
+    ensures state { IfOk result (λ next. next ≡ step state row) }
+    ensures timed { IfOk result (λ next. IsTimed next) }
+    ensures seen { IfOk result (λ next. Sees W.has_seen watcher.old watcher.new state number (row ∷ [])) }
+{
+    let back = takes_back(&row);
+    match state.step(alloc, row) {
+        Ok(next) => {
+            watcher.see(number + 1, back, &next);
+            return Ok(next);
+        }
+        Err(memory) => return Err(memory),
+    }
+}
+
+/// Takes the whole lines at the front of a text, and shows each to a watcher. So many lines were taken before.
+pub(crate) fn walk<'a, W: Watcher>(
+    alloc: Global,
+    watcher: &mut W,
     state: State,
     number: u64,
     text: &'a [u8],
 ) -> Result<Walked<'a>, SegmentFault>
     requires timed { IsTimed state }
     requires few { number + length text.now < 2 ^ 62 }
-    ensures on { IfOk result (λ read. Goes state text.now number read.state read.left.now read.number) }
+    ensures on { IfOk result (λ read. Walks W.has_seen watcher.old watcher.new state text.now number read.state read.left.now read.number) }
     ensures waits { IfOk result (λ read. Waits read.state read.left.now read.wanted) }
     ensures timed { IfOk result (λ read. IsTimed read.state) }
     ensures few { IfOk result (λ read. read.number + length read.left.now ≤ number + length text.now) }
@@ -130,7 +160,7 @@ pub(crate) fn walk<'a>(
             Front::Bad => return Err(SegmentFault::Bad(number + 1)),
             Front::Long => return Err(SegmentFault::Long(number + 1)),
         };
-        match state.step(alloc, one) {
+        match take_row(alloc, watcher, state, number, one) {
             Ok(next) => state = next,
             Err(Memory) => return Err(SegmentFault::Memory),
         }

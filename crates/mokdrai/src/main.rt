@@ -26,7 +26,7 @@ use std::env::{self, Args, Env};
 use std::fs::File;
 use std::io::{self, ErrorKind, IsTerminal, Stderr};
 use std::process::ExitCode;
-use wopi_program::{Asked, ServeAsk, asked_by, note, run};
+use wopi_program::{Asked, Keep, ServeAsk, asked_by, note, run};
 use wopi_text::Memory;
 
 /// What arguments come to that could not be read: no words, or want of memory.
@@ -119,7 +119,7 @@ fn refuse_logs(rt: &HostRuntime, folder: &str, why: Unopened, is_told: bool) -> 
 
 /// The logs of these words: sixteen where the words keep any, in the folder that they name.
 fn logs_for(_words: &[String], logs: Vec<FileLog<File>>) -> Vec<FileLog<File>>
-    requires count { (keys : Keys) (base : List ℕ) (ask : ServeAsk) (ids : ℕ) → IsServeRow (map string_bytes _words.now) keys base ask → ask.keep ≡ Some ids
+    requires count { (keys : Keys) (base : List ℕ) (ask : ServeAsk) (keep : Keep) → IsServeRow (map string_bytes _words.now) keys base ask → ask.keep ≡ Some keep
         → vec_len logs ≡ 16 }
     requires paths { (keys : Keys) (base : List ℕ) (ask : ServeAsk) (row : IsServeRow (map string_bytes _words.now) keys base ask)
         → IfSome (logs_told row.options) (λ name. (number : ℕ) × ArePaths name number 0 (map (λ log. string_bytes log.path) logs.items)) }

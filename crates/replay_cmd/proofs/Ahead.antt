@@ -23,13 +23,13 @@ use Rattle.wopi_world.specs.Requests.{Client, call_of, input_of}
 use Rattle.wopi_world.specs.World.{Setting, World, Request, Reply, comes, enters, entry_of, delivered, delivered_by, asks_one, tries, foreign, takes, turns, for_client, is_asked, is_taken, answers, answers_place, answers_sender, ruling_in, first_world, next_first}
 use Rattle.wopi_world.specs.Valid.{IsIssuedBefore, MayRestart}
 use Rattle.wopi_world.proofs.Lists.{get_back}
-use Rattle.replay_cmd.specs.declared.schedule.SessionLine.{SessionLine}
-use Rattle.replay_cmd.specs.declared.schedule.ForeignAsk.{ForeignAsk}
-use Rattle.replay_cmd.specs.declared.schedule.EventLine.{EventLine}
-use Rattle.replay_cmd.specs.declared.schedule.EventLine.TheVariants as line
-use Rattle.replay_cmd.specs.Schedules.{IsBefore}
+use Rattle.schedule_text.specs.declared.schedule.SessionLine.{SessionLine}
+use Rattle.schedule_text.specs.declared.schedule.ForeignAsk.{ForeignAsk}
+use Rattle.schedule_text.specs.declared.schedule.EventLine.{EventLine}
+use Rattle.schedule_text.specs.declared.schedule.EventLine.TheVariants as line
+use Rattle.schedule_text.specs.Schedules.{IsBefore}
 use Rattle.replay_cmd.specs.Runs.{clients_from, foreign_call, creates_of, asked_by, place_of, wish_of, event_in}
-use Rattle.replay_cmd.proofs.Growing.{all_more}
+use Rattle.schedule_text.proofs.Growing.{all_more}
 use Rattle.replay_cmd.proofs.Whose.{session_at}
 
 -- the token of the session at that place was issued before that moment

@@ -53,7 +53,7 @@ use Rattle.replay_cmd.specs.Histories.{item_kept}
 use Rattle.replay_cmd.specs.Hosts.{HasFileNames, IsSetUp, StandsFor}
 use Rattle.replay_cmd.specs.Limits.{kept_by, kept_in}
 use Rattle.replay_cmd.specs.Replying.{file_in}
-use Rattle.replay_cmd.specs.Schedules.{most_contents, most_lines}
+use Rattle.schedule_text.specs.Schedules.{most_contents, most_lines}
 use Rattle.replay_cmd.specs.Members.{ShowsSessions}
 use Rattle.replay_cmd.specs.Stages.{Shows}
 use Rattle.replay_cmd.specs.Starts.{HasOpened, LeavesTooMuch, Reopens}

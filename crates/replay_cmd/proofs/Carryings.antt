@@ -9,7 +9,7 @@ use Rattle.wopi_http.specs.declared.message.Request as http
 use Rattle.wopi_headers.specs.declared.answer.Answer.{Answer}
 use Rattle.wopi_headers.specs.declared.ask.Ask.{Ask}
 use Rattle.wopi_headers.specs.Operations.{AsksFor}
-use Rattle.replay_cmd.specs.declared.schedule.EventLine.{EventLine}
+use Rattle.schedule_text.specs.declared.schedule.EventLine.{EventLine}
 use Rattle.replay_cmd.specs.declared.stage.Stage.{Stage}
 use Rattle.replay_cmd.specs.declared.wire.Carried.{Carried}
 use Rattle.wopi_http.specs.Replies.{reply_text}

@@ -21,9 +21,9 @@ use Rattle.replay_cmd.specs.declared.replies.Reply.{Reply}
 use Rattle.replay_cmd.specs.declared.member.Request.{Request}
 use Rattle.replay_cmd.specs.declared.member.Told.{Told}
 use Rattle.replay_cmd.specs.declared.member.Member.{Member}
-use Rattle.replay_cmd.specs.declared.schedule.SessionLine.{SessionLine}
+use Rattle.schedule_text.specs.declared.schedule.SessionLine.{SessionLine}
 use Rattle.replay_cmd.specs.declared.world.World.{World as KeptWorld}
-use Rattle.replay_cmd.specs.Schedules.{Lines}
+use Rattle.schedule_text.specs.Schedules.{Lines}
 use Rattle.replay_cmd.specs.Runs.{clients_from, setting_of, world_of}
 use Rattle.replay_cmd.specs.Hosts.{StandsFor}
 use Rattle.replay_cmd.specs.Replying.{file_in}

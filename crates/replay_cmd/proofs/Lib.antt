@@ -31,21 +31,6 @@ pub mod Roomy
 pub mod Chosen
 pub mod EndedHosts
 pub mod WorkedRows
-pub mod Generated
 mod CarriedLemmas
-mod Endings
-mod WordValues
-mod RowForms
-mod Growing
-mod SameRows
-mod LastRow
-mod ReadSteps
-mod FittingLines
-mod OneReading
-mod PieceLemmas
-mod InputLemmas
-mod OneSchedule
-mod SessionRows
-mod Latest
 mod Carryings
 pub mod NewLives

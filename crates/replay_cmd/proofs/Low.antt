@@ -13,8 +13,8 @@ use Rattle.wopi_model.specs.Step.{Decision, Refuse, Conflict, Accept, decision, 
 use Rattle.wopi_model.specs.Shard.{Shard, Step, Entry, opening_file, at_moment, happens}
 use Rattle.wopi_world.specs.History.{reopened, restarted, greatest}
 use Rattle.wopi_world.specs.World.{first_world}
-use Rattle.replay_cmd.specs.declared.schedule.FileLine.{FileLine}
-use Rattle.replay_cmd.specs.Schedules.{IsSchedule, Lines, most_contents}
+use Rattle.schedule_text.specs.declared.schedule.FileLine.{FileLine}
+use Rattle.schedule_text.specs.Schedules.{IsSchedule, Lines, most_contents}
 use Rattle.replay_cmd.specs.Runs.{setting_of}
 use Rattle.replay_cmd.specs.Limits.{IsLow}
 

@@ -16,8 +16,8 @@ use Rattle.wopi_model.specs.Shard.{Opening}
 use Rattle.host_core.specs.Opening.{IsByName, IsTooLarge, MayKeep, opened_contents}
 use Rattle.host_core.specs.Value.{Book}
 use Rattle.replay_cmd.specs.Begun.{opening_in}
-use Rattle.replay_cmd.specs.declared.schedule.FileLine.{FileLine}
-use Rattle.replay_cmd.specs.Schedules.{most_contents, most_lines}
+use Rattle.schedule_text.specs.declared.schedule.FileLine.{FileLine}
+use Rattle.schedule_text.specs.Schedules.{most_contents, most_lines}
 use Rattle.replay_cmd.specs.Starts.{Opens}
 use Rattle.replay_cmd.proofs.FirstWorld.{has_form}
 

@@ -9,7 +9,7 @@ use Rattle.replay_cmd.specs.Begun.{opening_in}
 use Rattle.replay_cmd.specs.Hosts.{StandsFor}
 use Rattle.replay_cmd.specs.Limits.{kept_by, kept_in, HasSpace}
 use Rattle.replay_cmd.specs.Replying.{file_in}
-use Rattle.replay_cmd.specs.Schedules.{most_contents, most_lines}
+use Rattle.schedule_text.specs.Schedules.{most_contents, most_lines}
 use Rattle.replay_cmd.specs.Starts.{AreUsedUp, LeavesTooMuch}
 use Rattle.replay_cmd.proofs.Low.{low_later, greatest_low}
 

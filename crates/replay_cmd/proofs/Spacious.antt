@@ -40,7 +40,7 @@ use Rattle.replay_cmd.specs.Exchanges.{Exchanges, IsStored}
 use Rattle.replay_cmd.specs.Histories.{Asked}
 use Rattle.replay_cmd.specs.Hosts.{IsSetUp, StandsFor}
 use Rattle.replay_cmd.specs.Limits.{kept_by, kept_in, HasSpace}
-use Rattle.replay_cmd.specs.Schedules.{most_contents, most_lines}
+use Rattle.schedule_text.specs.Schedules.{most_contents, most_lines}
 use Rattle.replay_cmd.proofs.AskLemmas.{entries_made}
 use Rattle.replay_cmd.proofs.Calling.{told_status}
 use Rattle.replay_cmd.proofs.Faults.{last_stored, made_all}

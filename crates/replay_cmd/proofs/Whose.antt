@@ -2,7 +2,7 @@
 use Rattle.std.proofs.Common.{◌≡◌, ℕ, zero, suc, ◌+◌, List, [], ◌∷◌, Some, refl, sym, ap, ◌∙◌, arith}
 use Rattle.std.specs.List.{slice_get}
 use Rattle.wopi_world.specs.Requests.{Client}
-use Rattle.replay_cmd.specs.declared.schedule.SessionLine.{SessionLine}
+use Rattle.schedule_text.specs.declared.schedule.SessionLine.{SessionLine}
 use Rattle.replay_cmd.specs.Runs.{client_of, clients_from}
 
 -- the session of a client

@@ -36,12 +36,12 @@ use Rattle.wopi_world.specs.History.{Item, Ran, Restarted, last_run, names_after
 use Rattle.wopi_world.specs.World as in_world
 use Rattle.wopi_world.specs.World.{Setting, World, Request, Member, comes, enters, entry_of, replied, delivered, delivered_by, asks_one, tries, foreign, takes, turns, for_client, is_asked, is_taken, answers, answers_place, answers_sender, ruling_in, with_item, first_world, next_first}
 use Rattle.wopi_world.proofs.Lists.{get_back}
-use Rattle.replay_cmd.specs.declared.schedule.ForeignAsk.{ForeignAsk}
-use Rattle.replay_cmd.specs.declared.schedule.Wish.{Wish}
-use Rattle.replay_cmd.specs.declared.schedule.Wish.TheVariants as wish
-use Rattle.replay_cmd.specs.declared.schedule.EventLine.{EventLine}
-use Rattle.replay_cmd.specs.declared.schedule.EventLine.TheVariants as line
-use Rattle.replay_cmd.specs.Schedules.{IsEventLine, IsSchedule, IsShortWish, Lines, most_contents}
+use Rattle.schedule_text.specs.declared.schedule.ForeignAsk.{ForeignAsk}
+use Rattle.schedule_text.specs.declared.schedule.Wish.{Wish}
+use Rattle.schedule_text.specs.declared.schedule.Wish.TheVariants as wish
+use Rattle.schedule_text.specs.declared.schedule.EventLine.{EventLine}
+use Rattle.schedule_text.specs.declared.schedule.EventLine.TheVariants as line
+use Rattle.schedule_text.specs.Schedules.{IsEventLine, IsSchedule, IsShortWish, Lines, most_contents}
 use Rattle.replay_cmd.specs.Runs.{place_of, wish_of, foreign_token, foreign_call, creates_of, asked_by, event_in, setting_of}
 use Rattle.replay_cmd.specs.Limits.{kept_by, kept_in, HoldsAtMost, IsLow, IsWithin}
 use Rattle.replay_cmd.proofs.LastRun.{entries_ticked, entries_stepped, entries_restarted, kept_pushed}

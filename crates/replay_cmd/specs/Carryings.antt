@@ -23,16 +23,16 @@ use Rattle.wopi_world.specs.World.{first_world, is_asked}
 use Rattle.replay_cmd.specs.declared.member.Member.{Member}
 use Rattle.replay_cmd.specs.declared.member.Request.{Request}
 use Rattle.replay_cmd.specs.declared.replies.Reply.{Reply}
-use Rattle.replay_cmd.specs.declared.schedule.EventLine.{EventLine}
-use Rattle.replay_cmd.specs.declared.schedule.EventLine.TheVariants as line
-use Rattle.replay_cmd.specs.declared.schedule.ForeignAsk.{ForeignAsk}
+use Rattle.schedule_text.specs.declared.schedule.EventLine.{EventLine}
+use Rattle.schedule_text.specs.declared.schedule.EventLine.TheVariants as line
+use Rattle.schedule_text.specs.declared.schedule.ForeignAsk.{ForeignAsk}
 use Rattle.replay_cmd.specs.declared.stage.Stage.{Stage}
 use Rattle.replay_cmd.specs.declared.wire.Carried.{Carried}
 use Rattle.replay_cmd.specs.declared.world.World.{World}
 use Rattle.replay_cmd.specs.Exchanges.{Exchanges}
 use Rattle.replay_cmd.specs.Members.{StepsIn}
 use Rattle.replay_cmd.specs.Runs.{foreign_token, place_of, setting_of, wish_of}
-use Rattle.replay_cmd.specs.Schedules.{Lines}
+use Rattle.schedule_text.specs.Schedules.{Lines}
 use Rattle.replay_cmd.specs.Sessions.{given_as}
 use Rattle.replay_cmd.specs.Starts.{Reopens}
 use Rattle.replay_cmd.specs.Stages.{IsStageOf}

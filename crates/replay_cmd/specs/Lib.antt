@@ -1,4 +1,3 @@
-pub mod Schedules
 pub mod Runs
 pub mod Folders
 pub mod Hosts
@@ -11,7 +10,6 @@ pub mod Replying
 pub mod Trace
 pub mod Worlds
 pub mod Ends
-pub mod Generator
 pub mod Answers
 pub mod Begun
 pub mod Histories
@@ -20,9 +18,4 @@ pub mod Exchanges
 pub mod Limits
 pub mod Sessions
 pub mod Wires
-pub mod Grammar
-pub mod RowKinds
-pub mod Readings
-pub mod Pieces
-pub mod Inputs
 pub mod Carryings

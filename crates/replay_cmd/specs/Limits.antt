@@ -6,7 +6,7 @@ use Rattle.wopi_model.specs.Host.{new_bytes}
 use Rattle.wopi_world.specs.History.{Item, Ran, Restarted, last_run}
 use Rattle.wopi_world.specs.Requests.{body}
 use Rattle.wopi_world.specs.World.{World, Request}
-use Rattle.replay_cmd.specs.Schedules.{most_contents, most_lines}
+use Rattle.schedule_text.specs.Schedules.{most_contents, most_lines}
 
 -- the bytes of contents that an entry keeps
 abbrev pub kept_by : Entry → ℕ

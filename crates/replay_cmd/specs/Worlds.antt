@@ -3,7 +3,7 @@ use Rattle.std.specs.Prelude.{◌≡◌, ℕ, List}
 use Rattle.wopi_model.specs.Shard.{AreNames}
 use Rattle.wopi_world.specs.World.{first_world}
 use Rattle.replay_cmd.specs.declared.world.World.{World}
-use Rattle.replay_cmd.specs.Schedules.{Lines}
+use Rattle.schedule_text.specs.Schedules.{Lines}
 use Rattle.replay_cmd.specs.Runs.{setting_of, world_of}
 use Rattle.replay_cmd.specs.Stages.{IsStageOf}
 use Rattle.replay_cmd.specs.Trace.{events_text}

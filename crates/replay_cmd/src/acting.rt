@@ -13,7 +13,7 @@ ghost use Rattle.replay_cmd.specs.Trace.{session_shown, answer_shown, now_shown}
 use crate::carrying::carry_answer;
 use crate::history::Item;
 use crate::lookups::{member_at, reply_at, request_at, waits_for};
-use crate::schedule::Wish;
+use schedule_text::Wish;
 use crate::sessions::step_at;
 use crate::stage::Stage;
 use crate::wire::Wire;

@@ -3,7 +3,7 @@ ghost use Rattle.std.specs.Prelude.{◌≡◌, ◌++◌, ◌≤◌, ℕ, List, I
 ghost use Rattle.std.specs.List.{Contains};
 ghost use Rattle.replay_cmd.specs.Ends.{ends_in, count_text, counts_in, TellsEnds};
 ghost use Rattle.replay_cmd.specs.Replying.{file_in};
-ghost use Rattle.replay_cmd.specs.Schedules.{Lines};
+ghost use Rattle.schedule_text.specs.Schedules.{Lines};
 ghost use Rattle.replay_cmd.specs.Trace.{trace_text, summary_text};
 ghost use Rattle.replay_cmd.specs.Worlds.{IsRunOf, IsTextOf};
 

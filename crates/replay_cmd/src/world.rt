@@ -5,7 +5,7 @@ ghost use Rattle.replay_cmd.specs.Carryings.{CarriesOver, IsRunOver};
 ghost use Rattle.replay_cmd.specs.Runs.{setting_of, world_of};
 ghost use Rattle.replay_cmd.specs.Worlds.{IsRunOf};
 
-use crate::schedule::Schedule;
+use schedule_text::Schedule;
 use crate::stage::Stage;
 use crate::starting::start;
 use crate::wire::Wire;

@@ -59,6 +59,10 @@ const MEANT: [[&str; 2]; 24] = [
         "serve . 8880 4a http://localhost 2 --editor --keep /srv/logs --ids 9 --first 7",
     ],
     [
+        "serve . 8880 4a http://localhost 2 --sync all --keep=logs",
+        "serve . 8880 4a http://localhost 2 --keep logs --sync all",
+    ],
+    [
         "serve --keep=logs . 8880 4a --each 3 http://localhost 2 --editor --origin http://cloud",
         "serve . 8880 4a http://localhost 2 --editor --origin http://cloud --keep logs --each 3",
     ],
@@ -209,6 +213,14 @@ const TOLD: [[&str; 2]; 39] = [
     [
         "serve . 8880 4a http://localhost 2 --keep logs --ids 0",
         "--ids 0: a number from 1 to 32768",
+    ],
+    [
+        "serve . 8880 4a http://localhost 2 --sync all",
+        "an option --sync: --journal",
+    ],
+    [
+        "serve . 8880 4a http://localhost 2 --keep logs --sync some",
+        "--sync some: the word all",
     ],
     [
         "serve . 8880 4a http://localhost 2 --keep= --ids 9",

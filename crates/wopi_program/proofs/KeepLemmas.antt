@@ -16,6 +16,7 @@ use Rattle.host_table.proofs.Starting.{begun_starts}
 use Rattle.host_server.specs.declared.desk.Desk.{Desk}
 use Rattle.access_tokens.specs.declared.keys.Keys.{Keys}
 use Rattle.wopi_program.specs.declared.outside_world.Outside.{Outside}
+use Rattle.wopi_program.specs.declared.serve_words.Keep.{Keep}
 use Rattle.wopi_program.specs.declared.serve_words.ServeAsk.{ServeAsk}
 use Rattle.wopi_program.specs.declared.serving.ServeEnd.{ServeEnd}
 use Rattle.wopi_program.specs.declared.serving.ServeEnd.TheVariants as end
@@ -45,31 +46,31 @@ no_other false true failed e other is = subst IsOther (sym is) other
 no_other false false true e other is = subst IsOther (sym is) other
 no_other false false false e other is = subst IsOther (sym is) other
 
-module _ {S K F N D C G L : Type 0} (m : Meanings S K F N D C G L) (keys : Keys) (base : List ℕ) (origin : Option (List ℕ)) (ask : ServeAsk) (ids : ℕ) (desk : Desk) (opened : ℕ)
+module _ {S K F N D C G L : Type 0} (m : Meanings S K F N D C G L) (keys : Keys) (base : List ℕ) (origin : Option (List ℕ)) (ask : ServeAsk) (keep : Keep) (desk : Desk) (opened : ℕ)
     (host : HostView (LogView F)) (first : PassView (LogView F)) (old mid new : Outside S K F N D C G) (keys_are : desk.keys ≡ keys) (base_is : desk.base ≡ base)
     (editor_is : desk.editor ≡ ask.editor) (origin_is : desk.origin ≡ origin) (opened_is : desk.opened ≡ opened) (opens : Opens m.work.moments opened old.clocks.items mid.clocks.items)
     (listeners_are : mid.listeners.items ≡ old.listeners.items) (notes_are : mid.notes ≡ old.notes) (stores : List (LogView F))
-    (anew : AreAnew m.log_held m.log_faults 0 old.folders.items old.logs.items stores)
-    (starts : StartsWithin (files_of m.files) (times_of m opened ask.first (endless ids)) (faults_of m.folder_faults) stores (endless ids) opened ask.first host first)
+    (anew : AreAnew m.log_held m.log_faults keep.syncs_all 0 old.folders.items old.logs.items stores)
+    (starts : StartsWithin (files_of m.files) (times_of m keep.syncs_all opened ask.first (endless keep.ids)) (faults_of m.folder_faults) stores (endless keep.ids) opened ask.first host first)
     (some : 1 ≤ ask.first) (many : length host.bases ≡ 16) (run_end : ServeEnd) (kept : HasKeptHost m desk host run_end mid new) where
   abbrev ended_host : HostView (LogView F)
   ended_host = record host { made = kept.made }
 
   -- each store at the end has the log of the one at its place
   logs_same : map (log_in notes_of) kept.stores ≡ map (log_in notes_of) stores
-  logs_same = kept.leaves.logs ∙ sym (map_start host.bases) ∙ ap (map (log_in notes_of)) (begun_starts _ _ _ opened ask.first (endless ids) 0 stores host.bases starts.bases)
+  logs_same = kept.leaves.logs ∙ sym (map_start host.bases) ∙ ap (map (log_in notes_of)) (begun_starts _ _ _ opened ask.first (endless keep.ids) 0 stores host.bases starts.bases)
     where
       map_start : (bases : List (Book (LogView F))) → map (log_in notes_of) (map start_of bases) ≡ map (λ (b : Book (LogView F)). b.start.notes.log) bases
       map_start [] = refl
       map_start (b ∷ bases) = ap (λ l. b.start.notes.log ∷ l) (map_start bases)
 
-  lives : HasLives m.log_held m.log_synced m.log_faults 0 old.folders.items old.logs.items stores kept.stores new.folders.items new.logs.items
-  lives = lives_of m.log_held m.log_synced m.log_faults 0 old.folders.items old.logs.items stores kept.stores new.folders.items new.logs.items anew logs_same kept.parted
+  lives : HasLives m.log_held m.log_synced m.log_faults keep.syncs_all 0 old.folders.items old.logs.items stores kept.stores new.folders.items new.logs.items
+  lives = lives_of m.log_held m.log_synced m.log_faults keep.syncs_all 0 old.folders.items old.logs.items stores kept.stores new.folders.items new.logs.items anew logs_same kept.parted
 
-  rows : HasRows m opened ask.first (endless ids) 0 lives.lives host.bases
+  rows : HasRows m keep.syncs_all opened ask.first (endless keep.ids) 0 lives.lives host.bases
   rows =
-      rows_of m opened ask.first (endless ids) 0 lives.lives host.bases lives.are
-      (subst (λ (l : List (LogView F)). AreBegun (files_of m.files) (times_of m opened ask.first (endless ids)) (faults_of m.folder_faults) opened ask.first (endless ids) 0 l host.bases) (sym lives.stores_are) starts.bases)
+      rows_of m keep.syncs_all opened ask.first (endless keep.ids) 0 lives.lives host.bases lives.are
+      (subst (λ (l : List (LogView F)). AreBegun (files_of m.files) (times_of m keep.syncs_all opened ask.first (endless keep.ids)) (faults_of m.folder_faults) opened ask.first (endless keep.ids) 0 l host.bases) (sym lives.stores_are) starts.bases)
       (subst (λ (l : List (LogView F)). AreNoted (files_of m.files) (faults_of m.folder_faults) notes_of host.bases l) (sym lives.lasts_are) kept.leaves.noted)
 
   -- of the lives, by row
@@ -83,7 +84,7 @@ module _ {S K F N D C G L : Type 0} (m : Meanings S K F N D C G L) (keys : Keys)
   told_journal = record { opened = opened; first = ask.first; parts = map part_of rows.rows; merge = kept.leaves.merge }
 
   based : AreBased opened ask.first host.bases told_journal.parts
-  based = subst (λ (l : List (Book (LogView F))). AreBased opened ask.first l told_journal.parts) rows.bases_are (rows_based m opened ask.first (endless ids) 0 rows.rows rows.are)
+  based = subst (λ (l : List (Book (LogView F))). AreBased opened ask.first l told_journal.parts) rows.bases_are (rows_based m keep.syncs_all opened ask.first (endless keep.ids) 0 rows.rows rows.are)
 
   all_seen : (passes : List (PassView (LogView F))) → AllByRecursion (λ pass. AreSeenIn notes_of pass.seats kept.stores) passes → AllByRecursion (λ pass. AreSeen pass.seats told_journal.parts) passes
   all_seen [] seen = tt
@@ -102,7 +103,7 @@ module _ {S K F N D C G L : Type 0} (m : Meanings S K F N D C G L) (keys : Keys)
 
   begins_are : map begin_of host.bases ≡ map (λ opening. new_life opening host.opened host.first) (map (λ (p : Left F). p.opening) told_journal.parts)
   begins_are =
-      ap (map begin_of) (sym rows.bases_are) ∙ rows_begin m opened ask.first (endless ids) 0 rows.rows rows.are
+      ap (map begin_of) (sym rows.bases_are) ∙ rows_begin m keep.syncs_all opened ask.first (endless keep.ids) 0 rows.rows rows.are
       ∙ (λ i. map (λ opening. new_life opening (sym starts.opened_is i) (sym starts.first_is i)) (map (λ (p : Left F). p.opening) told_journal.parts))
 
   is_journal : IsJournal m old.folders.items opened ask.first told_journal
@@ -115,20 +116,20 @@ module _ {S K F N D C G L : Type 0} (m : Meanings S K F N D C G L) (keys : Keys)
         legal = subst (λ (o : Opening). LegalHost o opened ask.first (steps_of kept.leaves.merge)) (rows_openings rows.rows)
             (subst (λ (z : ℕ × ℕ). LegalHost (flat_map (λ (opening : Opening). opening) (map (λ (p : Left F). p.opening) told_journal.parts)) z.0 z.1 (steps_of kept.leaves.merge)) at stands);
         parts = rows_parts kept.leaves.merge 0 rows.rows (subst (λ (l : List (LogView F)). AreNotedParts notes_of kept.leaves.merge 0 l) (sym lasts_are) kept.leaves.parts);
-        opens = subst (λ (l : List F). AreOpened m 0 l told_journal.parts) (mapped folder_of old.folders.items lives.folders_are) (rows_opened m opened ask.first (endless ids) 0 rows.rows rows.are);
+        opens = subst (λ (l : List F). AreOpened m 0 l told_journal.parts) (mapped folder_of old.folders.items lives.folders_are) (rows_opened m keep.syncs_all opened ask.first (endless keep.ids) 0 rows.rows rows.are);
       }
 
-  saw_them : SawNearlyFull m.held m.write_faults (endless ids) told_journal old.notes new.notes
+  saw_them : SawNearlyFull m.held m.write_faults (endless keep.ids) told_journal old.notes new.notes
   saw_them =
       let eye = eye_of (losing m) desk host kept.made kept.marks kept.passes kept.ends _ _ _ _ kept.returned many in
       let ended = eye_ended (losing m) desk host kept.made kept.marks kept.passes kept.ends _ _ _ _ kept.returned told_journal merged many in
       let told : TellsOf m.held m.write_faults old.notes new.notes none_raised kept.marks =
       subst (λ (k : K). TellsOf m.held m.write_faults k new.notes none_raised kept.marks) notes_are kept.told
       in
-      saw ended_host kept.returned.eye' told_journal merged.opened_is merged.first_is eye.of_host ended.1.seen merged.based eye.wide m.held m.write_faults (endless ids) old.notes new.notes kept.marks
+      saw ended_host kept.returned.eye' told_journal merged.opened_is merged.first_is eye.of_host ended.1.seen merged.based eye.wide m.held m.write_faults (endless keep.ids) old.notes new.notes kept.marks
       (eye.limits ∙ starts.limits_is) told kept.returned.right
 
-  has_kept : HasKept m keys base origin ask ids kept.ends (map shard_of_row rows.rows) told_journal old new
+  has_kept : HasKept m keys base origin ask keep kept.ends (map shard_of_row rows.rows) told_journal old new
   has_kept =
       let visits = visits_of (losing m).work desk kept.returned.olds kept.returned.news kept.returned.works in
       let workers = returned_workers (losing m) desk host kept.made kept.marks kept.passes kept.ends _ _ _ _ kept.returned told_journal merged many in
@@ -150,13 +151,13 @@ module _ {S K F N D C G L : Type 0} (m : Meanings S K F N D C G L) (keys : Keys)
         parts_are = map_map shard_of_row part_in rows.rows;
         folders_are = map_map shard_of_row folder_after rows.rows ∙ mapped folder_then new.folders.items lives.folders_then;
         logs_are = map_map shard_of_row log_after rows.rows ∙ mapped log_then new.logs.items lives.logs_then;
-        kept = subst (λ n. AreKept m n ask.first 0 (map shard_of_row rows.rows)) (sym opened_is) (rows_kept m opened ask.first (endless ids) 0 rows.rows some rows.are);
-        workers = subst (λ (l : List N). AreWorkers (losing m) desk (endless ids) told_journal 0 visits kept.ends l new.listeners.items mid.clocks.items new.clocks.items) listeners_are
+        kept = subst (λ n. AreKept m keep.syncs_all n ask.first 0 (map shard_of_row rows.rows)) (sym opened_is) (rows_kept m keep.syncs_all opened ask.first (endless keep.ids) 0 rows.rows some rows.are);
+        workers = subst (λ (l : List N). AreWorkers (losing m) desk (endless keep.ids) told_journal 0 visits kept.ends l new.listeners.items mid.clocks.items new.clocks.items) listeners_are
             (subst (λ k. AreWorkers (losing m) desk k told_journal 0 visits kept.ends mid.listeners.items new.listeners.items mid.clocks.items new.clocks.items) starts.limits_is workers);
         sure = sure;
       }
 
-  pub kept_runs : KeepRuns m keys base origin ask ids new.notes run_end old new
+  pub kept_runs : KeepRuns m keys base origin ask keep new.notes run_end old new
   kept_runs = go run_end ends_so
     where
       lost_is : list_any lost_store kept.stores ≡ list_any lost_in (map shard_of_row rows.rows)
@@ -165,14 +166,14 @@ module _ {S K F N D C G L : Type 0} (m : Meanings S K F N D C G L) (keys : Keys)
       ends_so : kept_end (list_any lost_in (map shard_of_row rows.rows)) kept.ends ≡ run_end
       ends_so = ap (λ (b : Bool). kept_end b kept.ends) (sym lost_is) ∙ kept.end_is
 
-      worked : (e : ServeEnd) → kept_end (list_any lost_in (map shard_of_row rows.rows)) kept.ends ≡ e → HasWorkedOut m keys base origin ask ids new.notes e old new
+      worked : (e : ServeEnd) → kept_end (list_any lost_in (map shard_of_row rows.rows)) kept.ends ≡ e → HasWorkedOut m keys base origin ask keep new.notes e old new
       worked e is = (told_journal, kept.ends, map shard_of_row rows.rows, has_kept, saw_them, is)
 
       apart : (e : ServeEnd) → IsOther e → kept_end (list_any lost_in (map shard_of_row rows.rows)) kept.ends ≡ e → ⊥
       apart e other is =
           no_other (list_any lost_in (map shard_of_row rows.rows) || list_any is_lost kept.ends) (list_any is_memory kept.ends) (list_any is_fault kept.ends) e other is
 
-      go : (e : ServeEnd) → kept_end (list_any lost_in (map shard_of_row rows.rows)) kept.ends ≡ e → KeepRuns m keys base origin ask ids new.notes e old new
+      go : (e : ServeEnd) → kept_end (list_any lost_in (map shard_of_row rows.rows)) kept.ends ≡ e → KeepRuns m keys base origin ask keep new.notes e old new
       go end.Served is = worked end.Served is
       go end.ListenerFault is = worked end.ListenerFault is
       go end.JournalFault is = inr (worked end.JournalFault is)

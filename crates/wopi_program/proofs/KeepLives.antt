@@ -55,9 +55,9 @@ module _ {F G : Type 0} where
   abbrev pub log_then : Life F G → G
   log_then life = life.log'
 
-module _ {F G : Type 0} (held synced : G → Option (List ℕ)) (faults : G → ℕ) where
+module _ {F G : Type 0} (held synced : G → Option (List ℕ)) (faults : G → ℕ) (every : Bool) where
   pub record IsLife (number : ℕ) (life : Life F G) : Type 0 where
-    pub paired : IsPaired held faults number life.folder life.log life.store
+    pub paired : IsPaired held faults every number life.folder life.log life.store
     pub same_log : life.last.notes.log ≡ life.store.notes.log
     pub ended : HasEnded life.last life.folder' (held life.log') (synced life.log') (faults life.log')
 
@@ -75,7 +75,7 @@ module _ {F G : Type 0} (held synced : G → Option (List ℕ)) (faults : G → 
     pub folders_then : map folder_then lives ≡ folders'
     pub logs_then : map log_then lives ≡ logs'
 
-  pub lives_of : (number : ℕ) (folders : List F) (logs : List G) (stores lasts : List (LogView F)) (folders' : List F) (logs' : List G) → AreAnew held faults number folders logs stores
+  pub lives_of : (number : ℕ) (folders : List F) (logs : List G) (stores lasts : List (LogView F)) (folders' : List F) (logs' : List G) → AreAnew held faults every number folders logs stores
       → map (log_in notes_of) lasts ≡ map (log_in notes_of) stores → AreParted held synced faults lasts folders' logs' → HasLives number folders logs stores lasts folders' logs'
   lives_of number [] [] [] [] [] [] anew same parted =
       record { lives = []; are = tt; folders_are = refl; logs_are = refl; stores_are = refl; lasts_are = refl; folders_then = refl; logs_then = refl }
@@ -108,6 +108,7 @@ module _ {F G : Type 0} (held synced : G → Option (List ℕ)) (faults : G → 
   -- the log of the store at the end is the one that it was handed in with
   pub record IsSameLog (number : ℕ) (life : Life F G) : Type 0 where
     pub shard : life.last.shard ≡ number
+    pub every_is : life.last.lines.all ≡ every
     pub start : life.last.lines.start ≡ held life.log
     pub began : life.last.lines.began ≡ faults life.log
 
@@ -117,6 +118,7 @@ module _ {F G : Type 0} (held synced : G → Option (List ℕ)) (faults : G → 
       let same : started life.last.shard life.last.lines ≡ started life.store.shard life.store.lines = cc both in
       record {
         shard = ap (λ (s : LogStart). s.shard) same ∙ is.paired.anew.shard_is;
+        every_is = ap (λ (s : LogStart). s.syncs_all) same ∙ is.paired.every_is;
         start = ap (λ (s : LogStart). s.held) same ∙ is.paired.start;
         began = ap (λ (s : LogStart). s.faults) same ∙ is.paired.began;
       }
@@ -157,9 +159,9 @@ head_at shard opened first opening some = go (first == 0) refl
     go true is = absurd (grind (arith, nat_tests))
     go false is = refl
 
-module _ {S K F N D C G L : Type 0} (m : Meanings S K F N D C G L) (opened first : ℕ) (limits : Limits) where
+module _ {S K F N D C G L : Type 0} (m : Meanings S K F N D C G L) (every : Bool) (opened first : ℕ) (limits : Limits) where
   abbrev pub IsLifeOf : ℕ → Life F G → Type 0
-  IsLifeOf = IsLife m.log_held m.log_synced m.log_faults
+  IsLifeOf = IsLife m.log_held m.log_synced m.log_faults every
 
   abbrev pub times_of : LogView F → Option Times
   times_of store = m.times store.folder
@@ -179,7 +181,7 @@ module _ {S K F N D C G L : Type 0} (m : Meanings S K F N D C G L) (opened first
     pub lives_are : map life_of rows ≡ lives
     pub bases_are : map base_in rows ≡ bases
 
-  pub rows_of : (number : ℕ) (lives : List (Life F G)) (bases : List (Book (LogView F))) → AreLives m.log_held m.log_synced m.log_faults number lives
+  pub rows_of : (number : ℕ) (lives : List (Life F G)) (bases : List (Book (LogView F))) → AreLives m.log_held m.log_synced m.log_faults every number lives
       → AreBegun (files_of m.files) times_of (faults_of m.folder_faults) opened first limits number (map store_of lives) bases
       → AreNoted (files_of m.files) (faults_of m.folder_faults) notes_of bases (map last_of lives) → HasRows number lives bases
   rows_of number [] [] are begun noted = record { rows = []; are = tt; lives_are = refl; bases_are = refl }
@@ -232,7 +234,7 @@ module _ {S K F N D C G L : Type 0} (m : Meanings S K F N D C G L) (opened first
         ap (λ n. life_files n e.opening) (sym from) ∙ ap (λ (b : Begin). b.files) (sym e.begin_is ∙ begin)
         in
         let opening : e.opening ≡ (part_of row).opening = same_openings first e.opening (part_of row).opening files in
-        let shard = (same_log m.log_held m.log_synced m.log_faults number row.life is.life).shard in
+        let shard = (same_log m.log_held m.log_synced m.log_faults every number row.life is.life).shard in
         e.head_is ∙ (λ i. head_of (shard i) (at i) (from i) (opening i)) ∙ head_at number opened first (part_of row).opening some
 
     row_holds : Agrees (Some number) (m.files row.life.folder) (m.files row.life.folder') (state_of (new_life (part_of row).opening opened first) row.life.last.notes.made (last_time opened row.life.last.notes.made)).files (is_torn row.life.last.notes.made)
@@ -263,27 +265,31 @@ module _ {S K F N D C G L : Type 0} (m : Meanings S K F N D C G L) (opened first
     row_timely : IsTimely opened row.life.last.notes.made
     row_timely = subst (λ n. IsTimely n row.life.last.notes.made) (ap (λ (b : Begin). b.now) begin_is) is.noted.timely
 
-    log_at : (told : List Made) (tail : List ℕ) → 1 ≤ first → IsLog row.life.last.lines.start (m.log_held row.life.log') (m.log_synced row.life.log') row.life.last.lines.head told tail
-        → IsLog (m.log_held row.life.log) (m.log_held row.life.log') (m.log_synced row.life.log') (opening_text number opened first (part_of row).opening) told tail
+    log_at : (told : List Made) (tail : List ℕ) → 1 ≤ first → IsLog row.life.last.lines.all row.life.last.lines.start (m.log_held row.life.log') (m.log_synced row.life.log') row.life.last.lines.head told tail
+        → IsLog every (m.log_held row.life.log) (m.log_held row.life.log') (m.log_synced row.life.log') (opening_text number opened first (part_of row).opening) told tail
     log_at told tail some log =
-        subst (λ (h : List ℕ). IsLog (m.log_held row.life.log) (m.log_held row.life.log') (m.log_synced row.life.log') h told tail) (head_is some)
-        (subst (λ (o : Option (List ℕ)). IsLog o (m.log_held row.life.log') (m.log_synced row.life.log') row.life.last.lines.head told tail) (same_log m.log_held m.log_synced m.log_faults number row.life is.life).start log)
+        let same = same_log m.log_held m.log_synced m.log_faults every number row.life is.life in
+        let one : IsLog every row.life.last.lines.start (m.log_held row.life.log') (m.log_synced row.life.log') row.life.last.lines.head told tail =
+        subst (λ (b : Bool). IsLog b row.life.last.lines.start (m.log_held row.life.log') (m.log_synced row.life.log') row.life.last.lines.head told tail) same.every_is log
+        in
+        subst (λ (h : List ℕ). IsLog every (m.log_held row.life.log) (m.log_held row.life.log') (m.log_synced row.life.log') h told tail) (head_is some)
+        (subst (λ (o : Option (List ℕ)). IsLog every o (m.log_held row.life.log') (m.log_synced row.life.log') row.life.last.lines.head told tail) same.start one)
 
     rose_at : row.life.last.lines.lost ≡ true → Rose (m.log_faults row.life.log) (m.log_faults row.life.log')
     rose_at lost =
         let e = is.life.ended in
         subst (λ n. Rose (m.log_faults row.life.log) n) (sym e.faults_are)
-        (subst (λ n. Rose n row.life.last.lines.faults) (same_log m.log_held m.log_synced m.log_faults number row.life is.life).began (e.rose lost))
+        (subst (λ n. Rose n row.life.last.lines.faults) (same_log m.log_held m.log_synced m.log_faults every number row.life is.life).began (e.rose lost))
 
     counts_at : m.log_faults row.life.log ≤ m.log_faults row.life.log'
     counts_at =
         let e = is.life.ended in
-        let began = (same_log m.log_held m.log_synced m.log_faults number row.life is.life).began in
+        let began = (same_log m.log_held m.log_synced m.log_faults every number row.life is.life).began in
         let less = e.counts in
         let now = e.faults_are in
         omega (arith, began, less, now)
 
-    whole_row : 1 ≤ first → row.life.last.lines.lost ≡ false → IsKept m opened first number (shard_of_row row)
+    whole_row : 1 ≤ first → row.life.last.lines.lost ≡ false → IsKept m every opened first number (shard_of_row row)
     whole_row some fine =
         let e = is.life.ended in
         let v = row.life.last in
@@ -310,7 +316,7 @@ module _ {S K F N D C G L : Type 0} (m : Meanings S K F N D C G L) (opened first
           cause = λ lost. inr (e.full lost fine);
         }
 
-    failed_row : 1 ≤ first → row.life.last.lines.lost ≡ true → IsKept m opened first number (shard_of_row row)
+    failed_row : 1 ≤ first → row.life.last.lines.lost ≡ true → IsKept m every opened first number (shard_of_row row)
     failed_row some lost =
         let e = is.life.ended in
         let v = row.life.last in
@@ -341,16 +347,16 @@ module _ {S K F N D C G L : Type 0} (m : Meanings S K F N D C G L) (opened first
           cause = λ _. inl refl;
         }
 
-    pub row_kept : 1 ≤ first → IsKept m opened first number (shard_of_row row)
+    pub row_kept : 1 ≤ first → IsKept m every opened first number (shard_of_row row)
     row_kept some = go row.life.last.lines.lost refl
       where
-        go : (b : Bool) → row.life.last.lines.lost ≡ b → IsKept m opened first number (shard_of_row row)
+        go : (b : Bool) → row.life.last.lines.lost ≡ b → IsKept m every opened first number (shard_of_row row)
         go true lost = failed_row some lost
         go false fine = whole_row some fine
 
   -- ---- all rows
 
-  pub rows_kept : (number : ℕ) (rows : List (Row F G)) → 1 ≤ first → AreRows number rows → AreKept m opened first number (map shard_of_row rows)
+  pub rows_kept : (number : ℕ) (rows : List (Row F G)) → 1 ≤ first → AreRows number rows → AreKept m every opened first number (map shard_of_row rows)
   rows_kept number [] some are = tt
   rows_kept number (row ∷ rows) some are = (row_kept number row are.0 some, rows_kept (number + 1) rows some are.1)
 

@@ -4,6 +4,7 @@ use Rattle.host_table.specs.Journal.{JournalView}
 use Rattle.host_server.specs.declared.working.WorkEnd.{WorkEnd}
 use Rattle.access_tokens.specs.declared.keys.Keys.{Keys}
 use Rattle.wopi_program.specs.declared.outside_world.Outside.{Outside}
+use Rattle.wopi_program.specs.declared.serve_words.Keep.{Keep}
 use Rattle.wopi_program.specs.declared.serve_words.ServeAsk.{ServeAsk}
 use Rattle.wopi_program.specs.declared.serving.ServeEnd.{ServeEnd}
 use Rattle.wopi_program.specs.declared.serving.ServeEnd.TheVariants as end
@@ -11,12 +12,12 @@ use Rattle.wopi_program.specs.Meanings.{Meanings}
 use Rattle.wopi_program.specs.Keep.{HasKept, HasWorkedOut, KeepRuns, KeptShard}
 
 module _ {S K F N D C G L : Type 0} (m : Meanings S K F N D C G L) where
-  module _ (keys : Keys) (base : List ℕ) (origin : Option (List ℕ)) (ask : ServeAsk) (ids : ℕ) (between : K) (old new : Outside S K F N D C G) (notes : K) where
+  module _ (keys : Keys) (base : List ℕ) (origin : Option (List ℕ)) (ask : ServeAsk) (keep : Keep) (between : K) (old new : Outside S K F N D C G) (notes : K) where
     abbrev Noted : Outside S K F N D C G
     Noted = record new { notes = notes }
 
-    kept_noted : (ends : List WorkEnd) (shards : List (KeptShard F G)) (journal : JournalView F) → HasKept m keys base origin ask ids ends shards journal old new
-        → HasKept m keys base origin ask ids ends shards journal old Noted
+    kept_noted : (ends : List WorkEnd) (shards : List (KeptShard F G)) (journal : JournalView F) → HasKept m keys base origin ask keep ends shards journal old new
+        → HasKept m keys base origin ask keep ends shards journal old Noted
     kept_noted ends shards journal kept = record {
       desk = kept.desk;
       mid = kept.mid;
@@ -38,10 +39,10 @@ module _ {S K F N D C G L : Type 0} (m : Meanings S K F N D C G L) where
       sure = kept.sure;
     }
 
-    worked_noted : (e : ServeEnd) → HasWorkedOut m keys base origin ask ids between e old new → HasWorkedOut m keys base origin ask ids between e old Noted
+    worked_noted : (e : ServeEnd) → HasWorkedOut m keys base origin ask keep between e old new → HasWorkedOut m keys base origin ask keep between e old Noted
     worked_noted e (journal, ends, shards, kept, saw, is) = (journal, ends, shards, kept_noted ends shards journal kept, saw, is)
 
-    pub keep_noted : (e : ServeEnd) → KeepRuns m keys base origin ask ids between e old new → KeepRuns m keys base origin ask ids between e old Noted
+    pub keep_noted : (e : ServeEnd) → KeepRuns m keys base origin ask keep between e old new → KeepRuns m keys base origin ask keep between e old Noted
     keep_noted end.Served worked = worked_noted end.Served worked
     keep_noted end.ListenerFault worked = worked_noted end.ListenerFault worked
     keep_noted end.JournalFault (inl none) = inl none
@@ -53,7 +54,7 @@ module _ {S K F N D C G L : Type 0} (m : Meanings S K F N D C G L) where
     keep_noted (end.TooLarge name) refused = refused
 
   -- a run under these bytes
-  pub keep_under : (keys : Keys) (base base' : List ℕ) (origin origin' : Option (List ℕ)) (ask : ServeAsk) (ids : ℕ) (notes : K) (e : ServeEnd) (old new : Outside S K F N D C G) → base ≡ base' → origin ≡ origin'
-      → KeepRuns m keys base origin ask ids notes e old new → KeepRuns m keys base' origin' ask ids notes e old new
-  keep_under keys base base' origin origin' ask ids notes e old new is same runs =
-      subst (λ o. KeepRuns m keys base' o ask ids notes e old new) same (subst (λ b. KeepRuns m keys b origin ask ids notes e old new) is runs)
+  pub keep_under : (keys : Keys) (base base' : List ℕ) (origin origin' : Option (List ℕ)) (ask : ServeAsk) (keep : Keep) (notes : K) (e : ServeEnd) (old new : Outside S K F N D C G) → base ≡ base' → origin ≡ origin'
+      → KeepRuns m keys base origin ask keep notes e old new → KeepRuns m keys base' origin' ask keep notes e old new
+  keep_under keys base base' origin origin' ask keep notes e old new is same runs =
+      subst (λ o. KeepRuns m keys base' o ask keep notes e old new) same (subst (λ b. KeepRuns m keys b origin ask keep notes e old new) is runs)

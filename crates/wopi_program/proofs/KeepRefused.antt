@@ -14,6 +14,7 @@ use Rattle.host_table.specs.Start.{AreHanded, Blames, HaveOpenings, IsBlamed}
 use Rattle.host_table.proofs.Starting.{handed_self}
 use Rattle.access_tokens.specs.declared.keys.Keys.{Keys}
 use Rattle.wopi_program.specs.declared.outside_world.Outside.{Outside}
+use Rattle.wopi_program.specs.declared.serve_words.Keep.{Keep}
 use Rattle.wopi_program.specs.declared.serve_words.ServeAsk.{ServeAsk}
 use Rattle.wopi_program.specs.declared.serving.ServeEnd.{ServeEnd}
 use Rattle.wopi_program.specs.declared.serving.ServeEnd.TheVariants as end
@@ -31,14 +32,14 @@ or_true : (a b : Bool) → (a || b) ≡ true → (a ≡ true) ⊎ (b ≡ true)
 or_true true b is = inl refl
 or_true false b is = inr is
 
-module _ {S K F N D C G L : Type 0} (m : Meanings S K F N D C G L) where
+module _ {S K F N D C G L : Type 0} (m : Meanings S K F N D C G L) (every : Bool) where
   abbrev AreLivesOf : ℕ → List (Life F G) → Type 0
-  AreLivesOf = AreLives m.log_held m.log_synced m.log_faults
+  AreLivesOf = AreLives m.log_held m.log_synced m.log_faults every
 
   grown : (number : ℕ) (lives : List (Life F G)) → AreLivesOf number lives → AreGrown m (map log_of lives) (map log_then lives)
   grown number [] are = tt
   grown number (life ∷ lives) are =
-      let same = same_log m.log_held m.log_synced m.log_faults number life are.0 in
+      let same = same_log m.log_held m.log_synced m.log_faults every number life are.0 in
       let e = are.0.ended in
       let began = same.began in
       let less = e.counts in
@@ -75,7 +76,7 @@ module _ {S K F N D C G L : Type 0} (m : Meanings S K F N D C G L) where
   has_failed number [] are failed = absurd (true≢false (sym failed))
   has_failed number (life ∷ lives) are failed =
       let e = are.0.ended in
-      let began = (same_log m.log_held m.log_synced m.log_faults number life are.0).began in
+      let began = (same_log m.log_held m.log_synced m.log_faults every number life are.0).began in
       elim (or_true life.last.lines.lost (list_any failed_in (map last_of lives)) failed) as (λ _. HasFailed m (map log_of (life ∷ lives)) (map log_then (life ∷ lives))) [
         | inl lost ↦ inl (subst (λ n. Rose (m.log_faults life.log) n) (sym e.faults_are) (subst (λ n. Rose n life.last.lines.faults) began (e.rose lost)))
         | inr rest ↦ inr (has_failed (number + 1) lives are.1 rest)
@@ -102,7 +103,7 @@ module _ {S K F N D C G L : Type 0} (m : Meanings S K F N D C G L) where
     pub rest : List (Life F G)
     pub lives_are : lives ≡ front ++ life ∷ rest
     pub fronts : AreLivesOf at front
-    pub is_life : IsLife m.log_held m.log_synced m.log_faults (at + length front) life
+    pub is_life : IsLife m.log_held m.log_synced m.log_faults every (at + length front) life
     pub before_is : map store_of front ≡ before
     pub handed_is : map last_of front ≡ handed
     pub old_is : life.store ≡ old
@@ -120,7 +121,7 @@ module _ {S K F N D C G L : Type 0} (m : Meanings S K F N D C G L) where
         rest = lives;
         lives_are = refl;
         fronts = tt;
-        is_life = subst (λ n. IsLife m.log_held m.log_synced m.log_faults n life) here are.0;
+        is_life = subst (λ n. IsLife m.log_held m.log_synced m.log_faults every n life) here are.0;
         before_is = refl;
         handed_is = refl;
         old_is = cc is;
@@ -141,7 +142,7 @@ module _ {S K F N D C G L : Type 0} (m : Meanings S K F N D C G L) where
         rest = r.rest;
         lives_are = ap (λ (l : List (Life F G)). life ∷ l) r.lives_are;
         fronts = (are.0, r.fronts);
-        is_life = subst (λ n. IsLife m.log_held m.log_synced m.log_faults n r.life) place r.is_life;
+        is_life = subst (λ n. IsLife m.log_held m.log_synced m.log_faults every n r.life) place r.is_life;
         before_is = λ i. store i ∷ r.before_is i;
         handed_is = λ i. last i ∷ r.handed_is i;
         old_is = r.old_is;
@@ -204,26 +205,26 @@ module _ {S K F N D C G L : Type 0} (m : Meanings S K F N D C G L) where
   grown_self [] = tt
   grown_self (log ∷ logs) = (front_self (m.log_held log), omega arith, grown_self logs)
 
-  module _ (keys : Keys) (base : List ℕ) (origin : Option (List ℕ)) (ask : ServeAsk) (ids : ℕ) (old new : Outside S K F N D C G) where
+  module _ (keys : Keys) (base : List ℕ) (origin : Option (List ℕ)) (ask : ServeAsk) (keep : Keep) (old new : Outside S K F N D C G) where
     -- for want of memory before anything was opened
     pub keep_wanted : (opened : ℕ) → new.notes ≡ old.notes → new.listeners.items ≡ old.listeners.items → new.folders.items ≡ old.folders.items → new.logs.items ≡ old.logs.items
-        → Opens m.work.moments opened old.clocks.items new.clocks.items → KeepRuns m keys base origin ask ids new.notes end.Memory old new
+        → Opens m.work.moments opened old.clocks.items new.clocks.items → KeepRuns m keys base origin ask keep new.notes end.Memory old new
     keep_wanted opened notes listeners folders logs opens =
         let both : (old.folders.items, old.logs.items) ≡ (new.folders.items, new.logs.items) = λ i. (sym folders i, sym logs i) in
         let P : List F × List G → Type 0 = λ z. AreSame m old.folders.items z.0 × AreGrown m old.logs.items z.1 × AreHanded m.files m.folder_faults old.folders.items z.0 in
         let all : P (new.folders.items, new.logs.items) = subst P both (same_self old.folders.items, grown_self old.logs.items, handed_self m.files m.folder_faults old.folders.items) in
         inl ((notes, listeners, all.0, all.1, (opened, opens)), all.2, tt)
 
-    opened_none : (refusal : StartFault) → HasRefusedKeep m keys base origin ask ids new.notes refusal old new → KeepRuns m keys base origin ask ids new.notes (refused_end refusal) old new
+    opened_none : (refusal : StartFault) → HasRefusedKeep m keys base origin ask keep new.notes refusal old new → KeepRuns m keys base origin ask keep new.notes (refused_end refusal) old new
     opened_none fault.FolderFault refused = refused
     opened_none (fault.TooLarge name) refused = refused
     opened_none fault.Memory refused = inl refused
 
     -- over stores that were handed back
     pub keep_refused : (opened : ℕ) (stores lasts : List (LogView F)) (refusal : StartFault) (e : ServeEnd) → new.notes ≡ old.notes → new.listeners.items ≡ old.listeners.items
-        → HasLives m.log_held m.log_synced m.log_faults 0 old.folders.items old.logs.items stores lasts new.folders.items new.logs.items
+        → HasLives m.log_held m.log_synced m.log_faults every 0 old.folders.items old.logs.items stores lasts new.folders.items new.logs.items
         → AreHanded (files_of m.files) (faults_of m.folder_faults) stores lasts → IsBlamed (files_of m.files) (faults_of m.folder_faults) stores lasts refusal
-        → Opens m.work.moments opened old.clocks.items new.clocks.items → e ≡ opening_end lasts refusal → KeepRuns m keys base origin ask ids new.notes e old new
+        → Opens m.work.moments opened old.clocks.items new.clocks.items → e ≡ opening_end lasts refusal → KeepRuns m keys base origin ask keep new.notes e old new
     keep_refused opened stores lasts refusal e notes listeners h handed blamed opens is =
         go (list_any failed_in (map last_of h.lives)) refl
       where
@@ -241,7 +242,7 @@ module _ {S K F N D C G L : Type 0} (m : Meanings S K F N D C G L) where
         logs : ◌≡◌ {A = List G × List G} (map log_of h.lives, map log_then h.lives) (old.logs.items, new.logs.items)
         logs = λ i. (h.logs_are i, h.logs_then i)
 
-        none : HasOpenedNone m keys base origin ask ids new.notes old new
+        none : HasOpenedNone m keys base origin ask keep new.notes old new
         none = (
           notes,
           listeners,
@@ -256,16 +257,16 @@ module _ {S K F N D C G L : Type 0} (m : Meanings S K F N D C G L) where
             is ∙ ap (λ (l : List (LogView F)). opening_end l refusal) (sym h.lasts_are)
             ∙ ap (λ (c : Bool). if c then end.JournalFault else refused_end refusal) any
 
-        go : (b : Bool) → list_any failed_in (map last_of h.lives) ≡ b → KeepRuns m keys base origin ask ids new.notes e old new
+        go : (b : Bool) → list_any failed_in (map last_of h.lives) ≡ b → KeepRuns m keys base origin ask keep new.notes e old new
         go true any =
             let failed = subst (λ (z : List G × List G). HasFailed m z.0 z.1) logs (has_failed 0 h.lives h.are any) in
-            let runs : KeepRuns m keys base origin ask ids new.notes end.JournalFault old new = inl (none, failed) in
-            subst (λ z. KeepRuns m keys base origin ask ids new.notes z old new) (sym (ends_so true any)) runs
+            let runs : KeepRuns m keys base origin ask keep new.notes end.JournalFault old new = inl (none, failed) in
+            subst (λ z. KeepRuns m keys base origin ask keep new.notes z old new) (sym (ends_so true any)) runs
         go false any =
-            let refused : HasRefusedKeep m keys base origin ask ids new.notes refusal old new = (
+            let refused : HasRefusedKeep m keys base origin ask keep new.notes refusal old new = (
               none,
               subst (λ (z : List F × List F). AreHanded m.files m.folder_faults z.0 z.1) folders (handed_folders 0 h.lives h.are any given),
               subst (λ (z : List F × List F). IsBlamed m.files m.folder_faults z.0 z.1 refusal) folders (is_blamed h.lives refusal h.are any whose),
             )
             in
-            subst (λ z. KeepRuns m keys base origin ask ids new.notes z old new) (sym (ends_so false any)) (opened_none refusal refused)
+            subst (λ z. KeepRuns m keys base origin ask keep new.notes z old new) (sym (ends_so false any)) (opened_none refusal refused)

@@ -48,32 +48,32 @@ module _ {F G : Type 0} (held synced : G → Option (List ℕ)) (faults : G → 
       let both : (folders ++ [], logs ++ []) ≡ (folders, logs) = λ i. (append-nil folders i, append-nil logs i) in
       subst (λ (z : List F × List G). AreParted held synced faults all z.0 z.1) both (whole [] [] here)
 
-module _ {F G : Type 0} (held : G → Option (List ℕ)) (faults : G → ℕ) where
+module _ {F G : Type 0} (held : G → Option (List ℕ)) (faults : G → ℕ) (every : Bool) where
   -- with those for these folders and logs behind these stores there are all
   abbrev pub PairsAll : List F → List G → List F → List G → List (LogView F) → Type 0
   PairsAll all all' folders logs stores =
-      (rest : List (LogView F)) → AreAnew held faults (length stores) folders logs rest → AreAnew held faults 0 all all' (stores ++ rest)
+      (rest : List (LogView F)) → AreAnew held faults every (length stores) folders logs rest → AreAnew held faults every 0 all all' (stores ++ rest)
 
   pub anew_none : (folders : List F) (logs : List G) (stores : List (LogView F)) → stores ≡ [] → PairsAll folders logs folders logs stores
   anew_none folders logs stores none rest are =
-      subst (λ (l : List (LogView F)). AreAnew held faults 0 folders logs (l ++ rest)) (sym none)
-      (subst (λ (l : List (LogView F)). AreAnew held faults (length l) folders logs rest) none are)
+      subst (λ (l : List (LogView F)). AreAnew held faults every 0 folders logs (l ++ rest)) (sym none)
+      (subst (λ (l : List (LogView F)). AreAnew held faults every (length l) folders logs rest) none are)
 
   pub anew_more : (all : List F) (all' : List G) (folders folders' : List F) (logs logs' : List G) (folder : F) (log : G) (stores stores' : List (LogView F)) (store : LogView F)
-      → folders ≡ folder ∷ folders' → logs ≡ log ∷ logs' → stores' ≡ stores ++ store ∷ [] → IsPaired held faults (length stores) folder log store → PairsAll all all' folders logs stores
+      → folders ≡ folder ∷ folders' → logs ≡ log ∷ logs' → stores' ≡ stores ++ store ∷ [] → IsPaired held faults every (length stores) folder log store → PairsAll all all' folders logs stores
       → PairsAll all all' folders' logs' stores'
   anew_more all all' folders folders' logs logs' folder log stores stores' store folders_are logs_are stores_are paired whole rest are =
       let count : length stores' ≡ length stores + 1 = ap (λ (l : List (LogView F)). length l) stores_are ∙ length-append stores (store ∷ []) in
-      let next : AreAnew held faults (length stores + 1) folders' logs' rest = subst (λ n. AreAnew held faults n folders' logs' rest) count are in
+      let next : AreAnew held faults every (length stores + 1) folders' logs' rest = subst (λ n. AreAnew held faults every n folders' logs' rest) count are in
       let both : (folder ∷ folders', log ∷ logs') ≡ (folders, logs) = λ i. (sym folders_are i, sym logs_are i) in
-      let here : AreAnew held faults (length stores) folders logs (store ∷ rest) =
-      subst (λ (z : List F × List G). AreAnew held faults (length stores) z.0 z.1 (store ∷ rest)) both (paired, next)
+      let here : AreAnew held faults every (length stores) folders logs (store ∷ rest) =
+      subst (λ (z : List F × List G). AreAnew held faults every (length stores) z.0 z.1 (store ∷ rest)) both (paired, next)
       in
-      subst (λ (l : List (LogView F)). AreAnew held faults 0 all all' l) (sym (ap (λ (l : List (LogView F)). l ++ rest) stores_are ∙ append_assoc stores (store ∷ []) rest)) (whole (store ∷ rest) here)
+      subst (λ (l : List (LogView F)). AreAnew held faults every 0 all all' l) (sym (ap (λ (l : List (LogView F)). l ++ rest) stores_are ∙ append_assoc stores (store ∷ []) rest)) (whole (store ∷ rest) here)
 
   pub anew_all : (all : List F) (all' : List G) (folders : List F) (logs : List G) (stores : List (LogView F)) → length folders ≡ 0 → length logs ≡ 0 → PairsAll all all' folders logs stores
-      → AreAnew held faults 0 all all' stores
+      → AreAnew held faults every 0 all all' stores
   anew_all all all' folders logs stores none none' whole =
       let both : ([], []) ≡ (folders, logs) = λ i. (sym (none_there folders none) i, sym (none_there logs none') i) in
-      let here : AreAnew held faults (length stores) folders logs [] = subst (λ (z : List F × List G). AreAnew held faults (length stores) z.0 z.1 []) both tt in
-      subst (λ (l : List (LogView F)). AreAnew held faults 0 all all' l) (append-nil stores) (whole [] here)
+      let here : AreAnew held faults every (length stores) folders logs [] = subst (λ (z : List F × List G). AreAnew held faults every (length stores) z.0 z.1 []) both tt in
+      subst (λ (l : List (LogView F)). AreAnew held faults every 0 all all' l) (append-nil stores) (whole [] here)

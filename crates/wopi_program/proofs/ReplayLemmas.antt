@@ -3,10 +3,10 @@ use Rattle.std.proofs.Common.{◌≡◌, ◌≢◌, ◌⊎◌, ℕ, List, [], Op
 use Rattle.std.specs.Io.KnownBytes.{Appends, IsAtEnd}
 use Rattle.outside.specs.Stream.{GrewByPrefix}
 use Rattle.wopi_world.specs.Safe.{IsSafe}
-use Rattle.replay_cmd.specs.Schedules.{Lines}
+use Rattle.schedule_text.specs.Schedules.{Lines}
 use Rattle.replay_cmd.specs.Runs.{setting_of, world_of}
 use Rattle.replay_cmd.specs.Worlds.{IsTextOf}
-use Rattle.replay_cmd.specs.Inputs.{IsWholeInput}
+use Rattle.schedule_text.specs.Inputs.{IsWholeInput}
 use Rattle.replay_cmd.specs.Trace.{trace_text}
 use Rattle.wopi_program.specs.declared.outside_world.Outside.{Outside}
 use Rattle.wopi_program.specs.declared.replay_words.ReplayAsk.{ReplayAsk}

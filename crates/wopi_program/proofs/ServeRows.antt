@@ -8,7 +8,7 @@ use Rattle.access_tokens.specs.Addresses.{is_base}
 use Rattle.wopi_program.specs.declared.serve_words.ServeAsk.{ServeAsk}
 use Rattle.wopi_program.specs.declared.serve_words.ServeOptions.{ServeOptions}
 use Rattle.wopi_program.specs.EditorWords.{TellsOrigin, behind_editor, origin_told, serves_editors}
-use Rattle.wopi_program.specs.ServeWords.{IsServe, IsServeRow, ask_of, asked, asked_of, before_others, behind_keep, goes_with, kept_ids, logs_told, number_in, option_before, options_of, unless_told, with_each, with_first, with_ids, with_journal, with_links}
+use Rattle.wopi_program.specs.ServeWords.{IsServe, IsServeRow, ask_of, asked, asked_of, before_others, behind_keep, goes_with, kept_as, logs_told, number_in, option_before, options_of, unless_told, with_each, with_first, with_ids, with_journal, with_links, with_sync, sync_in}
 use Rattle.access_tokens.specs.declared.keys.Keys.{Keys}
 
 -- a list with these six things at its front
@@ -25,15 +25,15 @@ six_items (p ∷ q ∷ r ∷ s ∷ t ∷ o ∷ xs) u v w x y z some a b c d e f 
 
 -- how many options were told
 abbrev told_many : ServeOptions → ℕ
-told_many told = option_len told.journal + (option_len told.each + (option_len told.first + (option_len told.links + option_len told.ids)))
+told_many told = option_len told.journal + (option_len told.each + (option_len told.first + (option_len told.links + (option_len told.ids + option_len told.sync))))
 
-few_len : (number : Option ℕ) → option_len number ≤ 1
+few_len : {A : Type 0} (told : Option A) → option_len told ≤ 1
 few_len None = omega arith
-few_len (Some number) = omega arith
+few_len (Some one) = omega arith
 
-few_told : (told : ServeOptions) → told_many told ≤ 5
+few_told : (told : ServeOptions) → told_many told ≤ 6
 few_told told =
-    let a = few_len told.journal in let b = few_len told.each in let c = few_len told.first in let d = few_len told.links in let e = few_len told.ids in omega (arith, a, b, c, d, e)
+    let a = few_len told.journal in let b = few_len told.each in let c = few_len told.first in let d = few_len told.links in let e = few_len told.ids in let f = few_len told.sync in omega (arith, a, b, c, d, e, f)
 
 -- what is told with one option more
 abbrev IsMore : ServeOptions → Option ServeOptions → Type 0
@@ -64,6 +64,11 @@ ids_more (Some told) number options is = tt
 ids_more None None options is = tt
 ids_more None (Some number) options is = let none : option_len options.ids ≡ 0 = ap option_len is in omega (arith, none)
 
+sync_more : (sync all : Option Bool) (options : ServeOptions) → options.sync ≡ sync → IsMore options (with_sync options (unless_told sync all))
+sync_more (Some told) all options is = tt
+sync_more None None options is = tt
+sync_more None (Some all) options is = let none : option_len options.sync ≡ 0 = ap option_len is in omega (arith, none)
+
 either : {X : Type 0} (P : X → Type 0) (test : Bool) (x y : X) → P x → P y → P (if test then x else y)
 either P true x y p q = p
 either P false x y p q = q
@@ -74,7 +79,8 @@ before_more name word options =
     (either (IsMore options) (bytes_eq name (codes "--each")) _ _ (each_more options.each (number_in 1000000 word) options refl)
     (either (IsMore options) (bytes_eq name (codes "--first")) _ _ (first_more options.first (number_in (most_first) word) options refl)
     (either (IsMore options) (bytes_eq name (codes "--links")) _ _ (links_more options.links (number_in 1024 word) options refl)
-    (either (IsMore options) (bytes_eq name (codes "--ids")) _ _ (ids_more options.ids (number_in 32768 word) options refl) tt))))
+    (either (IsMore options) (bytes_eq name (codes "--ids")) _ _ (ids_more options.ids (number_in 32768 word) options refl)
+    (either (IsMore options) (bytes_eq name (codes "--sync")) _ _ (sync_more options.sync (sync_in word) options refl) tt)))))
 
 -- each option has two words
 abbrev HaveTwo : ℕ → Option ServeOptions → Type 0
@@ -94,7 +100,7 @@ have_two [] = refl
 have_two (name ∷ []) = tt
 have_two (name ∷ word ∷ words) = two_before name word (options_of words) (length words) (have_two words)
 
-none_told : (result : Option ServeOptions) (words : ℕ) → 10 < words → HaveTwo words result → None ≡ result
+none_told : (result : Option ServeOptions) (words : ℕ) → 12 < words → HaveTwo words result → None ≡ result
 none_told None words many two = refl
 none_told (Some told) words many two = let few = few_told told in absurd (omega (arith, many, two, few))
 
@@ -103,9 +109,9 @@ module _ {A : Type 0} (f : A → List ℕ) where
   many_mapped [] = refl
   many_mapped (x ∷ xs) = ap suc (many_mapped xs)
 
-  -- more words than those of five options are no options, nor is one
-  pub many_words : (xs : List A) → 10 < length xs → None ≡ options_of (map f xs)
-  many_words xs many = none_told (options_of (map f xs)) (length (map f xs)) (subst (λ n. 10 < n) (sym (many_mapped xs)) many) (have_two (map f xs))
+  -- more words than those of six options are no options, nor is one
+  pub many_words : (xs : List A) → 12 < length xs → None ≡ options_of (map f xs)
+  many_words xs many = none_told (options_of (map f xs)) (length (map f xs)) (subst (λ n. 12 < n) (sym (many_mapped xs)) many) (have_two (map f xs))
 
   pub one_word : (xs : List A) → 0 < length xs → length xs < 2 → None ≡ options_of (map f xs)
   one_word [] some few = absurd (omega (arith, some))
@@ -145,9 +151,9 @@ serve_page words keys base ask row = ap (λ (l : List (List ℕ)). origin_told (
 pub serve_logs : (words : List (List ℕ)) (keys : Keys) (base : List ℕ) (ask : ServeAsk) (row : IsServeRow words keys base ask) → logs_told (drop 6 words) ≡ logs_told row.options
 serve_logs words keys base ask row = ap (λ (l : List (List ℕ)). logs_told (drop 6 l)) row.words_are
 
-ids_kept : (keeps : Bool) (ids : Option ℕ) → is_some (kept_ids keeps ids) ≡ keeps
-ids_kept true ids = refl
-ids_kept false ids = refl
+told_kept : (keeps : Bool) (ids : Option ℕ) (sync : Option Bool) → is_some (kept_as keeps ids sync) ≡ keeps
+told_kept true ids sync = refl
+told_kept false ids sync = refl
 
 chosen_kept : (b keeps : Bool) (one ask : ServeAsk) → is_some one.keep ≡ keeps → (if b then Some one else None) ≡ Some ask → is_some ask.keep ≡ keeps
 chosen_kept true keeps one ask is same = let are : one ≡ ask = cc same in subst (λ (a : ServeAsk). is_some a.keep ≡ keeps) are is
@@ -158,7 +164,7 @@ asked_kept None workers editor keeps options ask is = absurd (cc is)
 asked_kept (Some port) None editor keeps options ask is = absurd (cc is)
 asked_kept (Some port) (Some workers) editor keeps None ask is = absurd (cc is)
 asked_kept (Some port) (Some workers) editor keeps (Some options) ask is =
-    chosen_kept (goes_with keeps options) keeps (ask_of port workers editor keeps options) ask (ids_kept keeps options.ids) is
+    chosen_kept (goes_with keeps options) keeps (ask_of port workers editor keeps options) ask (told_kept keeps options.ids options.sync) is
 
 -- where they name a folder of logs, and there alone, logs are kept
 pub row_kept : (words : List (List ℕ)) (keys : Keys) (base : List ℕ) (ask : ServeAsk) (row : IsServeRow words keys base ask) → is_some ask.keep ≡ is_some (logs_told row.options)

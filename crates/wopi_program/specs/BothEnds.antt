@@ -17,6 +17,7 @@ use Rattle.wopi_world.specs.Requests.{Client}
 use Rattle.wopi_ends.specs.Restarts.{Journal, OpenInTurn, history_over}
 use Rattle.wopi_ends.specs.Sources.{IsOfMessage}
 use Rattle.wopi_program.specs.declared.outside_world.Outside.{Outside}
+use Rattle.wopi_program.specs.declared.serve_words.Keep.{Keep}
 use Rattle.wopi_program.specs.declared.serve_words.ServeAsk.{ServeAsk}
 use Rattle.wopi_program.specs.Meanings.{Meanings}
 use Rattle.wopi_program.specs.Keep.{HasKept, KeptShard}
@@ -39,8 +40,8 @@ abbrev pub WasServed : {S K F N D C G L : Type 0} → Meanings S K F N D C G L �
 WasServed {S} {K} {F} {N} {D} {C} {G} m journal =
     ((keys : Keys) × (base : List ℕ) × (origin : Option (List ℕ)) × (ask : ServeAsk) × (ends : List WorkEnd) × (old : Outside S K F N D C G) × (new : Outside S K F N D C G)
     × HasServed m keys base origin ask ends journal old new)
-    ⊎ ((keys : Keys) × (base : List ℕ) × (origin : Option (List ℕ)) × (ask : ServeAsk) × (ids : ℕ) × (ends : List WorkEnd) × (shards : List (KeptShard F G)) × (old : Outside S K F N D C G)
-    × (new : Outside S K F N D C G) × HasKept m keys base origin ask ids ends shards journal old new)
+    ⊎ ((keys : Keys) × (base : List ℕ) × (origin : Option (List ℕ)) × (ask : ServeAsk) × (keep : Keep) × (ends : List WorkEnd) × (shards : List (KeptShard F G)) × (old : Outside S K F N D C G)
+    × (new : Outside S K F N D C G) × HasKept m keys base origin ask keep ends shards journal old new)
 
 -- each of these hosts opened behind the one before, over the contents that it had left in the shard of the client's file
 abbrev pub OpenOverIt : {F : Type 0} → JournalView F → List (JournalView F) → Client → Type 0

@@ -23,6 +23,7 @@ use Rattle.host_server.specs.declared.working.WorkEnd.TheVariants as work
 use Rattle.host_server.specs.Deeds.{made}
 use Rattle.host_server.specs.Visits.{Visit, sures_of}
 use Rattle.wopi_program.specs.declared.outside_world.Outside.{Outside}
+use Rattle.wopi_program.specs.declared.serve_words.Keep.{Keep}
 use Rattle.wopi_program.specs.declared.serve_words.ServeAsk.{ServeAsk}
 use Rattle.wopi_program.specs.declared.serving.ServeEnd.{ServeEnd}
 use Rattle.wopi_program.specs.declared.serving.ServeEnd.TheVariants as end
@@ -87,10 +88,10 @@ module _ {S K F N D C G L : Type 0} (m : Meanings S K F N D C G L) where
   -- rose by each store call that failed, but for some that were refused once the log had failed.
   --
   -- The log grew by what the shard opened with and then by the lines of its entries, and had synced the first and each entry that changed the
-  -- folder. Once a call of it had failed it grew no more: there stands at most a front of one line more and of what takes it back, and the
+  -- folder, or, where all changes are synced, anything. Once a call of it had failed it grew no more: there stands at most a front of one line more and of what takes it back, and the
   -- entries behind those that were told are missing, of which none is a save that was accepted. What may be told of the shard begins what was told to the log. The store is lost only
   -- where its log had failed, or had as many entries as are counted.
-  pub record IsKept (opened first number : ℕ) (shard : KeptShard F G) : Type 0 where
+  pub record IsKept (every : Bool) (opened first number : ℕ) (shard : KeptShard F G) : Type 0 where
     pub timely : IsTimely opened shard.part.made
     pub holds : Agrees (Some number) (m.files shard.folder) (m.files shard.folder') (state_of (new_life shard.part.opening opened first) shard.part.made (last_time opened shard.part.made)).files (is_torn shard.part.made)
     pub failed : Bool
@@ -101,7 +102,7 @@ module _ {S K F N D C G L : Type 0} (m : Meanings S K F N D C G L) where
     pub made_are : shard.part.made ≡ told ++ missing
     pub unsaved : AreUnsaved missing
     pub tail : List ℕ
-    pub log : IsLog (m.log_held shard.log) (m.log_held shard.log') (m.log_synced shard.log') (opening_text number opened first shard.part.opening) told tail
+    pub log : IsLog every (m.log_held shard.log) (m.log_held shard.log') (m.log_synced shard.log') (opening_text number opened first shard.part.opening) told tail
     pub rest : List Entry
     pub sure : steps_of told ≡ told_of shard.part.made ++ rest
     pub fine : failed ≡ false → (refused ≡ 0) × (missing ≡ []) × (tail ≡ [])
@@ -112,14 +113,14 @@ module _ {S K F N D C G L : Type 0} (m : Meanings S K F N D C G L) where
     pub whole : shard.lost ≡ false → failed ≡ false
     pub cause : shard.lost ≡ true → (failed ≡ true) ⊎ (length shard.part.made ≡ 2 ^ 62)
 
-  abbrev pub AreKept : ℕ → ℕ → ℕ → List (KeptShard F G) → Type 0
-  AreKept opened first number [] = ⊤
-  AreKept opened first number (shard ∷ shards) = IsKept opened first number shard × AreKept opened first (number + 1) shards
+  abbrev pub AreKept : Bool → ℕ → ℕ → ℕ → List (KeptShard F G) → Type 0
+  AreKept every opened first number [] = ⊤
+  AreKept every opened first number (shard ∷ shards) = IsKept every opened first number shard × AreKept every opened first (number + 1) shards
 
   -- A host was opened over the folders and the logs at the first clock's first moment, and its workers, of which number i has the i-th listener
   -- and clock and makes the entries of pass i, left these shards and ended so. The journal is what they made, as one history and by shards; no
   -- text of it is written. No entry is of another pass. What a worker's complete replies tell are entries that may be told.
-  pub record HasKept (keys : Keys) (base : List ℕ) (origin : Option (List ℕ)) (ask : ServeAsk) (ids : ℕ) (ends : List WorkEnd) (shards : List (KeptShard F G)) (journal : JournalView F) (old new : Outside S K F N D C G) : Type 0 where
+  pub record HasKept (keys : Keys) (base : List ℕ) (origin : Option (List ℕ)) (ask : ServeAsk) (keep : Keep) (ends : List WorkEnd) (shards : List (KeptShard F G)) (journal : JournalView F) (old new : Outside S K F N D C G) : Type 0 where
     pub desk : Desk
     pub mid : List C
     pub visits : List (List (Visit L))
@@ -135,8 +136,8 @@ module _ {S K F N D C G L : Type 0} (m : Meanings S K F N D C G L) where
     pub parts_are : map part_in shards ≡ journal.parts
     pub folders_are : map folder_after shards ≡ new.folders.items
     pub logs_are : map log_after shards ≡ new.logs.items
-    pub kept : AreKept desk.opened ask.first 0 shards
-    pub workers : AreWorkers losing desk (endless ids) journal 0 visits ends old.listeners.items new.listeners.items mid new.clocks.items
+    pub kept : AreKept keep.syncs_all desk.opened ask.first 0 shards
+    pub workers : AreWorkers losing desk (endless keep.ids) journal 0 visits ends old.listeners.items new.listeners.items mid new.clocks.items
     pub sure : AreSure journal 0 visits
 
   -- each log begins with what it held, and its count has not fallen
@@ -161,12 +162,12 @@ module _ {S K F N D C G L : Type 0} (m : Meanings S K F N D C G L) where
   HasFailed (old ∷ olds) (new ∷ news) = Rose (m.log_faults old) (m.log_faults new) ⊎ HasFailed olds news
 
   -- What the notes are then is what they were, and what they were told of shards.
-  module _ (keys : Keys) (base : List ℕ) (origin : Option (List ℕ)) (ask : ServeAsk) (ids : ℕ) (notes : K) where
+  module _ (keys : Keys) (base : List ℕ) (origin : Option (List ℕ)) (ask : ServeAsk) (keep : Keep) (notes : K) where
     -- they worked, and the notes were told of shards that were nearly full; the end is that which the stores and their ends make
     abbrev pub HasWorkedOut : ServeEnd → Outside S K F N D C G → Outside S K F N D C G → Type 0
     HasWorkedOut run_end old new =
-        (journal : JournalView F) × (ends : List WorkEnd) × (shards : List (KeptShard F G)) × HasKept keys base origin ask ids ends shards journal old new
-        × SawNearlyFull m.held m.write_faults (endless ids) journal old.notes notes × (kept_end (list_any lost_in shards) ends ≡ run_end)
+        (journal : JournalView F) × (ends : List WorkEnd) × (shards : List (KeptShard F G)) × HasKept keys base origin ask keep ends shards journal old new
+        × SawNearlyFull m.held m.write_faults (endless keep.ids) journal old.notes notes × (kept_end (list_any lost_in shards) ends ≡ run_end)
 
     -- no host was opened: nothing was told, the folders have what they had, and all but the first clock is as it was; a log may have grown
     abbrev pub HasOpenedNone : Outside S K F N D C G → Outside S K F N D C G → Type 0

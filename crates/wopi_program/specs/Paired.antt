@@ -40,10 +40,11 @@ module _ {F : Type 0} where
   abbrev pub faults_of : (F → ℕ) → LogView F → ℕ
   faults_of faults store = faults store.folder + store.refused
 
-module _ {F G : Type 0} (held : G → Option (List ℕ)) (faults : G → ℕ) where
-  -- a store for the shard of that number, over this folder and this log
+module _ {F G : Type 0} (held : G → Option (List ℕ)) (faults : G → ℕ) (every : Bool) where
+  -- a store for the shard of that number, over this folder and this log, which syncs all changes or those of the folder alone
   pub record IsPaired (number : ℕ) (folder : F) (log : G) (store : LogView F) : Type 0 where
     pub anew : IsAnew number folder store
+    pub every_is : store.lines.all ≡ every
     pub start : store.lines.start ≡ held log
     pub began : store.lines.began ≡ faults log
 

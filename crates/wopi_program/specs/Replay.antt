@@ -5,11 +5,11 @@ use Rattle.outside.specs.Faults.{Rose}
 use Rattle.outside.specs.Stream.{GrewByPrefix}
 use Rattle.wopi_model.specs.Shard.{AreNames}
 use Rattle.wopi_world.specs.Safe.{IsSafe}
-use Rattle.replay_cmd.specs.Schedules.{Lines}
+use Rattle.schedule_text.specs.Schedules.{Lines}
 use Rattle.replay_cmd.specs.Runs.{setting_of, world_of}
-use Rattle.replay_cmd.specs.Generator.{generated}
+use Rattle.schedule_text.specs.Generator.{generated}
 use Rattle.line_text.specs.Inputs.{HasRead}
-use Rattle.replay_cmd.specs.Inputs.{IsBadInput, IsUndecided, IsWholeInput}
+use Rattle.schedule_text.specs.Inputs.{IsBadInput, IsUndecided, IsWholeInput}
 use Rattle.replay_cmd.specs.Trace.{summary_text, trace_text}
 use Rattle.wopi_program.specs.declared.outside_world.Outside.{Outside}
 use Rattle.wopi_program.specs.declared.replay_words.ReplayAsk.{ReplayAsk}

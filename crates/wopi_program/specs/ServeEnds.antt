@@ -2,6 +2,7 @@
 use Rattle.std.specs.Prelude.{◌≡◌, ◌⊎◌, ℕ, List, Option, None, Some}
 use Rattle.outside.specs.Faults.{Rose}
 use Rattle.wopi_program.specs.declared.outside_world.Outside.{Outside}
+use Rattle.wopi_program.specs.declared.serve_words.Keep.{Keep}
 use Rattle.wopi_program.specs.declared.serve_words.ServeAsk.{ServeAsk}
 use Rattle.wopi_program.specs.declared.serving.ServeEnd.{ServeEnd}
 use Rattle.wopi_program.specs.declared.serving.ServeEnd.TheVariants as end
@@ -41,17 +42,17 @@ module _ {S K F N D C G L : Type 0} (m : Meanings S K F N D C G L) where
     pub finishes : ServeFinishes m.held m.write_faults status notes new.notes end
     pub others : new ≡ record old { output = new.output; notes = new.notes; folders = new.folders; listeners = new.listeners; clocks = new.clocks }
 
-  -- The same of a run that keeps logs, with places for so many ids in each shard. It writes nothing on the output.
+  -- The same of a run that keeps logs, as the words say. It writes nothing on the output.
   pub record KeepRan (words : List (List ℕ)) (status : ℕ) (old new : Outside S K F N D C G) : Type 0 where
     pub end : ServeEnd
     pub keys : Keys
     pub base : List ℕ
     pub ask : ServeAsk
-    pub ids : ℕ
+    pub keep : Keep
     pub row : IsServeRow words keys base ask
-    pub keeps : ask.keep ≡ Some ids
+    pub keeps : ask.keep ≡ Some keep
     pub notes : K
-    pub runs : KeepRuns m keys base (origin_told row.options) ask ids notes end old new
+    pub runs : KeepRuns m keys base (origin_told row.options) ask keep notes end old new
     pub finishes : ServeFinishes m.held m.write_faults status notes new.notes end
     pub others : new ≡ record old { notes = new.notes; folders = new.folders; listeners = new.listeners; clocks = new.clocks; logs = new.logs }
 

@@ -8,7 +8,7 @@ ghost use Rattle.wopi_program.specs.Runs.{RunEnds};
 ghost use Rattle.access_tokens.specs.declared.keys.Keys.{Keys};
 
 use crate::serve::run_serve;
-use crate::serve_words::ServeAsk;
+use crate::serve_words::{Keep, ServeAsk};
 use crate::{
     Command, Meant, Outside, help, read_words, refuse, run_audit, run_contents, run_ctoken,
     run_edit, run_once, run_replay, run_token, run_upgrade, tell, version,
@@ -33,7 +33,7 @@ pub fn run<
         → (length outside.old.folders.items ≡ 1) × (length outside.old.clocks.items ≡ 1) }
     requires serve { (keys : Keys) (base : List ℕ) (ask : ServeAsk) → IsServeRow (map string_bytes words.now) keys base ask
         → (length outside.old.folders.items ≡ 16) × (length outside.old.listeners.items ≡ ask.workers) × (length outside.old.clocks.items ≡ ask.workers) }
-    requires keep { (keys : Keys) (base : List ℕ) (ask : ServeAsk) (ids : ℕ) → IsServeRow (map string_bytes words.now) keys base ask → ask.keep ≡ Some ids
+    requires keep { (keys : Keys) (base : List ℕ) (ask : ServeAsk) (keep : Keep) → IsServeRow (map string_bytes words.now) keys base ask → ask.keep ≡ Some keep
         → (length outside.old.logs.items ≡ 16) × AllByRecursion (λ log. G.synced log ≡ G.held log) outside.old.logs.items }
 
     // Each link that a listener gave before was handed back, as with listeners that gave none.

@@ -10,7 +10,7 @@ ghost use Rattle.wopi_program.specs.Passes.{IsFreshPass};
 ghost use Rattle.wopi_program.specs.Serve.{refused_end};
 
 use crate::crew::{Crew, Returned, crew_of, work_host};
-use crate::serve_words::ServeAsk;
+use crate::serve_words::{Keep, ServeAsk};
 use crate::serving::{ServeEnd, end_after, first_moment, refused_end};
 use crate::{Meant, Outside};
 use access_tokens::Keys;
@@ -90,13 +90,14 @@ fn pair_all<F: Folder, G: Log>(
     mut logs: Vec<G>,
     mut rooms: Vec<WriteRoom>,
     mut stores: Vec<Logged<F, G>>,
+    syncs_all: bool,
 ) -> Vec<Logged<F, G>>
     requires folders { length folders.items ≡ 16 }
     requires logs { length logs.items ≡ 16 }
     requires rooms { length rooms.items ≡ 16 }
     requires room { (stores.items ≡ []) × (16 ≤ vec_capacity stores) }
     requires synced { AllByRecursion (λ log. G.synced log ≡ G.held log) logs.items }
-    ensures anew { AreAnew G.held G.write_faults 0 folders.items logs.items result.items }
+    ensures anew { AreAnew G.held G.write_faults syncs_all 0 folders.items logs.items result.items }
     ensures many { length result.items ≡ 16 }
 {
     'pairs: while !folders.is_empty() && !logs.is_empty() && !rooms.is_empty() {
@@ -104,7 +105,7 @@ fn pair_all<F: Folder, G: Log>(
         let log = logs.remove(0);
         let room = rooms.remove(0);
         let shard = stores.len() as u8;
-        stores.push_reserved(Logged::new(alloc, shard, folder, log, room));
+        stores.push_reserved(Logged::new(alloc, shard, folder, log, room, syncs_all));
     }
     stores
 }
@@ -269,12 +270,12 @@ pub(crate) fn keep_in<
     base: Bytes,
     origin: Option<Bytes>,
     ask: ServeAsk,
-    ids: u32,
+    keep: Keep,
     outside: &mut Outside<S, K, F, N, D, C, G>,
 ) -> ServeEnd
     requires base { is_base base ≡ true }
     requires page { IfSome origin IsOrigin }
-    requires ids { (1 ≤ ids) × (ids ≤ 32768) }
+    requires ids { (1 ≤ keep.ids) × (keep.ids ≤ 32768) }
     requires first { (1 ≤ ask.first) × (ask.first ≤ most_first) }
     requires folders { length outside.old.folders.items ≡ 16 }
     requires logs { length outside.old.logs.items ≡ 16 }
@@ -283,7 +284,7 @@ pub(crate) fn keep_in<
     requires few { length outside.old.listeners.items ≤ 1024 }
     requires clocks { length outside.old.clocks.items ≡ length outside.old.listeners.items }
     requires has_all_back { AllByRecursion (λ listener. N.finished listener ≡ N.accepted listener) outside.old.listeners.items }
-    ensures runs { KeepRuns ⟦<Outside<S, K, F, N, D, C, G> as Meant<S, K, F, N, D, C, G, N::Link>>⟧.meanings keys base origin ask ids outside.new.notes result outside.old outside.new }
+    ensures runs { KeepRuns ⟦<Outside<S, K, F, N, D, C, G> as Meant<S, K, F, N, D, C, G, N::Link>>⟧.meanings keys base origin ask keep outside.new.notes result outside.old outside.new }
     ensures others { outside.new
         ≡ record outside.old { notes = outside.new.notes; folders = outside.new.folders; listeners = outside.new.listeners; clocks = outside.new.clocks; logs = outside.new.logs } }
 {
@@ -303,8 +304,8 @@ pub(crate) fn keep_in<
     } = space;
     let folders = mem::replace(&mut outside.folders, folders);
     let logs = mem::replace(&mut outside.logs, logs);
-    let stores = pair_all(alloc, folders, logs, rooms, stores);
-    match Host::start_endless(alloc, stores, ids, opened, ask.first) {
+    let stores = pair_all(alloc, folders, logs, rooms, stores, keep.syncs_all);
+    match Host::start_endless(alloc, stores, keep.ids, opened, ask.first) {
         Err(refused) => {
             let (stores, fault) = refused;
             return refuse_keep(stores, fault, &mut outside.folders, &mut outside.logs);

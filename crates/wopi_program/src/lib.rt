@@ -53,7 +53,7 @@ pub use outside_world::{Meant, Outside};
 pub use replay::run_replay;
 pub use replay_words::ReplayAsk;
 pub use serve::run_serve;
-pub use serve_words::{ServeAsk, serve_ask};
+pub use serve_words::{Keep, ServeAsk, serve_ask};
 pub use serving::ServeEnd;
 pub use telling::{help, refuse, tell, version};
 pub use token::run_token;

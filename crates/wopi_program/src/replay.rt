@@ -2,8 +2,8 @@
 ghost use Rattle.std.specs.Prelude.{◌≡◌, ◌≢◌, ◌≤◌, ℕ, map, string_bytes};
 ghost use Rattle.outside.specs.Faults.{Rose};
 ghost use Rattle.line_text.specs.Inputs.{HasRead};
-ghost use Rattle.replay_cmd.specs.Generator.{generated};
-ghost use Rattle.replay_cmd.specs.Inputs.{IsUndecided};
+ghost use Rattle.schedule_text.specs.Generator.{generated};
+ghost use Rattle.schedule_text.specs.Inputs.{IsUndecided};
 ghost use Rattle.replay_cmd.specs.Trace.{summary_text, trace_text};
 ghost use Rattle.wopi_program.specs.Replay.{AskReplays, InputReplays, ReplayEnds, Replays};
 ghost use Rattle.wopi_program.specs.Words.{IsRow};
@@ -14,9 +14,8 @@ use crate::telling::say;
 use crate::{Command, Meant, Outside};
 use line_text::InputFault;
 use outside::{Clock, Dialer, Folder, Listener, Log, Sink, Source};
-use replay_cmd::{
-    Schedule, ScheduleFault, Straight, World, generate, read_schedule, summary_text, trace_text,
-};
+use replay_cmd::{Straight, World, summary_text, trace_text};
+use schedule_text::{Schedule, ScheduleFault, generate, read_schedule};
 use std::alloc::Global;
 
 /// Runs a schedule, writes what each of its events showed and how it left the files, and gives the

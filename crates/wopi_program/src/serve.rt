@@ -9,7 +9,7 @@ ghost use Rattle.access_tokens.specs.declared.keys.Keys.{Keys};
 use crate::editor_words::origin_from;
 use crate::keeping::keep_in;
 use crate::once::finish_too_large;
-use crate::serve_words::{ServeAsk, serve_words};
+use crate::serve_words::{Keep, ServeAsk, serve_words};
 use crate::serving::{ServeEnd, serve_in};
 use crate::telling::want;
 use crate::{Command, Meant, Outside, note};
@@ -65,7 +65,7 @@ pub fn run_serve<
     requires folders { length outside.old.folders.items ≡ 16 }
     requires workers { (keys : Keys) (base : List ℕ) (ask : ServeAsk) → IsServeRow (map string_bytes words.now) keys base ask
         → (length outside.old.listeners.items ≡ ask.workers) × (length outside.old.clocks.items ≡ ask.workers) }
-    requires logs { (keys : Keys) (base : List ℕ) (ask : ServeAsk) (ids : ℕ) → IsServeRow (map string_bytes words.now) keys base ask → ask.keep ≡ Some ids
+    requires logs { (keys : Keys) (base : List ℕ) (ask : ServeAsk) (keep : Keep) → IsServeRow (map string_bytes words.now) keys base ask → ask.keep ≡ Some keep
         → (length outside.old.logs.items ≡ 16) × AllByRecursion (λ log. G.synced log ≡ G.held log) outside.old.logs.items }
     requires has_all_back { AllByRecursion (λ listener. N.finished listener ≡ N.accepted listener) outside.old.listeners.items }
     ensures { ServeEnds ⟦<Outside<S, K, F, N, D, C, G> as Meant<S, K, F, N, D, C, G, N::Link>>⟧.meanings (map string_bytes words.now) result outside.old outside.new }
@@ -84,8 +84,8 @@ pub fn run_serve<
             let end = serve_in(rt, alloc, keys, base, origin, ask, outside);
             return finish(alloc, &mut outside.notes, &end);
         }
-        Some(ids) => {
-            let end = keep_in(rt, alloc, keys, base, origin, ask, ids, outside);
+        Some(keep) => {
+            let end = keep_in(rt, alloc, keys, base, origin, ask, keep, outside);
             return finish(alloc, &mut outside.notes, &end);
         }
     }

@@ -1,7 +1,7 @@
 //! The words of the command `serve`.
 ghost use Rattle.std.specs.Prelude.{◌≡◌, ◌<◌, ◌≤◌, ◌↔◌, ℕ, List, drop, is_some, length, map, string_bytes, IfSome, IfNone, IsSome, IsTrue, Some};
 ghost use Rattle.std.specs.Option.{option_copied};
-ghost use Rattle.wopi_program.specs.ServeWords.{AreBounded, IsServe, IsServeRow, ask_of, asked, asked_of, behind_keep, goes_with, kept_ids, logs_in, logs_told, number_in, option_before, options_of, unless_told, with_each, with_first, with_ids, with_journal, with_links};
+ghost use Rattle.wopi_program.specs.ServeWords.{AreBounded, IsServe, IsServeRow, ask_of, asked, asked_of, behind_keep, goes_with, kept_as, logs_in, logs_told, number_in, option_before, options_of, unless_told, with_each, with_first, with_ids, with_journal, with_links, with_sync, sync_in};
 ghost use Rattle.access_tokens.specs.declared.keys.Keys.{Keys};
 ghost use Rattle.host_core.specs.Opening.{most_first};
 
@@ -48,8 +48,17 @@ pub struct ServeAsk {
     pub first: u64,
     /// Whether editors are served with what they want beyond what every host answers.
     pub editor: bool,
-    /// Where logs are kept, for how many held locks and ids that are refused each shard has places.
-    pub keep: Option<u32>,
+    /// How logs are kept, where they are.
+    pub keep: Option<Keep>,
+}
+
+/// How logs are kept.
+#[derive(Clone, Copy, Debug, PartialEq, Eq)]
+pub struct Keep {
+    /// For how many held locks and ids that are refused each shard has places.
+    pub ids: u32,
+    /// Whether a log is synced at each entry that changes something, or at those alone that change the folder.
+    pub syncs_all: bool,
 }
 
 /// The numbers of the options, each where its option stands there.
@@ -60,6 +69,7 @@ pub(crate) struct ServeOptions {
     pub(crate) first: Option<u64>,
     pub(crate) links: Option<u32>,
     pub(crate) ids: Option<u32>,
+    pub(crate) sync: Option<bool>,
 }
 
 const NO_OPTIONS: ServeOptions = ServeOptions {
@@ -68,6 +78,7 @@ const NO_OPTIONS: ServeOptions = ServeOptions {
     first: None,
     links: None,
     ids: None,
+    sync: None,
 };
 
 /// The number that the word writes, if it is from 1 to the most.
@@ -183,6 +194,33 @@ fn with_ids(options: ServeOptions, word: &str) -> Option<ServeOptions>
     }
 }
 
+/// Whether all changes are synced, by the word behind `--sync`.
+fn sync_in(word: &str) -> Option<bool>
+    ensures { result ≡ sync_in word.now }
+{
+    if word == "all" {
+        return Some(true);
+    }
+    None
+}
+
+/// The options with `--sync` in front of them.
+fn with_sync(options: ServeOptions, word: &str) -> Option<ServeOptions>
+    ensures value { result ≡ with_sync options (unless_told options.sync (sync_in word.now)) }
+    ensures fits { AreBounded options → IfSome result AreBounded }
+{
+    match options.sync {
+        Some(_) => None,
+        None => match sync_in(word) {
+            None => None,
+            Some(all) => Some(ServeOptions {
+                sync: Some(all),
+                ..options
+            }),
+        },
+    }
+}
+
 /// An option in front of others.
 fn option_before(name: &str, word: &str, options: ServeOptions) -> Option<ServeOptions>
     ensures value { result ≡ option_before name.now word.now options }
@@ -198,6 +236,8 @@ fn option_before(name: &str, word: &str, options: ServeOptions) -> Option<ServeO
         with_links(options, word)
     } else if name == "--ids" {
         with_ids(options, word)
+    } else if name == "--sync" {
+        with_sync(options, word)
     } else {
         None
     }
@@ -208,7 +248,7 @@ fn options(words: &[String]) -> Option<ServeOptions>
     ensures value { result ≡ options_of (map string_bytes words.now) }
     ensures fits { IfSome result AreBounded }
 {
-    if words.len() > 10 {
+    if words.len() > 12 {
         return None;
     }
     match words {
@@ -280,14 +320,17 @@ pub(crate) fn logs_named(words: &[String]) -> Option<&str>
     logs_in(behind_editor(words_from(words, 6)))
 }
 
-/// How many ids a shard has places for, where logs are kept.
-fn kept_ids(keeps: bool, ids: Option<u32>) -> Option<u32>
+/// How logs are kept, where they are.
+fn kept_as(keeps: bool, ids: Option<u32>, sync: Option<bool>) -> Option<Keep>
     requires { IfSome ids (λ number. (1 ≤ number) × (number ≤ 32768)) }
-    ensures value { result ≡ kept_ids keeps ids }
-    ensures fits { IfSome result (λ number. (1 ≤ number) × (number ≤ 32768)) }
+    ensures value { result ≡ kept_as keeps ids sync }
+    ensures fits { IfSome result (λ keep. (1 ≤ keep.ids) × (keep.ids ≤ 32768)) }
 {
     if keeps {
-        return Some(ids.unwrap_or(IDS));
+        return Some(Keep {
+            ids: ids.unwrap_or(IDS),
+            syncs_all: sync.unwrap_or(false),
+        });
     }
     None
 }
@@ -299,7 +342,7 @@ fn goes_with(keeps: bool, options: ServeOptions) -> bool
     if keeps {
         return options.journal.is_none();
     }
-    options.ids.is_none()
+    options.ids.is_none() && options.sync.is_none()
 }
 
 /// The numbers together, each option's own or that which stands for it where it is missing.
@@ -310,7 +353,7 @@ fn ask_of(port: u32, workers: u32, editor: bool, keeps: bool, options: ServeOpti
     ensures workers { (1 ≤ result.workers) × (result.workers ≤ 1024) }
     ensures capacity { (1 ≤ result.capacity) × (result.capacity ≤ 32768) }
     ensures first { (1 ≤ result.first) × (result.first ≤ most_first) }
-    ensures keep { IfSome result.keep (λ ids. (1 ≤ ids) × (ids ≤ 32768)) }
+    ensures keep { IfSome result.keep (λ keep. (1 ≤ keep.ids) × (keep.ids ≤ 32768)) }
 {
     ServeAsk {
         port,
@@ -319,7 +362,7 @@ fn ask_of(port: u32, workers: u32, editor: bool, keeps: bool, options: ServeOpti
         each: options.each.unwrap_or(LINKS),
         first: options.first.unwrap_or(FIRST),
         editor,
-        keep: kept_ids(keeps, options.ids),
+        keep: kept_as(keeps, options.ids, options.sync),
     }
 }
 
@@ -337,7 +380,7 @@ fn asked(
     ensures workers { IfSome result (λ ask. (1 ≤ ask.workers) × (ask.workers ≤ 1024)) }
     ensures capacity { IfSome result (λ ask. (1 ≤ ask.capacity) × (ask.capacity ≤ 32768)) }
     ensures first { IfSome result (λ ask. (1 ≤ ask.first) × (ask.first ≤ most_first)) }
-    ensures keep { IfSome result (λ ask. IfSome ask.keep (λ ids. (1 ≤ ids) × (ids ≤ 32768))) }
+    ensures keep { IfSome result (λ ask. IfSome ask.keep (λ keep. (1 ≤ keep.ids) × (keep.ids ≤ 32768))) }
 {
     match port {
         None => None,
@@ -362,7 +405,7 @@ fn asked_of(port: &str, workers: &str, rest: &[String]) -> Option<ServeAsk>
     ensures workers { IfSome result (λ ask. (1 ≤ ask.workers) × (ask.workers ≤ 1024)) }
     ensures capacity { IfSome result (λ ask. (1 ≤ ask.capacity) × (ask.capacity ≤ 32768)) }
     ensures first { IfSome result (λ ask. (1 ≤ ask.first) × (ask.first ≤ most_first)) }
-    ensures keep { IfSome result (λ ask. IfSome ask.keep (λ ids. (1 ≤ ids) × (ids ≤ 32768))) }
+    ensures keep { IfSome result (λ ask. IfSome ask.keep (λ keep. (1 ≤ keep.ids) × (keep.ids ≤ 32768))) }
 {
     asked(
         small_in(port, 65535),
@@ -379,7 +422,7 @@ pub(crate) fn serve_words(words: &[String]) -> Option<(Keys, &str, ServeAsk)>
     ensures workers { IfSome result (λ row. (1 ≤ row.2.workers) × (row.2.workers ≤ 1024)) }
     ensures capacity { IfSome result (λ row. (1 ≤ row.2.capacity) × (row.2.capacity ≤ 32768)) }
     ensures first { IfSome result (λ row. (1 ≤ row.2.first) × (row.2.first ≤ most_first)) }
-    ensures keep { IfSome result (λ row. IfSome row.2.keep (λ ids. (1 ≤ ids) × (ids ≤ 32768))) }
+    ensures keep { IfSome result (λ row. IfSome row.2.keep (λ keep. (1 ≤ keep.ids) × (keep.ids ≤ 32768))) }
     ensures none { IfNone result (¬ IsServe (map string_bytes words.now)) }
 {
     match words {

@@ -17,9 +17,9 @@ pub run-status-requires-clause-has_all_back : goal.run-status-requires-clause-ha
 run-status-requires-clause-has_all_back g c κs = λ row. c.in-Ok-world.ensures.has_all_back
 
 pub logs_for-logs-requires-clause-count : goal.logs_for-logs-requires-clause-count
-logs_for-logs-requires-clause-count g c = λ keys base ask ids row keep.
+logs_for-logs-requires-clause-count g c = λ keys base ask keep row keeps.
     let over = c.asked_by-asked.ensures.serve keys base ask row in
-    let told : is_some c.logs_of-folder.result ≡ true = sym (c.logs_of-folder.ensures.kept c.asked_by-asked.ensures.kept row.folder ask over) ∙ ap is_some keep in
+    let told : is_some c.logs_of-folder.result ≡ true = sym (c.logs_of-folder.ensures.kept c.asked_by-asked.ensures.kept row.folder ask over) ∙ ap is_some keeps in
     c.in-Ok-keep.ensures.count told
 
 pub logs_for-logs-requires-clause-paths : goal.logs_for-logs-requires-clause-paths
@@ -28,9 +28,9 @@ logs_for-logs-requires-clause-paths g c = λ keys base ask row.
     subst (λ logs. IfSome logs (λ name. (number : ℕ) × ArePaths name number 0 (map (λ log. string_bytes log.path) c.in-Ok-keep.kept.logs.items))) told c.in-Ok-keep.ensures.paths
 
 pub run-status-requires-clause-keep : goal.run-status-requires-clause-keep
-run-status-requires-clause-keep g c κs = λ keys base ask ids row keep.
+run-status-requires-clause-keep g c κs = λ keys base ask keep row keeps.
     let over = c.asked_by-asked.ensures.serve keys base ask row in
-    let told : is_some c.logs_of-folder.result ≡ true = sym (c.logs_of-folder.ensures.kept c.asked_by-asked.ensures.kept row.folder ask over) ∙ ap is_some keep in
+    let told : is_some c.logs_of-folder.result ≡ true = sym (c.logs_of-folder.ensures.kept c.asked_by-asked.ensures.kept row.folder ask over) ∙ ap is_some keeps in
     let count = c.in-Ok-keep.ensures.count told in
     let own = c.in-Ok-world.outside.logs.items in
     let same = ap (λ logs. length logs) c.in-Ok-world.ensures.logs in

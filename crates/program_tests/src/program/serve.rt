@@ -15,7 +15,7 @@ use std::sync::atomic::AtomicU64;
 use std::sync::{Arc, Wait};
 use std::test::Fail;
 use std::thread::Threads;
-use wopi_program::{Command, Outside, ServeAsk, read_words, run, serve_ask};
+use wopi_program::{Command, Keep, Outside, ServeAsk, read_words, run, serve_ask};
 use wopi_text::{Bytes, Memory};
 
 /// A token for `a.csv` under the key of the words, with the right to write, that expires at 9,000,000.
@@ -101,7 +101,7 @@ fn are_fresh(logs: &Vec<MemLog>) -> bool
 
 /// Whether there are such logs where the words want some.
 fn has_logs(ask: &ServeAsk, logs: &Vec<MemLog>) -> bool
-    ensures { result ≡ true → (ids : ℕ) → ask.now.keep ≡ Some ids → (length logs.now.items ≡ 16) × (list_all (λ log. length (bytes_synced log) == length (bytes_held log)) logs.now.items ≡ true) }
+    ensures { result ≡ true → (keep : Keep) → ask.now.keep ≡ Some keep → (length logs.now.items ≡ 16) × (list_all (λ log. length (bytes_synced log) == length (bytes_held log)) logs.now.items ≡ true) }
 {
     match ask.keep {
         None => return true,

@@ -2,7 +2,7 @@
 use super::serve::ONE_WORKER;
 use super::{TOKEN, run_with, whole, words_of};
 use std::test::Fail;
-use wopi_program::{Asked, ServeAsk, asked_by, read_words, serve_ask};
+use wopi_program::{Asked, Keep, ServeAsk, asked_by, read_words, serve_ask};
 
 /// Words that are no command.
 const NO_COMMANDS: [&[&str]; 52] = [
@@ -330,23 +330,29 @@ fn an_origin_stands_behind_the_word_for_editors(rt: HostRuntime) -> Result<(), F
     Ok(())
 }
 
-/// Words of `serve` that keep logs, and for how many ids each shard has places.
-const KEEPING: [(&[&str], u32); 2] = [
-    (&["--keep", "/srv/logs"], 4096),
-    (&["--keep", "/srv/logs", "--each", "3", "--ids", "9"], 9),
+/// Words of `serve` that keep logs, for how many ids each shard has places, and whether all changes are synced.
+const KEEPING: [(&[&str], u32, bool); 4] = [
+    (&["--keep", "/srv/logs"], 4096, false),
+    (&["--keep", "/srv/logs", "--each", "3", "--ids", "9"], 9, false),
+    (&["--keep", "/srv/logs", "--sync", "all"], 4096, true),
+    (&["--keep", "/srv/logs", "--sync", "all", "--ids", "9"], 9, true),
 ];
 
 #[test]
 fn logs_are_kept_in_a_folder_with_a_number_of_ids(rt: HostRuntime) -> Result<(), Fail> {
     let alloc = rt.alloc();
-    for (options, ids) in &KEEPING {
+    for (options, ids, syncs_all) in &KEEPING {
         let mut words = words_of(alloc, &ONE_WORKER)?;
         for option in *options {
             words.push(String::from_str(alloc, option)?)?;
         }
         match asked_by(&words) {
             Asked::Serve { numbers, logs, .. } => {
-                assert!(rt; numbers.keep == Some(*ids) && logs == Some("/srv/logs"));
+                let keep = Keep {
+                    ids: *ids,
+                    syncs_all: *syncs_all,
+                };
+                assert!(rt; numbers.keep == Some(keep) && logs == Some("/srv/logs"));
             }
             _ => assert!(rt; false),
         }
@@ -355,7 +361,7 @@ fn logs_are_kept_in_a_folder_with_a_number_of_ids(rt: HostRuntime) -> Result<(),
 }
 
 const HELP: &str =
-    "mokdrai once FOLDER KEY BASE [--editor [--origin ORIGIN]]\n    answers the requests of the input on the output\nmokdrai serve FOLDER PORT KEY BASE WORKERS [--journal J] [--each C] [--first V]\n    answers the requests of many connections, and then writes the journal on the output\nmokdrai serve .. [--links N] [--listen ADDRESS] [--idle S] [--patience S] [--grace S] [--verbose] [--editor [--origin ORIGIN]]\n    serves N connections at a time, at that address, with these limits in seconds\nmokdrai serve .. --keep LOGS [--ids I]\n    appends each entry to a log of its shard in that folder, and writes no journal\nmokdrai edit AUTHORITY ID TOKEN NONCE\n    runs the script of the input over a sheet at a host\nmokdrai edit AUTHORITY --file NAME TOKEN [--nonce NONCE] [--idle S]\n    does the same, with the name of the file and a nonce of its own\nmokdrai replay\n    runs the schedule of the input, and writes its trace on the output\nmokdrai replay SEED COUNT\n    runs a schedule that is made from two numbers, and writes its summary on the output\nmokdrai token KEY USER NAME RIGHTS SERIAL ISSUED EXPIRES\n    writes the text of an access token\nmokdrai token KEY --file NAME --user USER --for TIME [--write]\n    writes one that is issued now, and lasts for a time such as 10h\nmokdrai ctoken KEY USER RIGHTS SERIAL ISSUED EXPIRES\n    writes the text of a token of the container\nmokdrai ctoken KEY --user USER --for TIME [--write]\n    writes one that is issued now, and lasts for that time\nmokdrai upgrade\n    reads a journal from the input, and writes it in the second form on the output\nmokdrai audit\n    reads a journal from the input, and says whether it is legal, or its first line that isn't\nmokdrai contents ID VERSION\n    reads a journal from the input, and writes what the file had at that version on the output\nmokdrai --help\n    writes these lines\nmokdrai --version\n    writes the version\nKEY, and TOKEN of edit, may be @PATH: a file that only its owner may read\n";
+    "mokdrai once FOLDER KEY BASE [--editor [--origin ORIGIN]]\n    answers the requests of the input on the output\nmokdrai serve FOLDER PORT KEY BASE WORKERS [--journal J] [--each C] [--first V]\n    answers the requests of many connections, and then writes the journal on the output\nmokdrai serve .. [--links N] [--listen ADDRESS] [--idle S] [--patience S] [--grace S] [--verbose] [--editor [--origin ORIGIN]]\n    serves N connections at a time, at that address, with these limits in seconds\nmokdrai serve .. --keep LOGS [--ids I] [--sync all]\n    appends each entry to a log of its shard in that folder, and writes no journal\nmokdrai edit AUTHORITY ID TOKEN NONCE\n    runs the script of the input over a sheet at a host\nmokdrai edit AUTHORITY --file NAME TOKEN [--nonce NONCE] [--idle S]\n    does the same, with the name of the file and a nonce of its own\nmokdrai replay\n    runs the schedule of the input, and writes its trace on the output\nmokdrai replay SEED COUNT\n    runs a schedule that is made from two numbers, and writes its summary on the output\nmokdrai token KEY USER NAME RIGHTS SERIAL ISSUED EXPIRES\n    writes the text of an access token\nmokdrai token KEY --file NAME --user USER --for TIME [--write]\n    writes one that is issued now, and lasts for a time such as 10h\nmokdrai ctoken KEY USER RIGHTS SERIAL ISSUED EXPIRES\n    writes the text of a token of the container\nmokdrai ctoken KEY --user USER --for TIME [--write]\n    writes one that is issued now, and lasts for that time\nmokdrai upgrade\n    reads a journal from the input, and writes it in the second form on the output\nmokdrai audit\n    reads a journal from the input, and says whether it is legal, or its first line that isn't\nmokdrai contents ID VERSION\n    reads a journal from the input, and writes what the file had at that version on the output\nmokdrai --help\n    writes these lines\nmokdrai --version\n    writes the version\nKEY, and TOKEN of edit, may be @PATH: a file that only its owner may read\n";
 
 #[test]
 fn help_and_version_go_to_the_output(rt: HostRuntime) -> Result<(), Fail> {

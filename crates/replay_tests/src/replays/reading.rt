@@ -1,5 +1,5 @@
 //! Texts as schedules.
-use replay_cmd::{Schedule, ScheduleFault};
+use schedule_text::{Schedule, ScheduleFault};
 use std::alloc::Global;
 use std::process::Abort;
 use std::test::Fail;

@@ -1,7 +1,8 @@
 //! Schedules with restarts of the host.
 use super::traces::expect_over;
 use host_core::{EntryAct, Past};
-use replay_cmd::{FaultlessFolder, Schedule, Straight, World};
+use replay_cmd::{FaultlessFolder, Straight, World};
+use schedule_text::Schedule;
 use std::test::Fail;
 
 /// A session saves; its next request arrives after a restart, and another session opens the file then.

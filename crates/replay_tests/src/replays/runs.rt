@@ -1,4 +1,5 @@
-use replay_cmd::{Stage, Straight, World, generate, summary_text};
+use replay_cmd::{Stage, Straight, World, summary_text};
+use schedule_text::generate;
 use save_session::Outcome;
 use std::test::Fail;
 

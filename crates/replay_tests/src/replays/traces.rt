@@ -1,5 +1,6 @@
 //! Traces and summaries of runs.
-use replay_cmd::{Schedule, ScriptWire, Straight, Wire, World, trace_text};
+use replay_cmd::{ScriptWire, Straight, Wire, World, trace_text};
+use schedule_text::Schedule;
 use std::alloc::Global;
 use std::process::Abort;
 use std::test::Fail;

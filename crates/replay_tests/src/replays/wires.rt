@@ -1,4 +1,5 @@
-use replay_cmd::{Schedule, ScriptWire, Stage, World, generate};
+use replay_cmd::{ScriptWire, Stage, World};
+use schedule_text::{Schedule, generate};
 use std::alloc::Global;
 use std::test::Fail;
 use wopi_text::Bytes;

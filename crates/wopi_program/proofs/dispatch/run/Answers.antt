@@ -67,7 +67,7 @@ pub run_serve-requires-clause-workers : goal.run_serve-requires-clause-workers
 run_serve-requires-clause-workers g c κs within = λ keys base ask row. let all = c.requires.serve keys base ask row in (all.1, all.2)
 
 pub run_serve-requires-clause-logs : goal.run_serve-requires-clause-logs
-run_serve-requires-clause-logs g c κs within = λ keys base ask ids row keeps. c.requires.keep keys base ask ids row keeps
+run_serve-requires-clause-logs g c κs within = λ keys base ask keep row keeps. c.requires.keep keys base ask keep row keeps
 
 pub run_serve-requires-clause-has_all_back : goal.run_serve-requires-clause-has_all_back
 run_serve-requires-clause-has_all_back g c κs within = c.requires.has_all_back ((c.read_words.ensures Serve).0 (c.in-Some-Serve.is ∙ ap Some c.in-Some-Serve.field-0-is))

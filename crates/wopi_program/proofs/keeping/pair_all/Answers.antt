@@ -27,8 +27,9 @@ pairs-preserved g c =
     first_removed c.pairs.logs.items left' c.remove-log.result (omega (arith, fewer')) c.remove-log.ensures.value c.remove-log.ensures.items
     in
     let number : c.len-shard.result ≡ length c.pairs.stores.items = search rules in
-    let paired : IsPaired g.G.Sink.held g.G.Sink.write_faults (length c.pairs.stores.items) c.remove-folder.result c.remove-log.result c.new.result = record {
+    let paired : IsPaired g.G.Sink.held g.G.Sink.write_faults c.args.syncs_all (length c.pairs.stores.items) c.remove-folder.result c.remove-log.result c.new.result = record {
       anew = subst (λ n. IsAnew n c.remove-folder.result c.new.result) number c.new.ensures.anew;
+      every_is = c.new.ensures.all;
       start = c.new.ensures.start;
       began = c.new.ensures.began;
     }
@@ -39,7 +40,7 @@ pairs-preserved g c =
       many = omega (arith, fewer, more, many);
       room = omega (arith, wide, wider);
       synced = (subst (λ (l : List g.row.G.Denot). AllByRecursion (λ log. g.G.Log.synced log ≡ g.G.Sink.held log) l) logs_are i.synced).1;
-      anew = anew_more g.G.Sink.held g.G.Sink.write_faults c.args.folders.items c.args.logs.items c.pairs.folders.items left c.pairs.logs.items left' c.remove-folder.result c.remove-log.result
+      anew = anew_more g.G.Sink.held g.G.Sink.write_faults c.args.syncs_all c.args.folders.items c.args.logs.items c.pairs.folders.items left c.pairs.logs.items left' c.remove-folder.result c.remove-log.result
           c.pairs.stores.items c.push_reserved.new.self.items c.new.result folders_are logs_are c.push_reserved.ensures.items paired i.anew;
     }
 
@@ -55,7 +56,7 @@ returns-clause-anew g c =
       | else-pairs-test w ↦ let zero : vec_len c.pairs.folders ≡ 0 = eqb-true (vec_len c.pairs.folders) 0 (sym c.is_empty.ensures ∙ w.pairs-test.false) in omega (arith, zero, c.pairs.folders.ok.0)
     ]
     in
-    anew_all g.G.Sink.held g.G.Sink.write_faults c.args.folders.items c.args.logs.items c.pairs.folders.items c.pairs.logs.items c.pairs.stores.items none (omega (arith, none, same)) i.anew
+    anew_all g.G.Sink.held g.G.Sink.write_faults c.args.syncs_all c.args.folders.items c.args.logs.items c.pairs.folders.items c.pairs.logs.items c.pairs.stores.items none (omega (arith, none, same)) i.anew
 
 pub returns-clause-many : goal.returns-clause-many
 returns-clause-many g c =

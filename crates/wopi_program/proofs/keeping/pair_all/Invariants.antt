@@ -11,8 +11,8 @@ invariant-pairs g l = record {
   many : length l.stores.items + length l.folders.items ≡ 16;
   room : 16 ≤ vec_capacity l.stores;
   synced : AllByRecursion (λ log. g.G.Log.synced log ≡ g.G.Sink.held log) l.logs.items;
-  anew : (rest : List (LogView g.row.F.Denot)) → AreAnew g.G.Sink.held g.G.Sink.write_faults (length l.stores.items) l.folders.items l.logs.items rest
-      → AreAnew g.G.Sink.held g.G.Sink.write_faults 0 l.initial.folders.items l.initial.logs.items (l.stores.items ++ rest);
+  anew : (rest : List (LogView g.row.F.Denot)) → AreAnew g.G.Sink.held g.G.Sink.write_faults l.initial.syncs_all (length l.stores.items) l.folders.items l.logs.items rest
+      → AreAnew g.G.Sink.held g.G.Sink.write_faults l.initial.syncs_all 0 l.initial.folders.items l.initial.logs.items (l.stores.items ++ rest);
 }
 
 abbrev pub decreases-pairs : goal.decreases-pairs

@@ -1,5 +1,5 @@
 use Rattle.std.proofs.Common.{subst}
-use Rattle.replay_cmd.specs.Schedules.{Lines}
+use Rattle.schedule_text.specs.Schedules.{Lines}
 use Rattle.replay_cmd.specs.Trace.{summary_text}
 use Rattle.wopi_program.specs.Replay.{Replays}
 use Rattle.wopi_program.proofs.replay.replay_generated.Goals as goal

@@ -10,7 +10,7 @@ use Rattle.host_core.specs.Facts.{dates_of}
 use Rattle.host_core.specs.Files.{files_of, torn_in}
 use Rattle.host_core.specs.Notes.{opening_listed}
 use Rattle.host_core.specs.declared.ledger.Ledger.{Ledger}
-use Rattle.host_core.specs.Value.{Book, KeepsWithin, Reflects, Agrees, Stands, faults_in}
+use Rattle.host_core.specs.Value.{Book, KeepsWithin, Reflects, Agrees, Stands, faults_in, most_version}
 use Rattle.kept_locks.specs.Locks.{Standing}
 use Rattle.wopi_model.specs.Settle.{standing}
 use Rattle.host_core.specs.Whole.{Whole, joined}
@@ -20,6 +20,7 @@ use Rattle.host_core.proofs.Chaining.{with_chains}
 use Rattle.host_core.proofs.Dating.{dated_start}
 use Rattle.host_core.proofs.History.{keeps-start}
 use Rattle.host_core.proofs.Standing.{rose-begin, lawful}
+use Rattle.host_core.proofs.Rising.{within_up}
 use Rattle.host_core.proofs.Starting.{agrees_start, begun_spare, begun_within, free_joined, free_locked, sorted_once}
 use Rattle.host_core.proofs.shard.Shard.assemble.Goals as goal
 
@@ -58,7 +59,6 @@ invariant_of-result g c =
       start = start;
       folder = c.args.folder;
     } in
-    let same : c.args.first ≡ c.args.first + length notes.made = omega (arith, none) in
     let begin = new_life opening c.args.opened c.args.first in
     let started : Reflects notes.begin notes.made c.args.opened 0 (kept_from notes.begin (items_of notes.made)) kept =
     subst (λ (b : Begin). Reflects b notes.made c.args.opened 0 (kept_from b (items_of notes.made)) kept) (sym c.requires.listed)
@@ -75,7 +75,8 @@ invariant_of-result g c =
     let first_is : c.args.first ≡ notes.begin.first = sym (ap (λ (b : Begin). b.first) c.requires.listed) in
     let goes : GoesByEntries c.args.opened notes.made c.args.opened =
     subst (λ (m : List Made). GoesByEntries c.args.opened m c.args.opened) (sym c.requires.made) (record { timely = tt; time_is = refl }) in
-    let within : AreWithin (c.args.first + length notes.made) kept = subst (λ (n : ℕ). AreWithin n kept) same c.requires.stock.within in
+    let low = c.requires.first.1 in
+    let within : AreWithin (most_version begin (length notes.made)) kept = within_up c.args.first (most_version begin (length notes.made)) kept (omega (arith, low)) c.requires.stock.within in
     with_chains after notes book (files start) (files c.args.folder) (faults start) (faults c.args.folder) refl (
     subst (λ (l : List Whole). Stands book 0 l stock.bytes (files start) (files c.args.folder) (faults start) (faults c.args.folder))
     (sym (free_joined stock.files.items c.args.locks.files c.requires.none))
@@ -84,7 +85,7 @@ invariant_of-result g c =
       folder = subst (λ (n : ℕ). Agrees c.of.result.value (files start) (files c.args.folder) (files_of n kept) (torn_in kept)) first_is agrees;
       faults = subst (λ (m : List Made). RoseBy (faults start) (faults_in m) (faults c.args.folder)) (sym c.requires.made) (rose-begin (faults start) (faults c.args.folder) c.requires.faults);
       timely = λ _. subst (λ (b : Begin). GoesByEntries b.now notes.made c.args.opened) (sym c.requires.listed) goes;
-      within = subst (λ (n : ℕ). AreWithin (n + length notes.made) kept) first_is within;
+      within = subst (λ (b : Begin). AreWithin (most_version b (length notes.made)) kept) (sym c.requires.listed) within;
       number = subst IsFirstVersion first_is c.requires.first;
       few = omega (arith, few, size);
       limits = limits;

@@ -2,7 +2,7 @@ use Rattle.std.proofs.Common.{◌≡◌, ◌∙◌, false, None, Some, ap, subst
 use Rattle.host_core.specs.Entries.{ruled, ruled_as}
 use Rattle.std.specs.Io.KnownBytes.{Appends}
 use Rattle.host_log.specs.Lines.{LinesView, lines_view}
-use Rattle.host_log.specs.Rows.{changes, entry_text}
+use Rattle.host_log.specs.Rows.{entry_text, is_synced}
 use Rattle.host_log.proofs.Standing.{lines_idle, lines_sure, lines_torn, lines_unsynced}
 use Rattle.host_log.proofs.Texts.{entry_as}
 use Rattle.host_log.proofs.lines.Lines.add.Goals as goal
@@ -17,8 +17,8 @@ invariant_of-self g c =
     lines_torn v (g.L.Sink.held log) (g.L.Log.synced log) (Some c.of.result) (g.L.Sink.write_faults log) (ruled c.args.ruling.now c.args.begun.now) c.self.invariant fine free
     c.in-Err.ensures.bytes c.write_entry.ensures.synced (ap Some c.of.ensures) c.write_entry.ensures.never_falls c.in-Err.ensures.failed
 
-pub invariant_of-self-then-not-changes : goal.invariant_of-self-then-not-changes
-invariant_of-self-then-not-changes g c =
+pub invariant_of-self-then-not-is_synced : goal.invariant_of-self-then-not-is_synced
+invariant_of-self-then-not-is_synced g c =
     let i = c.self.inside in
     let v : LinesView = lines_view g.L.Sink.held g.L.Log.synced g.L.Sink.write_faults i in
     let fine : i.lost ≡ false = ap (λ (w : LinesView). w.lost) c.self.view_is ∙ c.requires.fine in
@@ -27,7 +27,7 @@ invariant_of-self-then-not-changes g c =
     let one = ruled_as c.args.is_told c.args.ruling.now c.args.begun.now in
     let text = entry_as c.args.is_told c.args.ruling.now c.args.begun.now in
     let grew : Appends v.held (g.L.Sink.held log) (entry_text one) = subst (Appends v.held (g.L.Sink.held log)) text c.in-Ok.ensures.bytes in
-    let idle : changes one ≡ false = search rules in
+    let idle : is_synced i.syncs_all one ≡ false = search rules in
     lines_idle v (g.L.Sink.held log) (g.L.Log.synced log) c.keep_note.new.told (g.L.Sink.write_faults log) one c.self.invariant fine free
     grew c.write_entry.ensures.synced idle c.keep_note.ensures c.write_entry.ensures.never_falls
 

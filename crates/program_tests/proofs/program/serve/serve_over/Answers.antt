@@ -52,8 +52,8 @@ all_told (log ∷ logs) all =
     (ap Some (all_of log.synced log.bytes.items (eqb-true (length (bytes_synced log)) (length (bytes_held log)) parts.0)), all_told logs parts.1)
 
 pub run-requires-clause-keep : goal.run-requires-clause-keep
-run-requires-clause-keep g c κs within = λ keys base ask ids row keeps.
+run-requires-clause-keep g c κs within = λ keys base ask keep row keeps.
     let both : Some c.in-Some.ask ≡ Some ask = (c.in-Some.ensures ask).1 (keys, base, row) in
     let same : c.in-Some.ask ≡ ask = cc both in
-    let fit = c.has_logs.ensures c.if-not-has_logs.false ids (ap (λ (a : ServeAsk). a.keep) same ∙ keeps) in
+    let fit = c.has_logs.ensures c.if-not-has_logs.false keep (ap (λ (a : ServeAsk). a.keep) same ∙ keeps) in
     (fit.0, all_told _ fit.1)

@@ -1,8 +1,0 @@
-use Rattle.std.proofs.Common.{◌≡◌, [], rules}
-use Rattle.replay_cmd.proofs.PieceLemmas.{come_begun}
-use Rattle.replay_cmd.proofs.pieces.PieceReader.new.Goals as goal
-
-pub returns-clause-come : goal.returns-clause-come
-returns-clause-come c =
-    let empty : c.new-2.result.items ≡ [] = search rules in
-    come_begun (record { reader = c.new.result; row = c.new-2.result }) c.new.ensures.none c.new.ensures.kept c.new.ensures.rows empty

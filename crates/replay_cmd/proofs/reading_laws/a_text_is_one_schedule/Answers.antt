@@ -1,5 +1,0 @@
-use Rattle.replay_cmd.proofs.OneSchedule.{one_schedule}
-use Rattle.replay_cmd.proofs.reading_laws.a_text_is_one_schedule.Goals as goal
-
-pub returns : goal.returns
-returns c = one_schedule

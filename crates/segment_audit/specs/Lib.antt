@@ -1,0 +1,4 @@
+pub mod Sizes
+pub mod Legal
+pub mod Audits
+pub mod Making
