@@ -88,7 +88,7 @@ fn run(rt: &impl Abort, alloc: Global, faults: Faults<'_>, steps: usize) -> Resu
     let folder = MemFolder::new(alloc, Vec::new(alloc), faults.folder.to_vec(alloc)?);
     let log = MemLog::new(alloc, 4096, faults.most, faults.log.to_vec(alloc)?)?;
     let mut is_open = false;
-    let store = match Logged::resume(alloc, SHARD, folder, log, 0, WriteRoom::new(alloc)?) {
+    let store = match Logged::resume(alloc, SHARD, folder, log, 0, WriteRoom::new(alloc)?, false) {
         Ok(store) => store,
         Err((folder, log)) => {
             return Ok(Ran {
@@ -315,12 +315,13 @@ fn a_log_goes_on_behind_its_front(rt: HostRuntime) -> Result<(), Fail> {
         log,
         10,
         WriteRoom::new(alloc)?,
+        false,
     ) {
         Ok(_store) => return Err("there are nine bytes".into()),
         Err(handed) => handed,
     };
     assert!(rt; log.as_slice() == b"first\nsec".as_slice());
-    let store = match Logged::resume(alloc, SHARD, folder, log, 6, WriteRoom::new(alloc)?) {
+    let store = match Logged::resume(alloc, SHARD, folder, log, 6, WriteRoom::new(alloc)?, false) {
         Ok(store) => store,
         Err(_handed) => return Err("there are six bytes".into()),
     };
@@ -339,7 +340,7 @@ fn large_contents_stand_behind_their_line(rt: HostRuntime) -> Result<(), Fail> {
     let alloc = rt.alloc();
     let folder = MemFolder::new(alloc, Vec::new(alloc), Vec::new(alloc));
     let log = MemLog::new(alloc, 80_000, 80_000, vec![in alloc; 7]?)?;
-    let store = match Logged::resume(alloc, SHARD, folder, log, 0, WriteRoom::new(alloc)?) {
+    let store = match Logged::resume(alloc, SHARD, folder, log, 0, WriteRoom::new(alloc)?, false) {
         Ok(store) => store,
         Err(_handed) => return Err("an empty log".into()),
     };
@@ -386,12 +387,17 @@ const LOCKED: &[u8] =
     b"2 0 1 11 11 622e747874 lock 4c31 ann.622e747874.w.2.5.9000000 200 - - v8 -\n";
 
 /// The log of a shard over two files, on one of which so many calls were made: a save, and a lock.
-fn log_over_two(rt: &impl Abort, alloc: Global, steps: usize) -> Result<MemLog, Fail> {
+fn log_over_two(
+    rt: &impl Abort,
+    alloc: Global,
+    steps: usize,
+    syncs_all: bool,
+) -> Result<MemLog, Fail> {
     let mut folder = MemFolder::new(alloc, Vec::new(alloc), Vec::new(alloc));
     assert!(rt; folder.replace("b.txt", b"") == Ok(()));
     assert!(rt; folder.replace("a.txt", b"1\n2") == Ok(()));
     let log = MemLog::new(alloc, 4096, 4096, Vec::new(alloc))?;
-    let store = match Logged::resume(alloc, 0, folder, log, 0, WriteRoom::new(alloc)?) {
+    let store = match Logged::resume(alloc, 0, folder, log, 0, WriteRoom::new(alloc)?, syncs_all) {
         Ok(store) => store,
         Err(_handed) => return Err("an empty log".into()),
     };
@@ -423,14 +429,14 @@ fn log_over_two(rt: &impl Abort, alloc: Global, steps: usize) -> Result<MemLog, 
 
 #[test]
 fn a_segment_begins_with_what_was_opened(rt: HostRuntime) -> Result<(), Fail> {
-    let opened = log_over_two(&rt, rt.alloc(), 0)?;
+    let opened = log_over_two(&rt, rt.alloc(), 0, false)?;
     assert!(rt; opened.as_slice() == OPENED);
     assert!(rt; opened.synced() == OPENED.len());
-    let saved = log_over_two(&rt, rt.alloc(), 1)?;
+    let saved = log_over_two(&rt, rt.alloc(), 1, false)?;
     assert!(rt; saved.as_slice().starts_with(OPENED) && saved.as_slice().ends_with(SAVED));
     assert!(rt; saved.as_slice().len() == OPENED.len() + SAVED.len());
     assert!(rt; saved.synced() == saved.as_slice().len());
-    let locked = log_over_two(&rt, rt.alloc(), 2)?;
+    let locked = log_over_two(&rt, rt.alloc(), 2, false)?;
     assert!(rt;
         locked.as_slice().starts_with(saved.as_slice()) && locked.as_slice().ends_with(LOCKED)
     );
@@ -439,11 +445,22 @@ fn a_segment_begins_with_what_was_opened(rt: HostRuntime) -> Result<(), Fail> {
 }
 
 #[test]
+fn a_lock_is_synced_where_all_is(rt: HostRuntime) -> Result<(), Fail> {
+    let saved = log_over_two(&rt, rt.alloc(), 1, false)?;
+    let locked = log_over_two(&rt, rt.alloc(), 2, false)?;
+    assert!(rt; locked.synced() == saved.as_slice().len());
+    let synced = log_over_two(&rt, rt.alloc(), 2, true)?;
+    assert!(rt; synced.as_slice() == locked.as_slice());
+    assert!(rt; synced.synced() == synced.as_slice().len());
+    Ok(())
+}
+
+#[test]
 fn a_log_that_is_lost_is_not_opened(rt: HostRuntime) -> Result<(), Fail> {
     let alloc = rt.alloc();
     let folder = MemFolder::new(alloc, Vec::new(alloc), Vec::new(alloc));
     let log = MemLog::new(alloc, 64, 64, vec![in alloc; 3]?)?;
-    let store = match Logged::resume(alloc, SHARD, folder, log, 0, WriteRoom::new(alloc)?) {
+    let store = match Logged::resume(alloc, SHARD, folder, log, 0, WriteRoom::new(alloc)?, false) {
         Ok(store) => store,
         Err(_handed) => return Err("an empty log".into()),
     };
