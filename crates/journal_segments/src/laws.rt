@@ -12,14 +12,13 @@ ghost use Rattle.journal_text.specs.Told.{line_of};
 ghost use Rattle.line_text.specs.Words.{IsRow};
 ghost use Rattle.journal_segments.specs.declared.rows.Head.{Head};
 ghost use Rattle.journal_segments.specs.declared.rows.Row.{Row};
-ghost use Rattle.journal_segments.specs.declared.state.Pending.TheVariants.{Start};
 ghost use Rattle.journal_segments.specs.Places.{AreOnce, AreOwn};
 ghost use Rattle.journal_segments.specs.Told.{Placed, Told, Tells, begin_of};
 ghost use Rattle.journal_segments.specs.Line.{entry_text, off_words};
 ghost use Rattle.journal_segments.specs.Logs.{entry_row, logged_rows};
 ghost use Rattle.journal_segments.specs.Rows.{AreRows, IsCutShort, IsForm, IsHead, IsSegment, rows_text, start, state_after, told_by};
 ghost use Rattle.journal_segments.specs.Reading.{HasNoHead, IsBadRow};
-ghost use Rattle.journal_segments.specs.Openings.{AreBehind, AreEntries, AreOf, GoOn, IsPlaced, counted, opening_rows, opening_text, told_of, told_rows};
+ghost use Rattle.journal_segments.specs.Openings.{AreEntries, AreOf, GoOn, IsPlaced, counted, opening_rows, opening_text, told_of, told_rows};
 
 /// Bytes are the lines of one segment at most, and what stands behind these is determined.
 pub fn one_segment()
@@ -55,8 +54,8 @@ pub fn told_is_left()
 
 /// The lines of a beginning are those of a segment, and tell just that.
 pub fn a_beginning_is_restored()
-    ensures rows { (head : Head) (files : List (List ℕ × Placed)) → AllByRecursion (IsPlaced head.shard) files → AreBehind Start files → AreRows (start head) (opening_rows files) }
-    ensures text { (head : Head) (files : List (List ℕ × Placed)) → IsHead head → AllByRecursion (IsPlaced head.shard) files → AreBehind Start files → IsSegment (opening_text head files) head (opening_rows files) [] }
+    ensures rows { (head : Head) (files : List (List ℕ × Placed)) → AllByRecursion (IsPlaced head.shard) files → AreOnce files → AreRows (start head) (opening_rows files) }
+    ensures text { (head : Head) (files : List (List ℕ × Placed)) → IsHead head → AllByRecursion (IsPlaced head.shard) files → AreOnce files → IsSegment (opening_text head files) head (opening_rows files) [] }
     ensures told { (head : Head) (files : List (List ℕ × Placed)) → AllByRecursion (IsPlaced head.shard) files → told_by head (opening_rows files) ≡ told_of head files }
 {}
 
