@@ -1,6 +1,7 @@
 -- Each name is that of a file of the shard.
-use Rattle.std.proofs.Common.{◌≡◌, ◌==◌, ℕ, true, false, cond, List, [], ◌∷◌, ◌++◌, Some, sym, subst}
+use Rattle.std.proofs.Common.{◌≡◌, ◌==◌, ℕ, true, false, cond, List, [], ◌∷◌, ◌++◌, Some, sym, ap, ◌∙◌, subst}
 use Rattle.std.specs.Prelude.{⊤}
+use Rattle.std.specs.List.{AllByRecursion}
 use Rattle.std.specs.Str.{bytes_eq}
 use Rattle.host_core.specs.Opening.{MayKeep}
 use Rattle.wopi_model.specs.Begin.{at_name, put_name}
@@ -13,9 +14,11 @@ use Rattle.journal_segments.specs.declared.state.Pending.{Pending}
 use Rattle.journal_segments.specs.declared.state.Pending.TheVariants as pending
 use Rattle.journal_segments.specs.declared.state.State.{State}
 use Rattle.journal_segments.specs.Places.{AreOwn}
-use Rattle.journal_segments.specs.Told.{Told, placed_by, unmet}
+use Rattle.journal_segments.specs.Told.{Placed, Told, placed_by, unmet}
 use Rattle.journal_segments.specs.Rows.{AreRows, IsForm, MayCome, MayStand, holding, pending_held, pending_spent, start, state_after, step, told_by, told_with}
-use Rattle.journal_segments.proofs.Going.{shard_after}
+use Rattle.journal_segments.specs.Openings.{IsPlaced, opening_rows, place_rows}
+use Rattle.journal_segments.proofs.Going.{shard_after, state-append}
+use Rattle.journal_segments.proofs.Written.{after-file, at_file}
 
 module _ {A : Type 0} where
   own_push : (shard : ℕ) (files : List (List ℕ × A)) (name : List ℕ) (it : A) → AreOwn shard files → MayKeep (Some shard) name → AreOwn shard (files ++ (name, it) ∷ [])
@@ -89,3 +92,25 @@ pub each_own : (head : Head) (rows : List Row) → AreRows (start head) rows →
 each_own head rows are =
     let P : ℕ → Type 0 = λ shard. AreOwn shard (told_by head rows).files in
     subst P (shard_after (start head) rows) (rows_own (start head) rows tt tt are)
+
+-- ---- behind a beginning
+
+opening_own : (state : State) (files : List (List ℕ × Placed)) → AllByRecursion (IsPlaced state.shard) files → AreOwn state.shard state.told.files → IsOwn state.shard state.pending
+    → AreOwn state.shard (state_after state (opening_rows files)).told.files × IsOwn state.shard (state_after state (opening_rows files)).pending
+opening_own state [] are own is = (own, is)
+opening_own state (file ∷ files) are own is =
+    let next = at_file state.shard (told_with state.told state.pending) file.0 file.1 in
+    let same : state_after state (opening_rows (file ∷ files)) ≡ state_after next (opening_rows files) =
+    state-append state (place_rows file) (opening_rows files) ∙ ap (λ (s : State). state_after s (opening_rows files)) (after-file state file are.0.left) in
+    let P : State → Type 0 = λ s. AreOwn state.shard s.told.files × IsOwn state.shard s.pending in
+    subst P (sym same) (opening_own next files are.1 (told_own state.shard state.told state.pending own is) (are.0.at_is.0, are.0.own))
+
+pub placed_own : (head : Head) (files : List (List ℕ × Placed)) (rows : List Row) → AllByRecursion (IsPlaced head.shard) files → AreRows (state_after (start head) (opening_rows files)) rows
+    → AreOwn head.shard (told_by head (opening_rows files ++ rows)).files
+placed_own head files rows placed are =
+    let state = state_after (start head) (opening_rows files) in
+    let number : state.shard ≡ head.shard = shard_after (start head) (opening_rows files) in
+    let P : ℕ → Type 0 = λ shard. AreOwn shard state.told.files × IsOwn shard state.pending in
+    let both = subst P (sym number) (opening_own (start head) files placed tt tt) in
+    let Q : ℕ × State → Type 0 = λ p. AreOwn p.0 (told_with p.1.told p.1.pending).files in
+    subst Q (λ i. ((shard_after state rows ∙ number) i, sym (state-append (start head) (opening_rows files) rows) i)) (rows_own state rows both.0 both.1 are)
