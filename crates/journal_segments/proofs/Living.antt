@@ -5,22 +5,20 @@ use Rattle.std.specs.List.{AllByRecursion}
 use Rattle.std.specs.Str.{bytes_eq}
 use Rattle.std.proofs.lemmas.Bool.{eq-eqb}
 use Rattle.std.proofs.lemmas.Slice.Eq.{bytes_eq-Decides}
-use Rattle.outside.specs.Folder.{Files, Times}
+use Rattle.outside.specs.Folder.{Files}
 use Rattle.wopi_model.specs.Begin.{Begin, at_name}
 use Rattle.wopi_model.specs.File.{File}
 use Rattle.wopi_model.specs.Lives.{IsLeftBy}
 use Rattle.wopi_model.specs.Settle.{settled}
-use Rattle.wopi_model.specs.Shard.{Along, IsAllowed, Item, Shard, after, begun, entries, last_from, stamps}
+use Rattle.wopi_model.specs.Shard.{Along, IsAllowed, Shard, after, begun, entries, last_from, stamps}
 use Rattle.host_core.specs.declared.life.Life.{Life}
 use Rattle.host_core.specs.declared.life.LifeFile.{LifeFile}
 use Rattle.host_core.specs.declared.life.LifeContents.{LifeContents}
 use Rattle.host_core.specs.declared.life.LifeContents.TheVariants as has
 use Rattle.host_core.specs.Entries.{Made, history_of, items_of}
-use Rattle.host_core.specs.Facts.{Dates}
-use Rattle.host_core.specs.Life.{IsGoodLife, IsReopened, MayGoOn, TellsFile, TellsShard, is_as_told, is_changed, life_names, mended_with, told_at}
+use Rattle.host_core.specs.Life.{IsGoodLife, MayGoOn, TellsFile, TellsShard, is_as_told, is_changed, life_names, mended_with, told_at}
 use Rattle.host_core.specs.Names as names
 use Rattle.host_core.specs.Opening.{MayKeep}
-use Rattle.host_core.proofs.Lefts.{begun_on}
 use Rattle.journal_segments.specs.declared.rows.Head.{Head}
 use Rattle.journal_segments.specs.declared.rows.Row.{Row}
 use Rattle.journal_segments.specs.Line.{size_in}
@@ -137,15 +135,6 @@ life_tells folder files begin head placed rows made life are entries_are lines o
     let P : Shard → Type 0 = λ shard. HoldsUnchanged head.shard files told shard in
     let Q : Shard → Type 0 = λ shard. TellsShard (Some head.shard) files life shard in
     (subst Q left.shard (tells_shard head.shard folder files life own sized (subst P (sym left.shard) holds)), left.last)
-
--- a shard that reopens with it goes on from what its entries leave
-pub life_goes_on : (files : Files) (times : Option Times) (begin next : Begin) (dates : Dates) (only : Option ℕ) (history : List Item) (life : Life) → IsGoodLife only life →
-    TellsShard only files life (after (begun begin) history) × (life.last ≡ last_from begin.last (stamps (entries history))) → IsReopened only (Some files) times life next dates → IsLeftBy begin history next
-life_goes_on files times begin next dates only history life good tells is =
-    record {
-      shard = ap begun is.begin_is ∙ begun_on only files life (after (begun begin) history) is.opening good tells.0 is.read;
-      last = ap (λ (b : Begin). b.last) is.begin_is ∙ tells.1;
-    }
 
 -- ---- which lives are restored
 

@@ -1,14 +1,13 @@
 //! What holds of segments and of what they tell, as contracts of functions that do nothing.
 ghost use Rattle.std.specs.Prelude.{◌≡◌, ◌⊎◌, ◌≤◌, ◌-◌, ◌^◌, ◌++◌, [], ℕ, List, Option, Some, map};
 ghost use Rattle.std.specs.List.{AllByRecursion};
-ghost use Rattle.outside.specs.Folder.{Files, Times};
-ghost use Rattle.wopi_model.specs.Shard.{Along, IsAllowed, Item, after, begun, entries, last_from, stamps};
+ghost use Rattle.outside.specs.Folder.{Files};
+ghost use Rattle.wopi_model.specs.Shard.{Along, IsAllowed, after, begun, entries, last_from, stamps};
 ghost use Rattle.wopi_model.specs.Begin.{Begin};
 ghost use Rattle.wopi_model.specs.Lives.{IsLeftBy};
 ghost use Rattle.host_core.specs.declared.life.Life.{Life};
 ghost use Rattle.host_core.specs.Entries.{Made, items_of, history_of};
-ghost use Rattle.host_core.specs.Facts.{Dates};
-ghost use Rattle.host_core.specs.Life.{IsGoodLife, IsReopened, MayGoOn, TellsShard};
+ghost use Rattle.host_core.specs.Life.{IsGoodLife, MayGoOn, TellsShard};
 ghost use Rattle.host_table.specs.Bounds.{IsBounded};
 ghost use Rattle.host_log.specs.Rows as log;
 ghost use Rattle.journal_text.specs.Journals.{row_text};
@@ -85,15 +84,13 @@ pub fn a_begin_is_told()
 
 /// The life that a segment restores tells just where the shard stands whose entries the lines are that count, over a folder
 /// that has what the shard has of each file which no line has changed. So a shard that reopens with it goes on from what
-/// the entries left.
+/// the entries left (`a_reopened_shard_goes_on` of host_core).
 pub fn a_restored_life_tells_its_shard()
-    ensures tells { (folder files : Files) (begin : Begin) (head : Head) (placed : List (List ℕ × Placed)) (rows : List Row) (made : List Made) (life : Life) →
+    ensures { (folder files : Files) (begin : Begin) (head : Head) (placed : List (List ℕ × Placed)) (rows : List Row) (made : List Made) (life : Life) →
         AllByRecursion (IsPlaced head.shard) placed → AreEntries rows → AreRows (state_after (start head) (opening_rows placed)) rows → AreOf (begun begin) (counted [] rows) made →
         Tells folder (told_of head placed) (begun begin) → HasSizesOf (begun begin) (told_of head placed) → head.last ≡ begin.last → Along IsAllowed (begun begin) (items_of made) →
         told_in life ≡ told_by head (opening_rows placed ++ rows) → HoldsUnchanged head.shard files (told_in life) (after (begun begin) (history_of made life.now)) →
         TellsShard (Some head.shard) files life (after (begun begin) (history_of made life.now)) × (life.last ≡ last_from begin.last (stamps (entries (history_of made life.now)))) }
-    ensures goes_on { (files : Files) (times : Option Times) (begin next : Begin) (dates : Dates) (only : Option ℕ) (history : List Item) (life : Life) → IsGoodLife only life →
-        TellsShard only files life (after (begun begin) history) × (life.last ≡ last_from begin.last (stamps (entries history))) → IsReopened only (Some files) times life next dates → IsLeftBy begin history next }
 {}
 
 /// A life that a segment restores is a good one of its shard, but for its last stamp, the versions, and the moments at which
