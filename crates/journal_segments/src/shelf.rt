@@ -124,15 +124,15 @@ fn hold(
 }
 
 /// Whether a name wasn't met yet.
-fn is_new(names: &NameIndex, files: &[(FileName, ToldFile)], name: &FileName) -> bool
-    requires { IsNumbered names.now files.now }
-    ensures { IsTrue result ↔ (place_in files.now name.now ≡ None) }
+fn is_new(names: &NameIndex, files: &Vec<(FileName, ToldFile)>, name: &FileName) -> bool
+    requires { IsNumbered names.now files.now.items }
+    ensures { IsTrue result ↔ (place_in files.now.items name.now ≡ None) }
 {
     place_of(names, files, name).is_none()
 }
 
 /// The same files, as those of a life.
-fn lived(alloc: Global, files: Vec<(FileName, ToldFile)>) -> Result<Vec<LifeFile>, Memory>
+fn into_life_files(alloc: Global, files: Vec<(FileName, ToldFile)>) -> Result<Vec<LifeFile>, Memory>
     ensures { IfOk result (λ lived. map file_told lived.items ≡ files.items) }
 {
     let mut lived = Vec::with_capacity(alloc, files.len())?;
@@ -224,6 +224,6 @@ impl Shelf {
     pub(crate) fn into_life(self, alloc: Global) -> Result<Vec<LifeFile>, Memory>
         ensures { IfOk result (λ lived. map file_told lived.items ≡ self) }
     {
-        lived(alloc, self.files)
+        into_life_files(alloc, self.files)
     }
 }

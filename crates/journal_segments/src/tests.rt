@@ -56,7 +56,10 @@ fn life_of(alloc: Global, text: &[u8]) -> Result<Life, Fail> {
     bytes.extend_from_slice(text)?;
     let mut source = MemSource::new(Bytes::from_vec(bytes), 32, Vec::new(alloc));
     match read_segment(alloc, &mut source) {
-        Ok(read) => return Ok(read.told.into_life(alloc)?),
+        Ok(read) => match read.told.into_life(alloc) {
+            Ok(life) => return Ok(life),
+            Err(_) => return Err("no memory".into()),
+        },
         Err(_) => return Err("no state".into()),
     }
 }
