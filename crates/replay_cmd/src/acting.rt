@@ -13,12 +13,12 @@ ghost use Rattle.replay_cmd.specs.Trace.{session_shown, answer_shown, now_shown}
 use crate::carrying::carry_answer;
 use crate::history::Item;
 use crate::lookups::{member_at, reply_at, request_at, waits_for};
-use schedule_text::Wish;
 use crate::sessions::step_at;
 use crate::stage::Stage;
 use crate::wire::Wire;
 use crate::words::{numbered_words, words_of};
 use save_session::Input;
+use schedule_text::Wish;
 use std::alloc::Global;
 use wopi_headers::Answer;
 use wopi_text::{Bytes, Memory};

@@ -5,10 +5,10 @@ ghost use Rattle.replay_cmd.specs.Carryings.{CarriesOver, IsRunOver};
 ghost use Rattle.replay_cmd.specs.Runs.{setting_of, world_of};
 ghost use Rattle.replay_cmd.specs.Worlds.{IsRunOf};
 
-use schedule_text::Schedule;
 use crate::stage::Stage;
 use crate::starting::start;
 use crate::wire::Wire;
+use schedule_text::Schedule;
 use std::alloc::Global;
 use wopi_text::{Bytes, Memory};
 use wopi_world::laws::safe_always;

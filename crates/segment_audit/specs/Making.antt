@@ -1,5 +1,5 @@
 -- Entries that a shard made, and the lines of its log. (Own.)
-use Rattle.std.specs.Prelude.{◌≡◌, ⊤, ℕ, ◌<◌, ◌≤◌, true, List, [], ◌∷◌, Option}
+use Rattle.std.specs.Prelude.{◌≡◌, ⊤, ℕ, ◌<◌, ◌≤◌, true, false, List, [], ◌∷◌, Option}
 use Rattle.wopi_model.specs.Begin.{Begin, at_name}
 use Rattle.wopi_model.specs.Host.{shard_of_entry}
 use Rattle.wopi_model.specs.Shard.{IsAllowed, Shard, Step, at_moment, happens}
@@ -51,4 +51,4 @@ AreMade shard number last [] = ⊤
 AreMade shard number last (Counts one ∷ rows) =
     MayBeMade shard number last one × AreMade (happens (at_moment shard one.time) (Step one.step)) number one.step.stamp rows
 AreMade shard number last (TakenBack one ∷ rows) =
-    MayBeMade shard number last one × (log.changes one ≡ true) × AreMade shard number last rows
+    MayBeMade shard number last one × (log.is_synced false one ≡ true) × AreMade shard number last rows

@@ -32,7 +32,7 @@ fn line_of(alloc: Global, given: &Given) -> Result<String, Memory> {
 }
 
 /// Lines, and the words that the program reads.
-const MEANT: [[&str; 2]; 24] = [
+const MEANT: [[&str; 2]; 25] = [
     ["once . 4a http://localhost", "once . 4a http://localhost"],
     [
         "serve . 8880 4a http://localhost 2 --first 7 --each 3",
@@ -162,7 +162,7 @@ fn told(alloc: Global, line: &str) -> Result<Vec<u8>, Memory> {
 }
 
 /// Lines that are no command, and what begins the line that is told.
-const TOLD: [[&str; 2]; 39] = [
+const TOLD: [[&str; 2]; 41] = [
     ["frob", "a command frob: once, serve, edit"],
     ["once", "FOLDER is missing: the path of a folder"],
     ["once . 4a6 http://localhost", "KEY: 1 to 64 bytes in hex"],

@@ -333,9 +333,17 @@ fn an_origin_stands_behind_the_word_for_editors(rt: HostRuntime) -> Result<(), F
 /// Words of `serve` that keep logs, for how many ids each shard has places, and whether all changes are synced.
 const KEEPING: [(&[&str], u32, bool); 4] = [
     (&["--keep", "/srv/logs"], 4096, false),
-    (&["--keep", "/srv/logs", "--each", "3", "--ids", "9"], 9, false),
+    (
+        &["--keep", "/srv/logs", "--each", "3", "--ids", "9"],
+        9,
+        false,
+    ),
     (&["--keep", "/srv/logs", "--sync", "all"], 4096, true),
-    (&["--keep", "/srv/logs", "--sync", "all", "--ids", "9"], 9, true),
+    (
+        &["--keep", "/srv/logs", "--sync", "all", "--ids", "9"],
+        9,
+        true,
+    ),
 ];
 
 #[test]

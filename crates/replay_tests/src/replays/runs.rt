@@ -1,6 +1,6 @@
 use replay_cmd::{Stage, Straight, World, summary_text};
-use schedule_text::generate;
 use save_session::Outcome;
+use schedule_text::generate;
 use std::test::Fail;
 
 /// How many replies are conflicts.
