@@ -11,5 +11,5 @@ returns c =
     let lock : c.judged-lock.result.0 ≡ lock_after old.lock (asked line.act) line.token.expires line.now = grind rules in
     let spent : c.add_spent.new.spent.items ≡ with_spent (spent_by old.lock (asked line.act) line.token.expires) old.spent = grind rules in
     let version : c.version_told-self-inside.result ≡ version_told old.version line.act line.version = c.version_told-self-inside.ensures ∙ ap (λ (p : Placed). version_told p.version line.act line.version) c.self.view_is in
-    let contents : c.contents_after-self-inside.result ≡ contents_after old.contents line.act line.contents = grind rules in
+    let contents : c.contents_after.result ≡ contents_after old.contents line.act line.contents = grind rules in
     λ i. record { version = version i; contents = contents i; lock = lock i; spent = spent i }
