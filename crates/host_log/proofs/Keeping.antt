@@ -6,7 +6,7 @@ use Rattle.std.proofs.lemmas.List.{length-append}
 use Rattle.wopi_model.specs.Act.{is_stored}
 use Rattle.wopi_model.specs.declared.calls.Ruling.{Ruling}
 use Rattle.host_core.specs.Entries.{Asked, Made, accepted_contents, brought_by, ruled, ruled_as}
-use Rattle.host_core.specs.Notes.{Brought, TakesCalls, accepted, opening_listed, saved_in, told_version}
+use Rattle.host_core.specs.Notes.{Brought, TakesCalls, accepted, saved_in, told_version}
 use Rattle.outside.specs.Log.{IsFront}
 use Rattle.host_log.specs.declared.logged.Logged.TheInside.{Inside}
 use Rattle.host_log.specs.declared.logged.Saved.{Saved}
@@ -343,8 +343,6 @@ module _ {F L : Type 0} where
         folder_is = refl;
         faults_are = count;
         log = refl;
-        opening = opening_listed i.opening.value.items;
-        begin_is = refl;
         head_is = inv.head_is;
         made = refl;
         rest = first.0;

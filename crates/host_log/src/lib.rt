@@ -16,6 +16,8 @@ mod head;
 mod lines;
 mod logged;
 mod note;
+mod origin;
+mod start;
 mod writing;
 
 pub use begun::Begun;
@@ -23,3 +25,5 @@ pub use head::Head;
 pub use lines::Lines;
 pub use logged::Logged;
 pub use note::Note;
+pub use origin::Origin;
+pub use start::Start;
