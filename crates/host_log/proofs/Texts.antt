@@ -48,6 +48,13 @@ pub whole_files : (files : List Whole) → flat_map whole_text files ≡ flat_ma
 whole_files [] = refl
 whole_files (file ∷ files) = ap (λ (l : List ℕ). whole_text file ++ l) (whole_files files)
 
+pub none_locked : (first : ℕ) (files : List KeptFile) (locks : Option (List Standing)) → locks ≡ None → flat_map (opened_text first) files ≡ flat_map file_text (files_as first files locks)
+none_locked first files locks none = opened_files first files ∙ ap (λ (o : Option (List Standing)). flat_map file_text (files_as first files o)) (sym none)
+
+pub some_locked : (first : ℕ) (files : List KeptFile) (locks : Option (List Standing)) (given : List Standing) → locks ≡ Some given
+    → flat_map whole_text (joined files given) ≡ flat_map file_text (files_as first files locks)
+some_locked first files locks given some = whole_files (joined files given) ∙ ap (λ (o : Option (List Standing)). flat_map file_text (files_as first files o)) (sym some)
+
 -- a file of an opening has no locks
 pub opened_at : (first : ℕ) (file : KeptFile) → at_line file.name first (Some (length (unwrap_or file.contents []))) ≡ opened_text first file
 opened_at first file = sym (append-nil (at_line file.name first (Some (length (unwrap_or file.contents [])))))

@@ -1,7 +1,7 @@
 //! A store that appends the line of each entry to a log, and keeps none.
 //!
-//! A [`Logged`] is a folder beside a [`Log`](outside::Log). As it's opened, the beginning of a segment is appended and
-//! synced: whose shard it is, and what that begins with. Of a call that was begun it keeps what its line tells; once the
+//! A [`Logged`] is a folder beside a [`Log`](outside::Log). As a shard opens over it, or goes on there, the beginning of a
+//! segment is appended and synced: whose shard it is, and what that begins with. Of a call that was begun it keeps what its line tells; once the
 //! entry is ended its line stands in the log, and what contracts see of it is a [`Story`](story::Story).
 //!
 //! Where a call changes the folder, its line as accepted is appended and synced first. Where the folder then fails, the

@@ -1,5 +1,5 @@
 //! The text of a beginning or of an entry, appended to a log. It takes no memory.
-ghost use Rattle.std.specs.Prelude.{◌≡◌, ◌≤◌, ◌∷◌, ◌++◌, OnErr, OnOk, option_map, unwrap_or};
+ghost use Rattle.std.specs.Prelude.{◌≡◌, ◌≤◌, ◌∷◌, ◌++◌, [], length, OnErr, OnOk, option_map, unwrap_or};
 ghost use Rattle.std.specs.List.{flat_map};
 ghost use Rattle.outside.specs.Faults.{Rose};
 ghost use Rattle.outside.specs.Log.{IsFront};
@@ -122,6 +122,16 @@ fn size_of(file: &KeptFile) -> Option<u64>
     }
 }
 
+/// How many bytes a file of an opening has.
+fn bytes_of(file: &KeptFile) -> u64
+    ensures { result ≡ length (unwrap_or file.now.contents []) }
+{
+    match &file.contents {
+        None => return 0,
+        Some(contents) => return contents.as_slice().len() as u64,
+    }
+}
+
 /// Puts the line of a file of an opening, at that version.
 fn put_opened<L: Log>(
     log: &mut L,
@@ -134,11 +144,7 @@ fn put_opened<L: Log>(
     ensures never_falls { L.write_faults log.old ≤ L.write_faults log.new }
     ensures failed { OnErr result (Rose (L.write_faults log.old) (L.write_faults log.new)) }
 {
-    let size = match size_of(file) {
-        None => 0,
-        Some(size) => size,
-    };
-    put_pieces(log, room, &at_pieces(&file.name, first, Some(size)))
+    put_pieces(log, room, &at_pieces(&file.name, first, Some(bytes_of(file))))
 }
 
 /// Puts the lines of the files of an opening, each at that version.
