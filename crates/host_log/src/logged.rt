@@ -1,6 +1,7 @@
 //! A folder beside a log of what a shard began with and of its entries.
 ghost use Rattle.std.specs.Prelude.{◌≡◌, ◌≤◌, ◌+◌, ◌&&◌, [], ◌∷◌, ◌++◌, not, true, false, is_some, None, Some, IfErr, IfOk, IsErrOf, OnErr, OnOk, option_map};
 ghost use Rattle.outside.specs.Faults.{Rose};
+ghost use Rattle.outside.specs.Folder.{Keeps};
 ghost use Rattle.outside.specs.Log.{IsCutAt, IsFront};
 ghost use Rattle.host_core.specs.Entries.{accepted_contents, ruled, ruled_as};
 ghost use Rattle.host_core.specs.Notes.{accepted};
@@ -205,11 +206,12 @@ impl<F: Folder, L: Log> Logged<F, L> {
         ensures begin { OnOk result (self.new.notes.begin ≡ begin_in start.now) }
         ensures made { OnOk result (self.new.notes.made ≡ []) }
         ensures begun { OnOk result (self.new.notes.begun ≡ None) }
-        ensures most { self.new.notes.most ≡ None }
+        ensures most { OnOk result (self.new.notes.most ≡ None) }
         ensures going { OnOk result (self.new.lost ≡ false) }
         ensures log { self.new.notes.log ≡ self.old.notes.log }
-        ensures folder { self.new.folder ≡ self.old.folder }
-        ensures never_falls { self.old.refused ≤ self.new.refused }
+        ensures files { Keeps (F.files self.old.folder) (F.files self.new.folder) }
+        ensures times { Keeps (F.times self.old.folder) (F.times self.new.folder) }
+        ensures never_falls { F.faults self.old.folder + self.old.refused ≤ F.faults self.new.folder + self.new.refused }
         ensures failed { IsErrOf result OutFault.Failed → Rose (F.faults self.old.folder + self.old.refused) (F.faults self.new.folder + self.new.refused) }
     {
         if start.first == 0 || self.begun.is_some() || !self.lines.is_untouched() {
@@ -257,7 +259,7 @@ impl<F: Folder, L: Log> Logged<F, L> {
 
 impl<F: Folder, L: Log> Store for Logged<F, L> {
     ghost use Rattle.std.specs.Prelude.{◌⊎◌, Err};
-    ghost use Rattle.outside.specs.Folder.{Keeps, OpensOnly, Removes, Replaces};
+    ghost use Rattle.outside.specs.Folder.{OpensOnly, Removes, Replaces};
     ghost use Rattle.host_core.specs.Notes.{IsBegunToRemove, IsBegunWith, StaysNoted};
     ghost use Rattle.std.proofs.Common.{refl};
 

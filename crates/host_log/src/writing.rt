@@ -1,5 +1,5 @@
 //! The text of a beginning or of an entry, appended to a log. It takes no memory.
-ghost use Rattle.std.specs.Prelude.{◌≡◌, ◌≤◌, ◌∷◌, ◌++◌, [], length, OnErr, OnOk, option_map, unwrap_or};
+ghost use Rattle.std.specs.Prelude.{◌≡◌, ◌≤◌, ◌∷◌, ◌++◌, [], length, OnErr, OnOk, option_map, slice_get, unwrap_or};
 ghost use Rattle.std.specs.List.{flat_map};
 ghost use Rattle.outside.specs.Faults.{Rose};
 ghost use Rattle.outside.specs.Log.{IsFront};
@@ -263,6 +263,13 @@ fn put_whole<L: Log>(
     put_locks(log, room, &file.name, locks)
 }
 
+/// The locks at a place.
+fn locks_at(locks: &[ToldLocks], place: usize) -> Option<&ToldLocks>
+    ensures { option_map (λ told. told.now) result ≡ slice_get locks.now place }
+{
+    locks.get(place)
+}
+
 /// Puts the lines of files that go on, each with the locks at its place.
 fn put_all_whole<L: Log>(
     log: &mut L,
@@ -277,7 +284,7 @@ fn put_all_whole<L: Log>(
 {
     let mut place = 0;
     'files: while place < files.len() {
-        match put_whole(log, room, &files[place], locks.get(place)) {
+        match put_whole(log, room, &files[place], locks_at(locks, place)) {
             Ok(()) => {}
             Err(Failed) => return Err(Failed),
         }

@@ -95,10 +95,10 @@ at 622e747874 v8 3\nat 642e747874 v7 1\nat 632e747874 v10 -\n";
 
 /// What is appended for a save, and for its unlocking.
 const SAVED: &[u8] =
-    b"13 0 1 40 40 612e747874 put 4c31 3 ann.612e747874.w.2.5.9000000 200 - - v10 3\n678\n";
+    b"13 15 1 40 40 612e747874 put 4c31 3 ann.612e747874.w.2.5.9000000 200 - - v10 3\n678\n";
 
 const UNLOCKED: &[u8] =
-    b"14 0 1 41 41 612e747874 unlock 4c31 ann.612e747874.w.2.5.9000000 200 - - v10 -\n";
+    b"14 15 1 41 41 612e747874 unlock 4c31 ann.612e747874.w.2.5.9000000 200 - - v10 -\n";
 
 /// How many calls a run makes.
 const STEPS: usize = 2;
@@ -234,7 +234,7 @@ fn at_each_call_of_the_log_that_fails_what_went_on_stands(rt: HostRuntime) -> Re
 
 /// What is appended for a save that the folder doesn't take.
 const TAKEN_BACK: &[u8] =
-    b"off\n13 0 1 40 40 612e747874 put 4c31 3 ann.612e747874.w.2.5.9000000 500 - - - -\n";
+    b"off\n13 15 1 40 40 612e747874 put 4c31 3 ann.612e747874.w.2.5.9000000 500 - - - -\n";
 
 #[test]
 fn at_each_call_of_the_folder_that_fails_so_it_does(rt: HostRuntime) -> Result<(), Fail> {
