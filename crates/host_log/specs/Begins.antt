@@ -1,5 +1,5 @@
 -- What a shard begins with, as it is handed over and as contracts see it.
-use Rattle.std.specs.Prelude.{ℕ, List, [], ◌∷◌, Option, None, Some, map, option_map}
+use Rattle.std.specs.Prelude.{ℕ, List, Option, None, Some, map, option_map}
 use Rattle.kept_locks.specs.Locks.{Standing}
 use Rattle.wopi_model.specs.Begin.{Begin}
 use Rattle.wopi_model.specs.File.{File, opened_with}

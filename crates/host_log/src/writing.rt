@@ -144,7 +144,11 @@ fn put_opened<L: Log>(
     ensures never_falls { L.write_faults log.old ≤ L.write_faults log.new }
     ensures failed { OnErr result (Rose (L.write_faults log.old) (L.write_faults log.new)) }
 {
-    put_pieces(log, room, &at_pieces(&file.name, first, Some(bytes_of(file))))
+    put_pieces(
+        log,
+        room,
+        &at_pieces(&file.name, first, Some(bytes_of(file))),
+    )
 }
 
 /// Puts the lines of the files of an opening, each at that version.
@@ -256,7 +260,11 @@ fn put_whole<L: Log>(
     ensures never_falls { L.write_faults log.old ≤ L.write_faults log.new }
     ensures failed { OnErr result (Rose (L.write_faults log.old) (L.write_faults log.new)) }
 {
-    match put_pieces(log, room, &at_pieces(&file.name, file.version, size_of(file))) {
+    match put_pieces(
+        log,
+        room,
+        &at_pieces(&file.name, file.version, size_of(file)),
+    ) {
         Ok(()) => {}
         Err(Failed) => return Err(Failed),
     }
@@ -294,11 +302,7 @@ fn put_all_whole<L: Log>(
 }
 
 /// Puts the lines of the files of a beginning.
-fn put_files<L: Log>(
-    log: &mut L,
-    room: &mut WriteRoom,
-    start: &Start<'_>,
-) -> Result<(), Failed>
+fn put_files<L: Log>(log: &mut L, room: &mut WriteRoom, start: &Start<'_>) -> Result<(), Failed>
     ensures bytes { Gathers (L.held log.old) (L.held log.new) room.old.bytes.items room.new.bytes.items result (flat_map file_text (begin_in start.now).files) }
     ensures beside { L.beside_writes log.new ≡ L.beside_writes log.old }
     ensures never_falls { L.write_faults log.old ≤ L.write_faults log.new }

@@ -109,9 +109,7 @@ fn act(rt: &impl Abort, alloc: Global, place: usize) -> Result<Act, Fail> {
             lock: Some(id(rt, b"L1")),
             contents: bytes(alloc, b"678")?,
         },
-        _ => Act::Unlock {
-            id: id(rt, b"L1"),
-        },
+        _ => Act::Unlock { id: id(rt, b"L1") },
     })
 }
 
@@ -225,8 +223,21 @@ fn at_each_call_of_the_log_that_fails_what_went_on_stands(rt: HostRuntime) -> Re
             let mut ran = run(&rt, rt.alloc(), &[], &[fault])?;
             // the beginning and its sync, the save's line and its sync, and the other line
             assert!(rt; ran.is_open == (fault > 2), "{fault}");
-            assert!(rt; ran.told.len() == (if fault < 5 { 0 } else if fault == 5 { 1 } else { 2 }), "{fault}");
-            assert!(rt; keeps(&mut ran, whole.log.as_slice(), more), "{fault} {more}");
+            assert!(rt;
+                ran.told.len()
+                    == (if fault < 5 {
+                        0
+                    } else if fault == 5 {
+                        1
+                    } else {
+                        2
+                    }),
+                "{fault}"
+            );
+            assert!(rt;
+                keeps(&mut ran, whole.log.as_slice(), more),
+                "{fault} {more}"
+            );
         }
     }
     Ok(())
@@ -252,7 +263,9 @@ fn at_each_call_of_the_folder_that_fails_so_it_does(rt: HostRuntime) -> Result<(
         let status = if is_whole { 200 } else { 500 };
         assert!(rt; ran.told.as_slice() == [status, 200].as_slice(), "{fault}");
         if !is_whole {
-            assert!(rt; text.len() == BEGUN.len() + SAVED.len() + TAKEN_BACK.len() + UNLOCKED.len() - 1);
+            assert!(rt;
+                text.len() == BEGUN.len() + SAVED.len() + TAKEN_BACK.len() + UNLOCKED.len() - 1
+            );
         }
     }
     assert!(rt; refused > 6);

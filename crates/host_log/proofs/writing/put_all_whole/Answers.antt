@@ -1,4 +1,4 @@
-use Rattle.std.proofs.Common.{◌≤◌, ◌<◌, ◌∙◌, Option, List, ℕ, length, ap, arith}
+use Rattle.std.proofs.Common.{◌≤◌, ◌<◌, ◌∙◌, Option, length, ap, arith}
 use Rattle.std.specs.Prelude.{unwrap_or}
 use Rattle.kept_locks.specs.Locks.{Standing, unlocked}
 use Rattle.host_log.proofs.Texts.{whole_all, whole_cut, whole_more}

@@ -1,4 +1,4 @@
-use Rattle.std.proofs.Common.{ℕ, List, ◌++◌, ap, subst}
+use Rattle.std.proofs.Common.{ℕ, List, ◌++◌, subst}
 use Rattle.std.specs.List.{flat_map}
 use Rattle.outside.specs.Stream.{GrewByPrefix}
 use Rattle.kept_locks.specs.Locks.{Standing}

@@ -1,5 +1,4 @@
-use Rattle.std.proofs.Common.{ℕ, List, Option, ap, option_map, subst}
-use Rattle.std.specs.List.{flat_map}
+use Rattle.std.proofs.Common.{ℕ, List, ap, option_map, subst}
 use Rattle.kept_locks.specs.Locks.{Standing}
 use Rattle.host_table.specs.Writing.{Gathers}
 use Rattle.host_log.proofs.Texts.{none_locked, some_locked}
