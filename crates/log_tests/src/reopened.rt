@@ -1,6 +1,4 @@
 //! A shard that goes on over a folder and a log in memory, at which each call fails in turn.
-ghost use Rattle.std.specs.Prelude.{◌≤◌};
-
 use crate::logs::{bytes, call, name};
 use host_core::{Life, LifeContents, LifeFile, ReopenFault, Shard};
 use host_log::Logged;
