@@ -1,5 +1,5 @@
 //! A log in a file of the file system.
-ghost use Rattle.std.specs.Prelude.{◌≡◌, ◌≤◌, ◌++◌, IfOk, IfSome, OnErr, OnOk, IsTrue, codes, option_map, string_bytes};
+ghost use Rattle.std.specs.Prelude.{◌≡◌, ◌≤◌, IfOk, IfSome, OnErr, OnOk, IsTrue, option_map, string_bytes};
 ghost use Rattle.std.specs.Fs.{asks_append, asks_create_new};
 ghost use Rattle.outside.specs.Faults.{Rose};
 ghost use Rattle.adapters.specs.Places.{IsPendingAt};
@@ -99,7 +99,7 @@ fn anew() -> OpenOptions
 
 /// Where the file of a new log stands: its path, and `.tmp` behind it.
 fn pending(alloc: Global, folder: &str, path: &str) -> io::Result<Place>
-    ensures { IfOk result (IsPendingAt folder.now (path.now ++ codes ".tmp")) }
+    ensures { IfOk result (IsPendingAt folder.now path.now) }
 {
     let temporary = format!(in alloc; "{path}.tmp")?;
     Ok(Place::Pending {
@@ -133,7 +133,7 @@ pub(crate) fn new_log<'a, R: Files>(
     path: String,
 ) -> io::Result<FileLog<'a, R>>
     ensures path { IfOk result (λ log. string_bytes log.path ≡ string_bytes path) }
-    ensures place { IfOk result (λ log. IsPendingAt folder.now (string_bytes path ++ codes ".tmp") log.place) }
+    ensures place { IfOk result (λ log. IsPendingAt folder.now (string_bytes log.path) log.place) }
 {
     if !is_free(rt, path.as_str())? {
         return Err(io::Error::from(ErrorKind::AlreadyExists));

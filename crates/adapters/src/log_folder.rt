@@ -1,5 +1,7 @@
 //! The folder of a host's logs.
 ghost use Rattle.std.specs.Prelude.{◌≡◌, ◌↔◌, ◌<◌, ◌≤◌, ◌⊎◌, ℕ, List, IfOk, IfSome, None, Some, map, option_map, string_bytes, vec_len};
+ghost use Rattle.std.specs.List.{AllByRecursion};
+ghost use Rattle.adapters.specs.Places.{IsPendingAt};
 ghost use Rattle.adapters.specs.LogNames.{AreLastPaths, ArePaths, Follows, HasLogOf, IsLast, IsLastPath, IsLogOf, IsNext, IsSegment, log_path, number_in, number_under, of_own, of_shard};
 
 use crate::appending::{FileLog, new_log};
@@ -269,6 +271,7 @@ pub fn new_logs<'a, R: Files>(
 ) -> io::Result<Vec<FileLog<'a, R>>>
     ensures count { IfOk result (λ all. vec_len all ≡ 16) }
     ensures paths { IfOk result (λ all. ArePaths folder.now number 0 (map (λ log. string_bytes log.path) all.items)) }
+    ensures pending { IfOk result (λ all. AllByRecursion (λ log. IsPendingAt folder.now (string_bytes log.path) log.place) all.items) }
 {
     let mut all = Vec::with_capacity(alloc, 16)?;
     for shard in 0..SHARDS {
@@ -287,7 +290,9 @@ pub fn next_logs<'a, R: Files>(
 ) -> io::Result<NextLogs<'a, R>>
     ensures count { IfOk result (λ next. vec_len next.logs ≡ 16) }
     ensures count_of_lasts { IfOk result (λ next. vec_len next.lasts ≡ 16) }
-    ensures paths { IfOk result (λ next. (names : List (List ℕ))
+    ensures paths { IfOk result (λ next. (number : ℕ) × ArePaths folder.now number 0 (map (λ log. string_bytes log.path) next.logs.items)) }
+    ensures pending { IfOk result (λ next. AllByRecursion (λ log. IsPendingAt folder.now (string_bytes log.path) log.place) next.logs.items) }
+    ensures follows { IfOk result (λ next. (names : List (List ℕ))
         × Follows folder.now names (map (option_map (λ log. string_bytes log.path)) next.lasts.items) (map (λ log. string_bytes log.path) next.logs.items)) }
 {
     let names = names_in(alloc, rt, folder)?;
@@ -310,7 +315,9 @@ pub fn open_logs<'a, R: Files<File = File>>(
 ) -> Result<HeldLogs<'a, R>, Unopened>
     ensures count { IfOk result (λ held. vec_len held.logs ≡ 16) }
     ensures count_of_lasts { IfOk result (λ held. vec_len held.lasts ≡ 16) }
-    ensures paths { IfOk result (λ held. (names : List (List ℕ))
+    ensures paths { IfOk result (λ held. (number : ℕ) × ArePaths folder.now number 0 (map (λ log. string_bytes log.path) held.logs.items)) }
+    ensures pending { IfOk result (λ held. AllByRecursion (λ log. IsPendingAt folder.now (string_bytes log.path) log.place) held.logs.items) }
+    ensures follows { IfOk result (λ held. (names : List (List ℕ))
         × Follows folder.now names (map (option_map (λ log. string_bytes log.path)) held.lasts.items) (map (λ log. string_bytes log.path) held.logs.items)) }
 {
     let lock = lock(rt, folder, files)?;
