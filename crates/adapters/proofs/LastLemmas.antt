@@ -56,9 +56,9 @@ number_under_of own name n small (fits, are) =
     let place : position_or_len is_dot name ≡ length (decimal own) = ap (λ (l : List ℕ). position_or_len is_dot l) are ∙ first_dot (decimal own) (decimal n) digits in
     own_parts (decimal own) (decimal n) name own n (position_or_len is_dot name) are place (decimal_of-decimal own (omega (arith, small))) (decimal_of-decimal n fits)
 
-only_segment : (own : ℕ) (name : List ℕ) (n m : ℕ) → own < 2 ^ 64 → IsSegment name own n → IsSegment name own m → n ≡ m
-only_segment own name n m small one two =
-    let same : Some n ≡ Some m = sym (number_under_of own name n small one) ∙ number_under_of own name m small two in cc same
+-- a name tells one number
+pub only_told : (told : Option ℕ) (one other : ℕ) → told ≡ Some one → told ≡ Some other → other ≡ one
+only_told told one other is again = let same : Some other ≡ Some one = sym again ∙ is in cc same
 
 abbrev pub IsAtMost : ℕ → Option ℕ → Type 0
 IsAtMost other None = ⊥
@@ -94,16 +94,16 @@ no_segment shard names name left last none far = record {
 }
 
 -- one that is, and the greater of its number and the last one
-pub one_segment : (shard : ℕ) (names : List (List ℕ)) (name : List ℕ) (left : List (List ℕ)) (last : Option ℕ) (one best : ℕ) → shard < 2 ^ 64 → IsSegment name shard one
-    → one ≤ best → IfSome last (λ number. number ≤ best) → (best ≡ one) ⊎ (last ≡ Some best)
+pub one_segment : (shard : ℕ) (names : List (List ℕ)) (name : List ℕ) (left : List (List ℕ)) (last : Option ℕ) (one best : ℕ) → IsSegment name shard one
+    → ((other : ℕ) → IsSegment name shard other → other ≡ one) → one ≤ best → IfSome last (λ number. number ≤ best) → (best ≡ one) ⊎ (last ≡ Some best)
     → IsLastSoFar shard names (name ∷ left) last → IsLastSoFar shard names left (Some best)
-one_segment shard names name left last one best small of more bound either far = record {
+one_segment shard names name left last one best of only more bound either far = record {
   there = elim either [
     | inl own ↦ subst (HasSegment names shard) (sym own) (far.inside one (inl of))
     | inr before ↦ subst (λ those. IfSome those (λ number. HasSegment names shard number)) before far.there
   ];
   greatest = λ other has. elim (far.greatest other has) [
-    | inl (inl own) ↦ inr (let same = only_segment shard name one other small of own in omega (arith, same, more))
+    | inl (inl own) ↦ inr (let same = only other own in omega (arith, same, more))
     | inl (inr others) ↦ inl others
     | inr below ↦ inr (at_most last other best below bound)
   ];
