@@ -46,11 +46,7 @@ fn a_new_log_has_its_name_after_its_first_sync(rt: HostRuntime) -> Result<(), Fa
     const FOLDER: &str = "outside_test_first_sync";
     let alloc = rt.alloc();
     empty_folder(&rt, FOLDER)?;
-    fs::write(
-        &rt,
-        "outside_test_first_sync/11.1.tmp",
-        b"old\n".as_slice(),
-    )?;
+    fs::write(&rt, "outside_test_first_sync/11.1.tmp", b"old\n".as_slice())?;
     let Ok(mut held) = open_logs(alloc, &rt, FOLDER, FILES) else {
         return Err(Fail::new("no logs were opened"));
     };
@@ -76,15 +72,7 @@ fn a_start_finds_the_last_log_of_each_shard(rt: HostRuntime) -> Result<(), Fail>
     const FOLDER: &str = "outside_test_last_logs";
     let alloc = rt.alloc();
     empty_folder(&rt, FOLDER)?;
-    for name in [
-        "3.9",
-        "3.10",
-        "3.11.tmp",
-        "4.2",
-        "13.1",
-        "1.20.tmp",
-        "5.08",
-    ] {
+    for name in ["3.9", "3.10", "3.11.tmp", "4.2", "13.1", "1.20.tmp", "5.08"] {
         let path = format!(in alloc; "{FOLDER}/{name}")?;
         fs::write(&rt, path.as_str(), name.as_bytes())?;
     }
@@ -144,7 +132,10 @@ fn a_start_that_stops_leaves_no_more_than_temporary_files(rt: HostRuntime) -> Re
         left.set(steps);
         let is_opened = next_logs(rt.alloc(), &stopping, FOLDER).is_ok();
         let (all, pending) = counted(&rt, FOLDER)?;
-        assert!(rt; is_opened == (steps == 33) && all == pending, "after {steps} steps");
+        assert!(rt;
+            is_opened == (steps == 33) && all == pending,
+            "after {steps} steps"
+        );
     }
     fs::remove_dir_all(&rt, FOLDER)?;
     Ok(())
@@ -172,12 +163,18 @@ fn a_first_sync_that_stops_at_any_step_fails(rt: HostRuntime) -> Result<(), Fail
         assert!(rt; append(log, b"first\n") == Ok(()));
         left.set(steps);
         let is_synced = log.sync() == Ok(());
-        assert!(rt; is_synced == (steps == 4) && log.cause().is_none() == is_synced, "after {steps} steps");
+        assert!(rt;
+            is_synced == (steps == 4) && log.cause().is_none() == is_synced,
+            "after {steps} steps"
+        );
         let is_named = holds(&rt, FOLDER, "11.1", b"first\n")?;
         assert!(rt; is_named == (steps > 1), "after {steps} steps");
         left.set(u32::MAX);
         let is_mended = log.sync() == Ok(());
-        assert!(rt; is_mended == (steps != 2 && steps != 3), "after {steps} steps");
+        assert!(rt;
+            is_mended == (steps != 2 && steps != 3),
+            "after {steps} steps"
+        );
     }
     fs::remove_dir_all(&rt, FOLDER)?;
     Ok(())

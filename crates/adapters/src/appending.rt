@@ -15,10 +15,7 @@ use std::rt::Files;
 #[derive(Drop)]
 enum Place {
     /// Under a temporary name, in the same folder as its path.
-    Pending {
-        temporary: String,
-        folder: String,
-    },
+    Pending { temporary: String, folder: String },
     /// At its path.
     Placed,
 }

@@ -43,7 +43,13 @@ pub(crate) fn keep<'a, R: Files<File = File>>(
 {
     match folder {
         Some(folder) => match open_logs(alloc, rt, folder, files) {
-            Ok(HeldLogs { lock, logs, lasts: _lasts }) => Ok(Kept {
+            Ok(
+                HeldLogs {
+                    lock,
+                    logs,
+                    lasts: _lasts,
+                },
+            ) => Ok(Kept {
                 lock: Some(lock),
                 logs,
             }),
