@@ -252,9 +252,9 @@ module _ {S K F N D C G L : Type 0} (m : Meanings S K F N D C G L) (every : Bool
         let was : m.folder_faults row.base.start.folder ≡ m.folder_faults row.life.folder = ap m.folder_faults (ap (λ (s : LogView F). s.folder) start ∙ is.life.paired.anew.folder_is) in
         let before : m.folder_faults row.base.start.folder + row.base.start.refused ≡ m.folder_faults row.life.folder = omega (arith, none, was) in
         let now : row.life.last.folder ≡ row.life.folder' = sym is.life.ended.folder_is in
-        let R1 : ℕ → Type 0 = λ n. RoseBy n (faults_in made) (m.folder_faults row.life.last.folder + row.life.last.refused) in
-        let R2 : F → Type 0 = λ f. RoseBy (m.folder_faults row.life.folder) (faults_in made) (m.folder_faults f + row.life.last.refused) in
-        subst R2 now (subst R1 before is.noted.lawful.faults)
+        let RoseFrom : ℕ → Type 0 = λ n. RoseBy n (faults_in made) (m.folder_faults row.life.last.folder + row.life.last.refused) in
+        let RoseOver : F → Type 0 = λ f. RoseBy (m.folder_faults row.life.folder) (faults_in made) (m.folder_faults f + row.life.last.refused) in
+        subst RoseOver now (subst RoseFrom before is.noted.lawful.faults)
 
     row_timely : IsTimely opened row.life.last.notes.made
     row_timely = subst (λ n. IsTimely n row.life.last.notes.made) (ap (λ (b : Begin). b.now) begin_is) is.noted.timely
