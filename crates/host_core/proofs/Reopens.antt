@@ -172,6 +172,13 @@ agrees_on only (Some start) (Some now) life opening files is mends own same = (
   λ name foreign. mends name ∙ mended_foreign only life.files.items start name own foreign,
 )
 
+-- so it does where it starts with what it is now
+pub agrees_itself : (only : Option ℕ) (start now : Option Files) (files : List ℕ → File) (torn : List ℕ → Bool) → Agrees only start now files torn → Agrees only now now files torn
+agrees_itself only None None files torn is = tt
+agrees_itself only None (Some now) files torn is = absurd is
+agrees_itself only (Some start) None files torn is = absurd is
+agrees_itself only (Some start) (Some now) files torn is = (is.0, λ name foreign. refl)
+
 pub keeps_live : (ids bytes : ℕ) (begin : Begin) → AreOnce (names_in begin.files) → live_ids begin.files ≤ ids → begin.last ≤ 2 ^ 63 - 1 → bytes ≡ live_bytes begin.files → KeepsLive ids begin [] begin.now begin.last bytes
 keeps_live ids bytes begin once fits low is =
     let settles = all-settled-ids begin.files (max begin.now begin.now) in

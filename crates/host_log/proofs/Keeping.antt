@@ -6,7 +6,7 @@ use Rattle.std.proofs.lemmas.List.{length-append}
 use Rattle.wopi_model.specs.Act.{is_stored}
 use Rattle.wopi_model.specs.declared.calls.Ruling.{Ruling}
 use Rattle.host_core.specs.Entries.{Asked, Made, accepted_contents, brought_by, ruled, ruled_as}
-use Rattle.host_core.specs.Notes.{Brought, TakesCalls, accepted, opening_listed, saved_in, told_version}
+use Rattle.host_core.specs.Notes.{Brought, accepted, saved_in, told_version}
 use Rattle.outside.specs.Log.{IsFront}
 use Rattle.host_log.specs.declared.logged.Logged.TheInside.{Inside}
 use Rattle.host_log.specs.declared.logged.Saved.{Saved}
@@ -31,11 +31,6 @@ nothing_saved (Some one) standing stands none = none_stands standing _ none (sta
 no_standing : (begun : Option Asked) (saved : Option Brought) (standing : Option Made) → MayStand begun saved standing → begun ≡ None → standing ≡ None
 no_standing begun saved None may none = refl
 no_standing begun saved (Some one) may none = let (asked, is, stored, stands) = may refl in absurd (cc (is, none))
-
--- any number of calls is taken
-pub takes_any : (calls : Option ℕ) → TakesCalls calls None
-takes_any None = refl
-takes_any (Some calls) = tt
 
 -- where neither is, none of two is
 pub neither_first : (a b : Bool) → (a || b) ≡ false → a ≡ false
@@ -343,8 +338,6 @@ module _ {F L : Type 0} where
         folder_is = refl;
         faults_are = count;
         log = refl;
-        opening = opening_listed i.opening.value.items;
-        begin_is = refl;
         head_is = inv.head_is;
         made = refl;
         rest = first.0;

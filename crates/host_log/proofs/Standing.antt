@@ -5,9 +5,9 @@ use Rattle.std.specs.Io.KnownBytes.{Appends}
 use Rattle.outside.specs.Faults.{Rose}
 use Rattle.outside.specs.Log.{IsFront}
 use Rattle.outside.specs.Stream.{GrewByPrefix}
-use Rattle.wopi_model.specs.Shard.{Opening}
+use Rattle.wopi_model.specs.Begin.{Begin}
 use Rattle.host_core.specs.Entries.{Made}
-use Rattle.host_log.specs.Rows.{Counts, TakenBack, IsLog, IsTail, is_synced, entry_text, off_line, opening_text, rows_text, standing_text}
+use Rattle.host_log.specs.Rows.{Counts, TakenBack, IsLog, IsTail, begin_text, is_synced, entry_text, off_line, rows_text, standing_text}
 use Rattle.host_log.specs.Lines.{AreLines, GoesOn, IsUntouched, LinesView}
 use Rattle.host_log.proofs.Growing.{log_new, log_cut, log_begun, cut_in_doubt, log_longer, log_synced, log_reached, log_idle, log_sure, front_in_doubt, back_in_doubt, rose_from}
 
@@ -72,16 +72,16 @@ headed v held synced tail new log =
     subst (λ (h : List ℕ). IsLog v.all v.start held synced h v.told tail) (sym new.head) told
 
 -- a front of a beginning was appended, and some of it was synced
-pub begun_torn : (v : LinesView) (held synced : Option (List ℕ)) (faults shard opened first : ℕ) (files : Opening) → AreLines v → v.untouched ≡ true
-    → GrewByPrefix v.held held (opening_text shard opened first files) → IsFront v.synced synced → v.faults ≤ faults → Rose v.faults faults
+pub begun_torn : (v : LinesView) (held synced : Option (List ℕ)) (faults shard : ℕ) (begin : Begin) → AreLines v → v.untouched ≡ true
+    → GrewByPrefix v.held held (begin_text shard begin) → IsFront v.synced synced → v.faults ≤ faults → Rose v.faults faults
     → AreLines (record v { untouched = false; held = held; synced = synced; lost = true; faults = faults })
-begun_torn v held synced faults shard opened first files are untouched grew front le rose =
+begun_torn v held synced faults shard begin are untouched grew front le rose =
     let new = are.fresh untouched in
     let reached : IsFront v.start synced = subst (λ (s : Option (List ℕ)). IsFront s synced) new.synced front in
     let cut : IsLog v.all v.start held synced [] [] grew.0 = log_cut v.all v.start held synced grew.0 (from_start v held grew.0 new grew.3) reached in
     record {
       tail = grew.0;
-      tail_is = (new.standing, cut_in_doubt v.head v.told v.doubt grew.0 new.doubt new.head new.told (shard, opened, first, files, grew.1, grew.2));
+      tail_is = (new.standing, cut_in_doubt v.head v.told v.doubt grew.0 new.doubt new.head new.told (shard, begin, grew.1, grew.2));
       log = headed v held synced grew.0 new cut;
       fresh = λ is. absurd (cc (is));
       sure = none_stands v.standing _ new.standing;
@@ -90,10 +90,10 @@ begun_torn v held synced faults shard opened first files are untouched grew fron
     }
 
 -- a beginning was appended and synced
-pub begun_sure : (v : LinesView) (held synced : Option (List ℕ)) (head : List ℕ) (faults shard opened first : ℕ) (files : Opening) → AreLines v → v.untouched ≡ true
-    → Appends v.held held (opening_text shard opened first files) → synced ≡ held → head ≡ opening_text shard opened first files → v.faults ≤ faults
+pub begun_sure : (v : LinesView) (held synced : Option (List ℕ)) (head : List ℕ) (faults shard : ℕ) (begin : Begin) → AreLines v → v.untouched ≡ true
+    → Appends v.held held (begin_text shard begin) → synced ≡ held → head ≡ begin_text shard begin → v.faults ≤ faults
     → AreLines (record v { untouched = false; head = head; held = held; synced = synced; faults = faults })
-begun_sure v held synced head faults shard opened first files are untouched grew all is le =
+begun_sure v held synced head faults shard begin are untouched grew all is le =
     let new = are.fresh untouched in
     let there : Appends v.held held head = subst (Appends v.held held) (sym is) grew in
     let log : IsLog v.all v.start held held head [] [] = log_begun v.all v.start held head (from_start v held head new there) in

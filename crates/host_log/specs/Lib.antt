@@ -1,4 +1,5 @@
 pub mod Begun
+pub mod Begins
 pub mod Rows
 pub mod Lines
 pub mod Logs

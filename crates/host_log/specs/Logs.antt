@@ -2,12 +2,11 @@
 use Rattle.std.specs.Prelude.{◌≡◌, ◌≤◌, ◌<◌, ◌^◌, ◌||◌, ⊤, Bool, true, false, ℕ, List, [], ◌∷◌, ◌++◌, length, Option, None, Some, is_some, option_map}
 use Rattle.std.specs.List.{AllByRecursion}
 use Rattle.wopi_model.specs.Act.{is_stored}
-use Rattle.wopi_model.specs.Begin.{new_life}
-use Rattle.wopi_model.specs.Shard.{Entry, Opening}
+use Rattle.wopi_model.specs.Shard.{Entry}
 use Rattle.host_core.specs.Entries.{Asked, Made, accepted_contents, asked_in, ruled, told_of}
 use Rattle.outside.specs.Faults.{Rose}
 use Rattle.outside.specs.Log.{IsFront}
-use Rattle.host_core.specs.Notes.{Notes, Brought, LogStart, accepted, opening_listed, told_version}
+use Rattle.host_core.specs.Notes.{Notes, Brought, LogStart, accepted, told_version}
 use Rattle.host_core.specs.Times.{steps_of}
 use Rattle.host_log.specs.declared.logged.Logged.TheInside.{Inside}
 use Rattle.host_log.specs.declared.logged.Saved.{Saved}
@@ -37,7 +36,7 @@ view_of l = record {
   shard = l.shard;
   folder = l.folder;
   notes = record {
-    begin = new_life (opening_listed l.opening.value.items) l.opened l.first;
+    begin = l.origin;
     made = l.lines.told ++ l.missing;
     begun = l.begun;
     saved = option_map brought_as l.saved;
@@ -86,7 +85,7 @@ pub record AreToldFirst (count : ℕ) (told missing : List Made) : Type 0 where
 abbrev pub AreUnsaved : List Made → Type 0
 AreUnsaved made = AllByRecursion (λ one. accepted_contents one ≡ None) made
 
--- Unless the log is lost each entry was told, and the line of what was saved stands. What was appended first is what was opened.
+-- Unless the log is lost each entry was told, and the line of what was saved stands. What was appended first is what the shard began with.
 pub record IsLogged {F L : Type 0} (l : Inside F L) : Type 0 where
   pub told : l.lines.lost ≡ false → l.missing ≡ []
   pub doubt_is : l.lines.lost ≡ true → IsDoubt l.begun l.missing l.lines.doubt
@@ -99,20 +98,18 @@ pub record IsLogged {F L : Type 0} (l : Inside F L) : Type 0 where
   pub few : l.count ≤ 2 ^ 62
   pub spare : l.spent ≡ false → l.count < 2 ^ 62
   pub full : l.spent ≡ true → l.count ≡ 2 ^ 62
-  pub head_is : l.lines.head ≡ head_of l.shard l.opened l.first (opening_listed l.opening.value.items)
+  pub head_is : l.lines.head ≡ head_of l.shard l.origin
   pub room : is_some l.begun ≡ true → l.count < 2 ^ 62
   pub may : AreToldFirst l.count l.lines.told l.missing
 
--- What a log holds at the end, has synced, and how often a call of it has failed; and the folder. What was appended is the beginning, then
+-- What a log holds at the end, has synced, and how often a call of it has failed; and the folder. What was appended is what the shard began with, then
 -- the lines of the entries that were told, and behind these nothing, or, once it was lost, a front of one line more. The entries that may be
 -- told are the first of those.
 pub record HasEnded {F : Type 0} (v : LogView F) (folder : F) (held synced : Option (List ℕ)) (faults : ℕ) : Type 0 where
   pub folder_is : folder ≡ v.folder
   pub faults_are : faults ≡ v.lines.faults
   pub log : v.notes.log ≡ Some (started v.shard v.lines)
-  pub opening : Opening
-  pub begin_is : v.notes.begin ≡ new_life opening v.notes.begin.opened v.notes.begin.first
-  pub head_is : v.lines.head ≡ head_of v.shard v.notes.begin.opened v.notes.begin.first opening
+  pub head_is : v.lines.head ≡ head_of v.shard v.notes.begin
   pub made : v.notes.made ≡ v.lines.told ++ v.missing
   pub rest : List Entry
   pub kept : steps_of v.lines.told ≡ told_of v.notes.made ++ rest

@@ -2,41 +2,81 @@
 use Rattle.std.specs.Prelude.{◌≡◌, ◌==◌, ◌&&◌, ℕ, Bool, true, false, List, [], ◌∷◌, ◌++◌, length, Option, None, Some, codes, decimal, if◌then◌else◌, not, option_map, unwrap_or}
 use Rattle.std.specs.List.{AllByRecursion, flat_map}
 use Rattle.std.specs.Io.KnownBytes.{Appends}
+use Rattle.kept_locks.specs.Locks.{Standing}
 use Rattle.wopi_text.specs.FileName.{shard_of}
 use Rattle.wopi_text.specs.Ids.{id_of}
 use Rattle.wopi_model.specs.Act.{is_stored}
 use Rattle.wopi_model.specs.declared.calls.Act.{Act}
 use Rattle.wopi_model.specs.declared.calls.Act.TheVariants as act
+use Rattle.wopi_model.specs.Begin.{Begin, new_life}
+use Rattle.wopi_model.specs.File.{File, opened_with}
 use Rattle.wopi_model.specs.Host.{shard_of_entry}
 use Rattle.wopi_model.specs.Shard.{Opening}
+use Rattle.wopi_model.specs.declared.locks.Lock.{Lock}
+use Rattle.wopi_model.specs.declared.locks.Spent.{Spent}
 use Rattle.host_core.specs.declared.file.KeptFile.{KeptFile}
 use Rattle.host_core.specs.Entries.{Asked, Made, accepted_contents, kept_act}
+use Rattle.host_core.specs.Files.{file_of}
+use Rattle.host_core.specs.Whole.{Whole}
 use Rattle.host_table.specs.Pieces.{place_text}
-use Rattle.host_table.specs.Text.{space, line_feed, act_text, call_text, optional_number, ruling_text, token_fields}
+use Rattle.host_table.specs.Text.{space, line_feed, act_text, call_text, hex_text, optional_number, ruling_text, token_fields}
 
 -- ---- the text of a beginning
 
--- the first line of a segment of that shard, which opened anew then: its time is that moment, and no entry stands before
-unfoldable pub head_line : ℕ → ℕ → ℕ → List ℕ
-head_line shard opened first =
+abbrev pub size_in : Option (List ℕ) → Option ℕ
+size_in contents = option_map (λ bytes. length bytes) contents
+
+-- the first line of a segment of that shard: when it opened anew and with which version, its time, and the stamp of the last entry before
+unfoldable pub head_line : ℕ → ℕ → ℕ → ℕ → ℕ → List ℕ
+head_line shard opened first now last =
     codes "wopi journal 3 shard "
-    ++ (decimal shard ++ (codes " opened " ++ (decimal opened ++ (codes " first " ++ (decimal first ++ (codes " now " ++ (decimal opened ++ (codes " last 0" ++ line_feed ∷ []))))))))
+    ++ (decimal shard ++ (codes " opened " ++ (decimal opened ++ (codes " first " ++ (decimal first ++ (codes " now " ++ (decimal now ++ (codes " last " ++ (decimal last ++ line_feed ∷ [])))))))))
 
--- a file of the opening, by name and contents: its name, its version and its size
-unfoldable pub at_line : ℕ → List ℕ × List ℕ → List ℕ
-at_line first file = codes "at " ++ (id_of file.0 ++ (codes " v" ++ (decimal first ++ (space ∷ (decimal (length file.1) ++ line_feed ∷ [])))))
+-- a file that was met: its name, its version and the size of its contents, if it has any
+unfoldable pub at_line : List ℕ → ℕ → Option ℕ → List ℕ
+at_line name version size = codes "at " ++ (id_of name ++ (codes " v" ++ (decimal version ++ (space ∷ (optional_number size ++ line_feed ∷ [])))))
 
--- the first line and the files', in the order of the opening
+-- the lock of a file, since when it is held and until when
+unfoldable pub held_line : List ℕ → Lock → List ℕ
+held_line name lock = codes "held " ++ (id_of name ++ (space ∷ (hex_text lock.id ++ (space ∷ (decimal lock.since ++ (space ∷ (decimal lock.until ++ line_feed ∷ [])))))))
+
+-- an id that is refused on a file, and until when
+unfoldable pub spent_line : List ℕ → Spent → List ℕ
+spent_line name one = codes "spent " ++ (id_of name ++ (space ∷ (hex_text one.id ++ (space ∷ (decimal one.until ++ line_feed ∷ [])))))
+
+abbrev pub held_text : List ℕ → Option Lock → List ℕ
+held_text name None = []
+held_text name (Some lock) = held_line name lock
+
+-- the lock of a file, and the ids that are refused on it, the one that ended last first
+abbrev pub locks_text : List ℕ → Standing → List ℕ
+locks_text name locks = held_text name locks.lock ++ flat_map (spent_line name) locks.spent
+
+-- a file by name, and behind it these
+abbrev pub file_text : List ℕ × File → List ℕ
+file_text file = at_line file.0 file.1.version (size_in file.1.contents) ++ locks_text file.0 (record { lock = file.1.lock; spent = file.1.spent })
+
+-- what a segment of that shard begins with: the first line, and the files in their order
+abbrev pub begin_text : ℕ → Begin → List ℕ
+begin_text shard begin = head_line shard begin.opened begin.first begin.now begin.last ++ flat_map file_text begin.files
+
+-- that of a shard that opened anew
 abbrev pub opening_text : ℕ → ℕ → ℕ → Opening → List ℕ
-opening_text shard opened first files = head_line shard opened first ++ flat_map (at_line first) files
+opening_text shard opened first files = begin_text shard (new_life files opened first)
 
--- the line of a file that the store is given
-abbrev pub kept_line : ℕ → KeptFile → List ℕ
-kept_line first file = at_line first (file.name, unwrap_or file.contents [])
+-- The shard's files begin with versions from 1 on: at 0 nothing was begun, and nothing stands there.
+abbrev pub head_of : ℕ → Begin → List ℕ
+head_of shard begin = if begin.first == 0 then [] else begin_text shard begin
 
--- That of a shard with files of that version. They have versions from 1 on: at 0 nothing was opened, and nothing stands there.
-abbrev pub head_of : ℕ → ℕ → ℕ → Opening → List ℕ
-head_of shard opened first files = if first == 0 then [] else opening_text shard opened first files
+-- ---- as it is kept
+
+-- a file with its locks
+abbrev pub whole_text : Whole → List ℕ
+whole_text kept = file_text (kept.name, file_of kept)
+
+-- a file that the store is given as it opens anew
+abbrev pub opened_text : ℕ → KeptFile → List ℕ
+opened_text first file = file_text (file.name, opened_with first (unwrap_or file.contents []))
 
 -- ---- the text of an entry
 
@@ -44,9 +84,6 @@ head_of shard opened first files = if first == 0 then [] else opening_text shard
 abbrev pub contents_text : Option (List ℕ) → List ℕ
 contents_text None = []
 contents_text (Some contents) = contents ++ line_feed ∷ []
-
-abbrev pub size_in : Option (List ℕ) → Option ℕ
-size_in contents = option_map (λ bytes. length bytes) contents
 
 -- an entry's line, which tells how many bytes were accepted, and these
 unfoldable pub entry_text : Made → List ℕ
@@ -124,7 +161,7 @@ standing_text (Some one) = entry_text one
 
 -- a front of a beginning
 abbrev pub IsOpeningCut : List ℕ → Type 0
-IsOpeningCut tail = (shard : ℕ) × (opened : ℕ) × (first : ℕ) × (files : Opening) × (rest : List ℕ) × (opening_text shard opened first files ≡ tail ++ rest)
+IsOpeningCut tail = (shard : ℕ) × (begin : Begin) × (rest : List ℕ) × (begin_text shard begin ≡ tail ++ rest)
 
 -- A front of the text of that entry, and maybe of what takes it back. Where no entry is in doubt the log was lost at its beginning.
 abbrev pub IsInDoubt : List ℕ → List Made → Option Made → List ℕ → Type 0

@@ -1,41 +1,36 @@
 //! What a segment begins with, in no memory.
 ghost use Rattle.std.specs.Prelude.{◌≡◌};
-ghost use Rattle.host_core.specs.Notes.{opening_listed};
-ghost use Rattle.host_log.specs.Rows.{opening_text};
+ghost use Rattle.host_log.specs.Begins.{begin_in};
+ghost use Rattle.host_log.specs.Rows.{begin_text};
 
-use host_core::KeptFile;
+use crate::origin::Origin;
+use crate::start::Start;
 use std::marker::Model;
-use std::snapshot::Snapshot;
 
-/// What a segment begins with: its shard, and what that opened with. No file is kept. A contract sees its text.
+/// What a segment begins with: its shard, and what that began with. A contract sees its text.
 #[derive(Drop)]
 pub struct Head {
     shard: u8,
-    opened: u64,
-    first: u64,
-    files: Snapshot<Vec<KeptFile>>,
+    origin: Origin,
 }
 
 impl Model for Head {
     ghost use Rattle.std.specs.Prelude.{List, ℕ};
-    ghost use Rattle.host_core.specs.Notes.{opening_listed};
-    ghost use Rattle.host_log.specs.Rows.{opening_text};
+    ghost use Rattle.host_log.specs.Rows.{begin_text};
 
     ghost Value = { List ℕ };
 
-    ghost view = { λ h. opening_text h.shard h.opened h.first (opening_listed h.files.value.items) };
+    ghost view = { λ h. begin_text h.shard h.origin };
 }
 
 impl Head {
-    /// Of a shard that opened then, over these files, each at that version.
-    pub fn of(shard: u8, opened: u64, first: u64, files: &Vec<KeptFile>) -> Head
-        ensures { result ≡ opening_text shard opened first (opening_listed files.now.items) }
+    /// Of a shard that begins so.
+    pub fn of(shard: u8, start: &Start<'_>) -> Head
+        ensures { result ≡ begin_text shard (begin_in start.now) }
     {
         Head {
             shard,
-            opened,
-            first,
-            files: Snapshot::of(files),
+            origin: Origin::of(start),
         }
     }
 }

@@ -1,7 +1,7 @@
 //! A store that appends the line of each entry to a log, and keeps none.
 //!
-//! A [`Logged`] is a folder beside a [`Log`](outside::Log). As it's opened, the beginning of a segment is appended and
-//! synced: whose shard it is, and what that begins with. Of a call that was begun it keeps what its line tells; once the
+//! A [`Logged`] is a folder beside a [`Log`](outside::Log). As a shard opens over it, or goes on there, the beginning of a
+//! segment is appended and synced: whose shard it is, and what that begins with. Of a call that was begun it keeps what its line tells; once the
 //! entry is ended its line stands in the log, and what contracts see of it is a [`Story`](story::Story).
 //!
 //! Where a call changes the folder, its line as accepted is appended and synced first. Where the folder then fails, the
@@ -16,6 +16,8 @@ mod head;
 mod lines;
 mod logged;
 mod note;
+mod origin;
+mod start;
 mod writing;
 
 pub use begun::Begun;
@@ -23,3 +25,5 @@ pub use head::Head;
 pub use lines::Lines;
 pub use logged::Logged;
 pub use note::Note;
+pub use origin::Origin;
+pub use start::Start;

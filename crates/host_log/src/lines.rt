@@ -2,15 +2,17 @@
 ghost use Rattle.std.specs.Prelude.{◌≡◌, ◌≤◌, ◌++◌, ◌∷◌, [], true, false, is_some, None, Some, OnErr, OnOk, option_map};
 ghost use Rattle.outside.specs.Faults.{Rose};
 ghost use Rattle.host_core.specs.Entries.{accepted_contents, ruled, ruled_as};
-ghost use Rattle.host_core.specs.Notes.{accepted, opening_listed};
-ghost use Rattle.host_log.specs.Rows.{is_synced, off_line, opening_text};
+ghost use Rattle.host_core.specs.Notes.{accepted};
+ghost use Rattle.host_log.specs.Begins.{begin_in};
+ghost use Rattle.host_log.specs.Rows.{begin_text, is_synced, off_line};
 ghost use Rattle.host_log.specs.Lines.{AreLines, GoesOn, IsOf, IsUntouched};
 
 use crate::begun::Begun;
 use crate::head::Head;
 use crate::note::Note;
-use crate::writing::{keep_opening, write_entry};
-use host_core::{KeptFile, Ruling};
+use crate::start::Start;
+use crate::writing::{keep_start, write_entry};
+use host_core::Ruling;
 use host_table::WriteRoom;
 use outside::{Failed, Log, append};
 use std::marker::Model;
@@ -174,16 +176,10 @@ impl<L: Log> Lines<L> {
         }
     }
 
-    /// Appends the beginning of a segment of that shard, which opened then over these files, and syncs it.
-    pub fn begin_with(
-        &mut self,
-        shard: u8,
-        opened: u64,
-        first: u64,
-        files: &Vec<KeptFile>,
-    ) -> Result<(), Failed>
+    /// Appends the beginning of a segment of that shard, and syncs it.
+    pub fn begin_with(&mut self, shard: u8, start: &Start<'_>) -> Result<(), Failed>
         requires { self.old.untouched ≡ true }
-        ensures head { OnOk result (self.new.head ≡ opening_text shard opened first (opening_listed files.now.items)) }
+        ensures head { OnOk result (self.new.head ≡ begin_text shard (begin_in start.now)) }
         ensures fine { OnOk result (self.new.lost ≡ false) }
         ensures none { OnErr result (self.new.head ≡ []) }
         ensures lost { OnErr result (self.new.lost ≡ true) }
@@ -197,9 +193,9 @@ impl<L: Log> Lines<L> {
         ensures never_falls { self.old.faults ≤ self.new.faults }
     {
         self.untouched = false;
-        match keep_opening(&mut self.log, &mut self.room, shard, opened, first, files) {
+        match keep_start(&mut self.log, &mut self.room, shard, start) {
             Ok(()) => {
-                self.head = Some(Head::of(shard, opened, first, files));
+                self.head = Some(Head::of(shard, start));
                 return Ok(());
             }
             Err(Failed) => {

@@ -1,16 +1,20 @@
 //! A folder beside a log of what a shard began with and of its entries.
-ghost use Rattle.std.specs.Prelude.{◌≡◌, ◌≤◌, ◌&&◌, [], ◌∷◌, ◌++◌, not, true, false, is_some, None, Some, IfErr, IfOk, OnErr, OnOk, option_map};
+ghost use Rattle.std.specs.Prelude.{◌≡◌, ◌≤◌, ◌+◌, ◌&&◌, [], ◌∷◌, ◌++◌, not, true, false, is_some, None, Some, IfErr, IfOk, IsErrOf, OnErr, OnOk, option_map};
 ghost use Rattle.outside.specs.Faults.{Rose};
+ghost use Rattle.outside.specs.Folder.{Keeps};
 ghost use Rattle.outside.specs.Log.{IsCutAt, IsFront};
 ghost use Rattle.host_core.specs.Entries.{accepted_contents, ruled, ruled_as};
 ghost use Rattle.host_core.specs.Notes.{accepted};
+ghost use Rattle.host_log.specs.Begins.{begin_in};
 ghost use Rattle.host_log.specs.Lines.{GoesOn, IsOf};
 ghost use Rattle.host_log.specs.Logs.{HasEnded, IsAnew};
 
 use crate::begun::Begun;
 use crate::lines::{Lines, keep_note};
 use crate::note::Note;
-use host_core::{Beginning, Contents, KeptFile, Ruling, Store};
+use crate::origin::Origin;
+use crate::start::Start;
+use host_core::{Beginning, Contents, KeptFile, Lasting, Ruling, Store, ToldLocks};
 use host_table::WriteRoom;
 use outside::{Failed, Folder, FolderRead, Log, Names, OutFault};
 use std::alloc::Global;
@@ -30,16 +34,14 @@ pub struct Saved {
 /// How many entries a log takes: 2^62, of which a machine that makes a million in a second has made half in 73,000 years.
 const MOST_ENTRIES: u64 = 4_611_686_018_427_387_904;
 
-/// The folder and the log of the shard of a number, and the call that was begun. Neither an opening file nor an entry is
-/// kept. Versions begin at 1, so `first` is 0 until something was opened.
+/// The folder and the log of the shard of a number, and the call that was begun. Neither what the shard began with nor an
+/// entry is kept. Versions begin at 1, so `first` is 0 until a shard began.
 #[derive(Drop)]
 pub struct Logged<F: Folder, L: Log> {
     shard: u8,
     folder: F,
     lines: Lines<L>,
-    opening: Snapshot<Vec<KeptFile>>,
-    opened: u64,
-    first: u64,
+    origin: Origin,
     missing: Story<Note>,
     count: u64,
     begun: Option<Begun>,
@@ -158,14 +160,11 @@ impl<F: Folder, L: Log> Logged<F, L> {
         ensures start { result.lines.start ≡ L.held log }
         ensures began { result.lines.began ≡ L.write_faults log }
     {
-        let none: Vec<KeptFile> = Vec::new(alloc);
         Logged {
             shard,
             folder,
             lines: Lines::new(log, room, syncs_all),
-            opening: Snapshot::of(&none),
-            opened: 0,
-            first: 0,
+            origin: Origin::none(alloc),
             missing: Story::new(),
             count: 0,
             begun: None,
@@ -201,6 +200,34 @@ impl<F: Folder, L: Log> Logged<F, L> {
         }
     }
 
+    /// A shard begins, where nothing was appended yet and none began before: the beginning of its segment is appended and
+    /// synced.
+    fn start(&mut self, start: &Start<'_>) -> Result<(), OutFault>
+        ensures begin { OnOk result (self.new.notes.begin ≡ begin_in start.now) }
+        ensures made { OnOk result (self.new.notes.made ≡ []) }
+        ensures begun { OnOk result (self.new.notes.begun ≡ None) }
+        ensures most { OnOk result (self.new.notes.most ≡ None) }
+        ensures going { OnOk result (self.new.lost ≡ false) }
+        ensures log { self.new.notes.log ≡ self.old.notes.log }
+        ensures files { Keeps (F.files self.old.folder) (F.files self.new.folder) }
+        ensures times { Keeps (F.times self.old.folder) (F.times self.new.folder) }
+        ensures never_falls { F.faults self.old.folder + self.old.refused ≤ F.faults self.new.folder + self.new.refused }
+        ensures failed { IsErrOf result OutFault.Failed → Rose (F.faults self.old.folder + self.old.refused) (F.faults self.new.folder + self.new.refused) }
+    {
+        if start.first == 0 || self.begun.is_some() || !self.lines.is_untouched() {
+            return Err(OutFault::Memory);
+        }
+        match self.lines.begin_with(self.shard, start) {
+            Ok(()) => {}
+            Err(Failed) => {
+                self.refused = self.refused.saturating_add(1);
+                return Err(OutFault::Failed);
+            }
+        }
+        self.origin = Origin::of(start);
+        Ok(())
+    }
+
     /// Whether each entry stands in the log: no call of it failed.
     pub fn is_whole(&self) -> bool
         ensures lost { result ≡ not self.now.lines.lost }
@@ -209,7 +236,7 @@ impl<F: Folder, L: Log> Logged<F, L> {
         !self.lines.is_lost()
     }
 
-    /// The folder, and the log. What was appended is what was opened, then the lines of the entries that were told, and behind
+    /// The folder, and the log. What was appended is what the shard began with, then the lines of the entries that were told, and behind
     /// these nothing, or, once it was lost, a front of one line more. The entries that may be told are the first of those.
     pub fn end(self) -> (F, L)
         ensures { HasEnded self result.0 (L.held result.1) (L.synced result.1) (L.write_faults result.1) }
@@ -218,9 +245,7 @@ impl<F: Folder, L: Log> Logged<F, L> {
             shard: _shard,
             folder,
             lines,
-            opening: _opening,
-            opened: _opened,
-            first: _first,
+            origin: _origin,
             missing: _missing,
             count: _count,
             begun: _begun,
@@ -233,8 +258,8 @@ impl<F: Folder, L: Log> Logged<F, L> {
 }
 
 impl<F: Folder, L: Log> Store for Logged<F, L> {
-    ghost use Rattle.std.specs.Prelude.{◌+◌, ◌⊎◌, Err, IsErrOf, true};
-    ghost use Rattle.outside.specs.Folder.{Keeps, OpensOnly, Removes, Replaces};
+    ghost use Rattle.std.specs.Prelude.{◌⊎◌, Err};
+    ghost use Rattle.outside.specs.Folder.{OpensOnly, Removes, Replaces};
     ghost use Rattle.host_core.specs.Notes.{IsBegunToRemove, IsBegunWith, StaysNoted};
     ghost use Rattle.std.proofs.Common.{refl};
 
@@ -274,20 +299,14 @@ impl<F: Folder, L: Log> Store for Logged<F, L> {
         first: u64,
         _calls: Option<u32>,
     ) -> Result<(), OutFault> {
-        if first == 0 || self.begun.is_some() || !self.lines.is_untouched() {
-            return Err(OutFault::Memory);
-        }
-        match self.lines.begin_with(self.shard, opened, first, opening) {
-            Ok(()) => {}
-            Err(Failed) => {
-                self.refused = self.refused.saturating_add(1);
-                return Err(OutFault::Failed);
-            }
-        }
-        self.opening = Snapshot::of(opening);
-        self.opened = opened;
-        self.first = first;
-        Ok(())
+        self.start(&Start {
+            opened,
+            first,
+            time: opened,
+            last: 0,
+            files: opening,
+            locks: None,
+        })
     }
 
     fn begin(&mut self, beginning: &Beginning<'_>) {
@@ -409,5 +428,35 @@ impl<F: Folder, L: Log> Store for Logged<F, L> {
 
     fn is_lost(&self) -> bool {
         self.lines.is_lost() || self.spent
+    }
+}
+
+impl<F: Folder, L: Log> Lasting for Logged<F, L> {
+    fn restore(&mut self, name: &str, contents: &[u8]) -> Result<(), OutFault> {
+        self.folder.replace(name, contents)
+    }
+
+    fn withdraw(&mut self, name: &str) -> Result<(), Failed> {
+        self.folder.remove(name)
+    }
+
+    fn go_on(
+        &mut self,
+        _alloc: Global,
+        files: &Vec<KeptFile>,
+        locks: &Vec<ToldLocks>,
+        opened: u64,
+        first: u64,
+        now: u64,
+        last: u64,
+    ) -> Result<(), OutFault> {
+        self.start(&Start {
+            opened,
+            first,
+            time: now,
+            last,
+            files,
+            locks: Some(locks),
+        })
     }
 }

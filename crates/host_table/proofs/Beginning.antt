@@ -79,7 +79,7 @@ module _ {F : Type 0} (files : F → Option Files) (times : F → Option Times) 
           first_is = ap (λ (z : Begin). z.first) life;
           limits_is = ap (λ (z : Book F). z.limits) a.0.book;
           unticked = ap (λ (z : Book F). z.ticked) a.0.book;
-          ordered = subst (λ (z : Begin). AreByName z.files) (sym life) (life_ordered oldest a.0.stood a.0.opening.ordered);
+          ordered = λ _. subst (λ (z : Begin). AreByName z.files) (sym life) (life_ordered oldest a.0.stood a.0.opening.ordered);
           names = subst P both (life_kept (Some number) oldest a.0.stood a.0.opening.taken);
         },
         begun_bases (number + 1) folders books a.1,

@@ -1,5 +1,5 @@
 -- What holds of a journal as a host leaves it.
-use Rattle.std.specs.Prelude.{unwrap_or, IsSomeAnd, IfSome}
+use Rattle.std.specs.Prelude.{true, is_some, unwrap_or, IsSomeAnd, IfSome}
 use Rattle.std.proofs.Common.{◌≡◌, ℕ, ◌+◌, ◌*◌, ◌≤◌, ◌<◌, Option, None, Some, ◌∙◌, List, [], ◌∷◌, length, map, refl, ap, sym, subst, arith, IsPermutation, length-append}
 use Rattle.std.proofs.lemmas.List.Sorted.{length_permutation}
 use Rattle.std.specs.List.{AllByRecursion}
@@ -63,21 +63,21 @@ module _ {F : Type 0} (files : F → Option Files) (faults : F → ℕ) where
       let all = length-append (spots_from j 0 p.made) (all_spots (j + 1) parts) in
       omega (arith, here, made, few, rest, all)
 
-  openings_are : (opened oldest : ℕ) (limits : Limits) (j : ℕ) (books : List (Book (InMemory F))) (parts : List (Left F)) (folders : List F) → AreTaken files faults books parts folders → AreBases opened oldest limits j (map as_opened books) → AreOpenings j parts
-  openings_are opened oldest limits j [] [] [] a b = tt
-  openings_are opened oldest limits j [] [] (f ∷ folders) a b = absurd a
-  openings_are opened oldest limits j [] (p ∷ parts) [] a b = absurd a
-  openings_are opened oldest limits j [] (p ∷ parts) (f ∷ folders) a b = absurd a
-  openings_are opened oldest limits j (h ∷ books) [] [] a b = absurd a
-  openings_are opened oldest limits j (h ∷ books) [] (f ∷ folders) a b = absurd a
-  openings_are opened oldest limits j (h ∷ books) (p ∷ parts) [] a b = absurd a
-  openings_are opened oldest limits j (h ∷ books) (p ∷ parts) (f ∷ folders) a b =
+  openings_are : (opened oldest : ℕ) (limits : Limits) → is_some limits.calls ≡ true → (j : ℕ) (books : List (Book (InMemory F))) (parts : List (Left F)) (folders : List F) → AreTaken files faults books parts folders → AreBases opened oldest limits j (map as_opened books) → AreOpenings j parts
+  openings_are opened oldest limits some j [] [] [] a b = tt
+  openings_are opened oldest limits some j [] [] (f ∷ folders) a b = absurd a
+  openings_are opened oldest limits some j [] (p ∷ parts) [] a b = absurd a
+  openings_are opened oldest limits some j [] (p ∷ parts) (f ∷ folders) a b = absurd a
+  openings_are opened oldest limits some j (h ∷ books) [] [] a b = absurd a
+  openings_are opened oldest limits some j (h ∷ books) [] (f ∷ folders) a b = absurd a
+  openings_are opened oldest limits some j (h ∷ books) (p ∷ parts) [] a b = absurd a
+  openings_are opened oldest limits some j (h ∷ books) (p ∷ parts) (f ∷ folders) a b =
       let life = life_is h p f a.0 in
       let first = h.begin.first in
       let P : Option ℕ × Begin → Type 0 = λ z. AllByRecursion (λ (file : List ℕ × File). MayKeep z.0 file.0) z.1.files in
       let both : (h.only, h.begin) ≡ (Some j, new_life p.opening h.begin.opened first) = λ i. (b.0.only i, life i) in (
-        (opening_ordered first p.opening (subst (λ (z : Begin). AreByName z.files) life b.0.ordered), opening_kept (Some j) first p.opening (subst P both b.0.names)),
-        openings_are opened oldest limits (j + 1) books parts folders a.1 b.1,
+        (opening_ordered first p.opening (subst (λ (z : Begin). AreByName z.files) life (b.0.ordered (ap (λ (l : Limits). is_some l.calls) b.0.limits_is ∙ some))), opening_kept (Some j) first p.opening (subst P both b.0.names)),
+        openings_are opened oldest limits some (j + 1) books parts folders a.1 b.1,
       )
 
   pub journal_kept : (host : HostView (InMemory F)) (calls : ℕ) (books : List (Book (InMemory F))) (parts : List (Left F)) (folders : List F) (sorted : List Spot) → IsHost host → host.limits ≡ kept_limits calls
@@ -93,7 +93,7 @@ module _ {F : Type 0} (files : F → Option Files) (faults : F → ℕ) where
         head = record {
           opened_is = is.opened_is;
           first_is = is.first_is;
-          openings_are = openings_are host.opened host.first host.limits 0 books parts folders taken bases;
+          openings_are = openings_are host.opened host.first host.limits (ap (λ (l : Limits). is_some l.calls) limits) 0 books parts folders taken bases;
         };
         few = omega (arith, long, same, few, small, sums);
       }

@@ -1,5 +1,5 @@
 -- A host and its passes, as contracts see them. (Own.)
-use Rattle.std.specs.Prelude.{◌≤◌, ◌≡◌, ⊤, ℕ, ◌+◌, ◌-◌, ◌/◌, max, ltb, Bool, false, List, [], ◌∷◌, ◌++◌, length, map, Option, None, Some, IfSome, slice_get, if◌then◌else◌}
+use Rattle.std.specs.Prelude.{◌≤◌, ◌≡◌, ⊤, ℕ, ◌+◌, ◌-◌, ◌/◌, max, ltb, Bool, true, false, List, [], ◌∷◌, ◌++◌, length, map, Option, None, Some, IfSome, is_some, slice_get, if◌then◌else◌}
 use Rattle.std.specs.List.{AllByRecursion, Contains}
 use Rattle.atomic_table.specs.Seated.{TableId}
 use Rattle.turn_lock.specs.Seats.{SeatValue}
@@ -160,14 +160,15 @@ module _ {F : Type 0} where
     seen = λ shard. seen_at (slice_get pass.seats shard);
   }
 
-  -- The shard of that number, as it was opened. All shards of a host have one opening, also where their lives go on.
+  -- The shard of that number, as it was opened. All shards of a host have one opening, also where their lives go on. The files of one that
+  -- takes so many calls stand by their names.
   pub record IsBase (opened first : ℕ) (limits : Limits) (shard : ℕ) (base : Book F) : Type 0 where
     pub only : base.only ≡ Some shard
     pub opened_is : base.begin.opened ≡ opened
     pub first_is : base.begin.first ≡ first
     pub limits_is : base.limits ≡ limits
     pub unticked : base.ticked ≡ false
-    pub ordered : AreByName base.begin.files
+    pub ordered : is_some base.limits.calls ≡ true → AreByName base.begin.files
     pub names : AllByRecursion (λ file. MayKeep base.only file.0) base.begin.files
 
   abbrev pub AreBases : ℕ → ℕ → Limits → ℕ → List (Book F) → Type 0

@@ -13,13 +13,14 @@ ghost use Rattle.host_core.specs.Opening.{AreDatesOf, IsFirstVersion, IsOpening,
 ghost use Rattle.host_core.specs.Times.{untimed};
 ghost use Rattle.wopi_text.specs.FileName.{shard_of};
 ghost use Rattle.host_table.specs.Histories.{last_stamp, as_opened, IsSeen};
+ghost use Rattle.host_table.specs.Reopen.{GoesOn, IsFaultOf, IsHandedOn};
 ghost use Rattle.host_table.specs.Start.{limits_of};
 ghost use Rattle.host_table.specs.Held.{Adds, AddsForEditor, Declines, IsGiven, IsTakenApart};
 
 use crate::opening::Most;
 use host_core::{
-    CallFault, Carried, EditorReceipt, Kept, Listing, Past, Placed, Receipt, Refusal, Shard,
-    StartFault, StepFault, Store, leave,
+    CallFault, Carried, EditorReceipt, Kept, Lasting, Life, Listing, Past, Placed, Receipt,
+    Refusal, ReopenFault, Shard, StartFault, StepFault, Store, leave,
 };
 use outside::Folder;
 use std::alloc::Global;
@@ -338,6 +339,30 @@ impl<F: Store> Held<F> {
         let Held { shard } = self;
         let (folder, _) = shard.end();
         folder
+    }
+}
+
+impl<F: Lasting> Held<F> {
+    /// Opens again the shard of that number over a store that takes any number of entries: it goes on with its life, which is told. A
+    /// refusal hands the store back.
+    pub fn reopen(
+        alloc: Global,
+        folder: F,
+        number: u8,
+        ids: u32,
+        life: Life,
+    ) -> Result<Held<F>, (F, ReopenFault)>
+        requires endless { F.endless ≡ true }
+        requires ids { (1 ≤ ids) × (ids ≤ 32768) }
+        requires number { number < 16 }
+        ensures going { IfOk result (GoesOn F.files F.times F.faults F.notes ids number life folder) }
+        ensures handed { IfErr result (λ refused. IsHandedOn F.files F.faults F.notes life folder refused.0) }
+        ensures blamed { IfErr result (λ refused. IsFaultOf F.files F.times F.faults ids number life folder refused.0 refused.1) }
+    {
+        match Shard::reopen(alloc, folder, Some(number), ids, life) {
+            Ok(shard) => return Ok(Held { shard }),
+            Err(refused) => return Err(refused),
+        }
     }
 }
 

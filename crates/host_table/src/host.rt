@@ -183,7 +183,7 @@ fn weigh_in_turn<F: Store, R: Wait>(
 }
 
 /// The host over these locks, and the pass of their first seats. `last` is the greatest of the shards' last stamps.
-fn begin<F: Store>(
+pub(crate) fn begin<F: Store>(
     alloc: Global,
     locks: Vec<TurnLock<Held<F>>>,
     seats: Vec<Seat<Held<F>>>,

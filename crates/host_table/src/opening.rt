@@ -24,7 +24,7 @@ pub(crate) enum Most {
 }
 
 /// Moves the rest behind what is there.
-fn move_all<T: Drop>(mut rest: IntoIter<T, Global>, into: &mut Vec<T>)
+pub(crate) fn move_all<T: Drop>(mut rest: IntoIter<T, Global>, into: &mut Vec<T>)
     requires len { into_iter_len rest ≡ length (into_iter_items rest) }
     requires room { vec_len into.old + into_iter_len rest ≤ vec_capacity into.old }
     ensures { into.new.items ≡ into.old.items ++ into_iter_items rest }

@@ -14,3 +14,6 @@ pub mod Texts
 pub mod Logged
 pub mod Stopped
 pub mod Own
+pub mod Setting
+pub mod Sized
+pub mod Living

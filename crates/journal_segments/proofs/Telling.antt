@@ -12,7 +12,7 @@ use Rattle.wopi_model.specs.File.{File, never_met}
 use Rattle.wopi_model.specs.Act.{lock_act}
 use Rattle.wopi_model.specs.LockTable.{lock_after, spent_by}
 use Rattle.wopi_model.specs.Settle.{settled, with_spent}
-use Rattle.wopi_model.specs.Step.{IsOutcome, after_step, effect, contents_after}
+use Rattle.wopi_model.specs.Step.{IsOutcome, after_step, effect}
 use Rattle.wopi_model.specs.Step as steps
 use Rattle.wopi_model.specs.Kept.{Shows}
 use Rattle.wopi_model.specs.Shard.{Shard, Tick, Step, IsAllowed, Along, last_from, at_moment, begun, happens, after, entries, stamps}
@@ -26,7 +26,7 @@ use Rattle.wopi_model.specs.Lives.{IsLeftBy}
 use Rattle.journal_text.specs.declared.text.Line.{Line}
 use Rattle.journal_segments.specs.declared.rows.Row.{Row}
 use Rattle.journal_segments.specs.declared.rows.Row.TheVariants as row
-use Rattle.journal_segments.specs.Told.{Placed, Told, Tells, asked, begin_of, contents_in, files_in, fresh_after, placed_after, settled_place, size_after, told_line, unmet, version_told, whole}
+use Rattle.journal_segments.specs.Told.{Placed, Told, Tells, asked, begin_of, contents_after, contents_in, files_in, placed_after, settled_place, told_line, unmet, version_told, whole}
 use Rattle.journal_segments.specs.Rows.{holding, told_holds}
 use Rattle.journal_segments.specs.Openings.{AreOf, GoOn, told_rows}
 use Rattle.wopi_model.proofs.Living.{at-put}
@@ -65,7 +65,7 @@ spent-same file (act.Create overwrite contents) (Some lock) expires = refl
 spent-same file act.Delete lock expires = refl
 
 contents-same : (kept : Option (List ℕ)) (place : Placed) (asks : Act) →
-    contents_in kept (size_after place.size (kept_act asks)) (fresh_after place.fresh (kept_act asks) (brought_by asks)) ≡ contents_after (whole kept place) asks
+    contents_in kept (contents_after place.contents (kept_act asks) (brought_by asks)) ≡ steps.contents_after (whole kept place) asks
 contents-same kept place act.Info = refl
 contents-same kept place (act.Get most) = refl
 contents-same kept place (act.Put id contents) = refl
@@ -199,7 +199,7 @@ tells-rows folder told shard (row.Off ∷ rows) made tells of go along = absurd 
 
 -- ---- what a shard begins with then
 
-begun-file : (folder : List ℕ → Option (List ℕ)) (first now : ℕ) (files : List (List ℕ × Placed)) (name : List ℕ) →
+pub begun-file : (folder : List ℕ → Option (List ℕ)) (first now : ℕ) (files : List (List ℕ × Placed)) (name : List ℕ) →
     at_name (never_met first) (map (λ one. (one.0, settled (whole (folder one.0) one.1) now)) files) name ≡ settled (whole (folder name) (at_name (unmet first) files name)) now
 begun-file folder first now [] name = refl
 begun-file folder first now (one ∷ files) name =

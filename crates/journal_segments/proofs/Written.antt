@@ -1,5 +1,5 @@
 -- The lines of a beginning, and the lines that count.
-use Rattle.std.proofs.Common.{◌≡◌, ◌≤◌, ℕ, List, [], ◌∷◌, ◌++◌, Option, None, Some, refl, ap, sym, ◌∙◌, subst, arith, append_assoc, append-nil}
+use Rattle.std.proofs.Common.{◌≡◌, ◌≤◌, ℕ, false, List, [], ◌∷◌, ◌++◌, Option, None, Some, refl, ap, sym, ◌∙◌, subst, arith, append_assoc, append-nil}
 use Rattle.std.specs.Prelude.{map}
 use Rattle.std.specs.List.{AllByRecursion}
 use Rattle.wopi_model.specs.declared.locks.Lock.{Lock}
@@ -9,23 +9,28 @@ use Rattle.journal_segments.specs.declared.rows.Row.{Row}
 use Rattle.journal_segments.specs.declared.rows.Row.TheVariants as row
 use Rattle.journal_segments.specs.declared.state.State.{State}
 use Rattle.journal_segments.specs.declared.state.Pending.TheVariants as pending
-use Rattle.journal_segments.specs.Told.{Placed, Told}
+use Rattle.host_core.specs.declared.life.LifeContents.{LifeContents}
+use Rattle.host_core.specs.declared.life.LifeContents.TheVariants as has
+use Rattle.host_core.specs.Life.{is_changed}
+use Rattle.journal_segments.specs.Places.{AreOnce}
+use Rattle.journal_segments.specs.Told.{Placed, Told, size_told}
 use Rattle.journal_segments.specs.declared.state.Pending.{Pending}
-use Rattle.journal_segments.specs.Rows.{AreRows, IsSpent, MayBegin, MayTakeBack, now_with, placed_at, spent_place, start, state_after, step, told_by, told_holds, told_with}
+use Rattle.journal_segments.specs.Rows.{AreRows, IsSpent, MayBegin, MayTakeBack, left_as, now_with, placed_at, spent_place, start, state_after, step, told_by, told_holds, told_with}
 use Rattle.wopi_model.specs.Shard.{Along, IsAllowed, begun}
 use Rattle.host_core.specs.Entries.{Made, history_of, items_of}
 use Rattle.wopi_model.specs.Begin.{Begin}
 use Rattle.wopi_model.specs.Lives.{IsLeftBy}
 use Rattle.journal_segments.specs.Told.{Tells, begin_of}
 use Rattle.journal_segments.proofs.Going.{rows-append, state-append}
+use Rattle.journal_segments.proofs.Once.{AreNew, IsBeginning, all_new, may_begin, new_push}
 use Rattle.journal_segments.proofs.Telling.{left}
-use Rattle.journal_segments.specs.Openings.{AreBehind, AreEntries, AreOf, GoOn, IsPlaced, MayBeHeld, counted, held_rows, opening_rows, place_rows, told_of, told_row, told_rows}
+use Rattle.journal_segments.specs.Openings.{AreEntries, AreOf, GoOn, IsPlaced, MayBeHeld, counted, held_rows, opening_rows, place_rows, told_of, told_row, told_rows}
 
-abbrev at_file : ℕ → Told → List ℕ → Placed → State
+abbrev pub at_file : ℕ → Told → List ℕ → Placed → State
 at_file shard told name place = record { shard = shard; told = told; pending = pending.File name place }
 
 abbrev made : ℕ → Option ℕ → Option Lock → List Spent → Placed
-made version size lock spent = record { version = version; size = size; lock = lock; spent = spent; fresh = None }
+made version size lock spent = record { version = version; contents = left_as size; lock = lock; spent = spent }
 
 -- ---- one file
 
@@ -42,12 +47,18 @@ after-parts : (state : State) (name : List ℕ) (version : ℕ) (size : Option �
 after-parts state name version size None spent = after-spent state.shard (told_with state.told state.pending) name version size None [] spent
 after-parts state name version size (Some lock) spent = after-spent state.shard (told_with state.told state.pending) name version size (Some lock) [] spent
 
-after-file : (state : State) (file : List ℕ × Placed) → file.1.fresh ≡ None →
+left-same : (told : LifeContents) → is_changed told ≡ false → left_as (size_told told) ≡ told
+left-same has.Absent left = refl
+left-same (has.Left size) left = refl
+left-same has.Removed left = absurd (cc left)
+left-same (has.Told bytes) left = absurd (cc left)
+
+pub after-file : (state : State) (file : List ℕ × Placed) → is_changed file.1.contents ≡ false →
     state_after state (place_rows file) ≡ at_file state.shard (told_with state.told state.pending) file.0 file.1
-after-file state file none =
-    let place : Option (List ℕ) → Placed = λ fresh. record { version = file.1.version; size = file.1.size; lock = file.1.lock; spent = file.1.spent; fresh = fresh } in
-    after-parts state file.0 file.1.version file.1.size file.1.lock file.1.spent
-    ∙ ap (λ (fresh : Option (List ℕ)). at_file state.shard (told_with state.told state.pending) file.0 (place fresh)) (sym none)
+after-file state file left =
+    let place : LifeContents → Placed = λ contents. record { version = file.1.version; contents = contents; lock = file.1.lock; spent = file.1.spent } in
+    after-parts state file.0 file.1.version (size_told file.1.contents) file.1.lock file.1.spent
+    ∙ ap (λ (contents : LifeContents). at_file state.shard (told_with state.told state.pending) file.0 (place contents)) (left-same file.1.contents left)
 
 spent-rows : (shard : ℕ) (told : Told) (name : List ℕ) (place : Placed) (spent : List Spent) → AllByRecursion (IsSpent name) spent →
     AreRows (at_file shard told name place) (map (λ one. row.Spent name one) spent)
@@ -59,16 +70,16 @@ held-rows : (shard : ℕ) (told : Told) (name : List ℕ) (version : ℕ) (size 
 held-rows shard told name version size None spent held are = spent-rows shard told name (placed_at version size) spent are
 held-rows shard told name version size (Some lock) spent held are = ((held, refl), (refl, refl, refl), spent-rows shard told name (made version size (Some lock) []) spent are)
 
-file-rows : (state : State) (file : List ℕ × Placed) → IsPlaced state.shard file → MayBegin state.pending file.0 → AreRows state (place_rows file)
+file-rows : (state : State) (file : List ℕ × Placed) → IsPlaced state.shard file → MayBegin state.told state.pending file.0 → AreRows state (place_rows file)
 file-rows state file is begins =
-    ((is.at_is, refl), (is.own, begins), held-rows state.shard (told_with state.told state.pending) file.0 file.1.version file.1.size file.1.lock file.1.spent is.lock_is is.spent_are)
+    ((is.at_is, refl), (is.own, begins), held-rows state.shard (told_with state.told state.pending) file.0 file.1.version (size_told file.1.contents) file.1.lock file.1.spent is.lock_is is.spent_are)
 
 -- ---- all files
 
 abbrev with_files : Told → List (List ℕ × Placed) → Told
 with_files told files = record { opened = told.opened; first = told.first; now = told.now; last = told.last; files = told.files ++ files }
 
-abbrev all_told : State → Told
+abbrev pub all_told : State → Told
 all_told state = told_with state.told state.pending
 
 told-files : (state : State) (files : List (List ℕ × Placed)) → AllByRecursion (IsPlaced state.shard) files → all_told (state_after state (opening_rows files)) ≡ with_files (all_told state) files
@@ -80,27 +91,30 @@ told-files state (file ∷ files) are =
     let told = all_told state in
     let put : List (List ℕ × Placed) → Told = λ l. record { opened = told.opened; first = told.first; now = told.now; last = told.last; files = l } in
     let next = at_file state.shard told file.0 file.1 in
-    ap all_told (state-append state (place_rows file) (opening_rows files) ∙ ap (λ (s : State). state_after s (opening_rows files)) (after-file state file are.0.none))
+    ap all_told (state-append state (place_rows file) (opening_rows files) ∙ ap (λ (s : State). state_after s (opening_rows files)) (after-file state file are.0.left))
     ∙ told-files next files are.1
     ∙ ap put (append_assoc told.files (file ∷ []) files)
 
-files-rows : (state : State) (files : List (List ℕ × Placed)) → AllByRecursion (IsPlaced state.shard) files → AreBehind state.pending files → AreRows state (opening_rows files)
-files-rows state [] are behind = tt
-files-rows state (file ∷ files) are behind =
-    let next = at_file state.shard (all_told state) file.0 file.1 in
-    rows-append state (place_rows file) (opening_rows files) (file-rows state file are.0 behind.0)
-    (subst (λ (s : State). AreRows s (opening_rows files)) (sym (after-file state file are.0.none)) (files-rows next files are.1 behind.1))
+files-rows : (state : State) (files : List (List ℕ × Placed)) → AllByRecursion (IsPlaced state.shard) files → AreOnce files → AreNew (all_told state).files files → IsBeginning state.pending →
+    AreRows state (opening_rows files)
+files-rows state [] are once new first = tt
+files-rows state (file ∷ files) are once new first =
+    let told = all_told state in
+    let next = at_file state.shard told file.0 file.1 in
+    rows-append state (place_rows file) (opening_rows files) (file-rows state file are.0 (may_begin state.told state.pending file.0 first new.0))
+    (subst (λ (s : State). AreRows s (opening_rows files)) (sym (after-file state file are.0.left))
+    (files-rows next files are.1 once.1 (new_push told.files files file.0 file.1 new.1 once.0) tt))
 
 pub no-entry : (state : State) (files : List (List ℕ × Placed)) → AllByRecursion (IsPlaced state.shard) files → (MayTakeBack state.pending → ⊥) → MayTakeBack (state_after state (opening_rows files)).pending → ⊥
 no-entry state [] are not = not
 no-entry state (file ∷ files) are not =
     let next = at_file state.shard (all_told state) file.0 file.1 in
     let is : state_after state (opening_rows (file ∷ files)) ≡ state_after next (opening_rows files) =
-    state-append state (place_rows file) (opening_rows files) ∙ ap (λ (s : State). state_after s (opening_rows files)) (after-file state file are.0.none) in
+    state-append state (place_rows file) (opening_rows files) ∙ ap (λ (s : State). state_after s (opening_rows files)) (after-file state file are.0.left) in
     subst (λ (s : State). MayTakeBack s.pending → ⊥) (sym is) (no-entry next files are.1 (λ h. h))
 
-pub begins : (head : Head) (files : List (List ℕ × Placed)) → AllByRecursion (IsPlaced head.shard) files → AreBehind pending.Start files → AreRows (start head) (opening_rows files)
-begins head files are behind = files-rows (start head) files are behind
+pub begins : (head : Head) (files : List (List ℕ × Placed)) → AllByRecursion (IsPlaced head.shard) files → AreOnce files → AreRows (start head) (opening_rows files)
+begins head files are once = files-rows (start head) files are once (all_new files) tt
 
 pub begun_tells : (head : Head) (files : List (List ℕ × Placed)) → AllByRecursion (IsPlaced head.shard) files → told_by head (opening_rows files) ≡ told_of head files
 begun_tells head files are = told-files (start head) files are

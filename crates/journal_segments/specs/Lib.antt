@@ -6,3 +6,4 @@ pub mod Seen
 pub mod Reading
 pub mod Openings
 pub mod Logs
+pub mod Lives

@@ -1,20 +1,19 @@
 -- The lines of the files that were met, and the lines that count. (Own.)
-use Rattle.std.specs.Prelude.{◌≡◌, ⊤, ℕ, ◌≤◌, List, [], ◌∷◌, ◌++◌, map, Option, None, Some}
+use Rattle.std.specs.Prelude.{◌≡◌, ⊤, ℕ, ◌≤◌, false, List, [], ◌∷◌, ◌++◌, map, Option, None, Some}
 use Rattle.std.specs.List.{AllByRecursion, flat_map}
 use Rattle.wopi_text.specs.FileName.{shard_of}
 use Rattle.wopi_model.specs.declared.locks.Lock.{Lock}
 use Rattle.journal_segments.specs.declared.rows.Head.{Head}
 use Rattle.journal_segments.specs.declared.rows.Row.{Row}
 use Rattle.journal_segments.specs.declared.rows.Row.TheVariants as row
-use Rattle.journal_segments.specs.declared.state.Pending.{Pending}
-use Rattle.journal_segments.specs.declared.state.Pending.TheVariants as pending
 use Rattle.wopi_model.specs.Shard.{Shard, Step, at_moment, happens}
 use Rattle.host_core.specs.Entries.{Made}
+use Rattle.host_core.specs.Life.{is_changed}
 use Rattle.journal_text.specs.Told.{line_of}
-use Rattle.journal_segments.specs.Told.{Placed, Told, told_line}
+use Rattle.journal_segments.specs.Told.{Placed, Told, size_told, told_line}
 use Rattle.wopi_model.specs.declared.locks.Spent.{Spent}
 use Rattle.journal_text.specs.Journals.{row_text}
-use Rattle.journal_segments.specs.Rows.{IsAt, IsHeld, IsSpent, MayBegin, at_words, head_words, held_words, spent_words, told_holds}
+use Rattle.journal_segments.specs.Rows.{IsAt, IsHeld, IsSpent, at_words, head_words, held_words, spent_words, told_holds}
 
 abbrev pub held_rows : List ℕ → Option Lock → List Row
 held_rows name None = []
@@ -22,7 +21,7 @@ held_rows name (Some lock) = row.Held name lock ∷ []
 
 -- a file, its lock, and its spent ids
 abbrev pub place_rows : List ℕ × Placed → List Row
-place_rows file = row.At file.0 file.1.version file.1.size ∷ (held_rows file.0 file.1.lock ++ map (λ one. row.Spent file.0 one) file.1.spent)
+place_rows file = row.At file.0 file.1.version (size_told file.1.contents) ∷ (held_rows file.0 file.1.lock ++ map (λ one. row.Spent file.0 one) file.1.spent)
 
 abbrev pub opening_rows : List (List ℕ × Placed) → List Row
 opening_rows files = flat_map place_rows files
@@ -35,18 +34,13 @@ abbrev pub MayBeHeld : List ℕ → Option Lock → Type 0
 MayBeHeld name None = ⊤
 MayBeHeld name (Some lock) = IsHeld name lock
 
--- what a beginning may tell of a file: no line has brought contents
+-- what a beginning may tell of a file: no line has changed its contents
 pub record IsPlaced (shard : ℕ) (file : List ℕ × Placed) : Type 0 where
   pub own : shard_of file.0 ≡ shard
-  pub at_is : IsAt file.0 file.1.version file.1.size
+  pub at_is : IsAt file.0 file.1.version (size_told file.1.contents)
   pub lock_is : MayBeHeld file.0 file.1.lock
   pub spent_are : AllByRecursion (IsSpent file.0) file.1.spent
-  pub none : file.1.fresh ≡ None
-
--- files by the bytes of their names, behind what stood before
-abbrev pub AreBehind : Pending → List (List ℕ × Placed) → Type 0
-AreBehind before [] = ⊤
-AreBehind before (file ∷ files) = MayBegin before file.0 × AreBehind (pending.File file.0 file.1) files
+  pub left : is_changed file.1.contents ≡ false
 
 -- ---- the lines that count
 
@@ -97,7 +91,7 @@ held_text name None = []
 held_text name (Some lock) = row_text (held_words name lock)
 
 abbrev pub place_text : List ℕ × Placed → List ℕ
-place_text file = row_text (at_words file.0 file.1.version file.1.size) ++ (held_text file.0 file.1.lock ++ flat_map (spent_text file.0) file.1.spent)
+place_text file = row_text (at_words file.0 file.1.version (size_told file.1.contents)) ++ (held_text file.0 file.1.lock ++ flat_map (spent_text file.0) file.1.spent)
 
 abbrev pub opening_text : Head → List (List ℕ × Placed) → List ℕ
 opening_text head files = row_text (head_words head) ++ flat_map place_text files

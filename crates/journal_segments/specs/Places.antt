@@ -1,7 +1,7 @@
 -- The place of a name.
 use Rattle.std.specs.Prelude.{◌≡◌, ⊤, ℕ, suc, List, [], ◌∷◌, Option, None, Some, option_map, if◌then◌else◌}
 use Rattle.std.specs.Str.{bytes_eq}
-use Rattle.wopi_text.specs.FileName.{shard_of}
+use Rattle.host_core.specs.Opening.{MayKeep}
 use Rattle.name_index.specs.Index.{number_of}
 
 -- the first of that name
@@ -14,10 +14,10 @@ abbrev pub AreOnce : {A : Type 0} → List (List ℕ × A) → Type 0
 AreOnce [] = ⊤
 AreOnce (one ∷ rest) = (place_in rest one.0 ≡ None) × AreOnce rest
 
--- each name is of the shard
+-- each is the name of a file of the shard
 abbrev pub AreOwn : {A : Type 0} → ℕ → List (List ℕ × A) → Type 0
 AreOwn shard [] = ⊤
-AreOwn shard (one ∷ rest) = (shard_of one.0 ≡ shard) × AreOwn shard rest
+AreOwn shard (one ∷ rest) = MayKeep (Some shard) one.0 × AreOwn shard rest
 
 -- the numbers of names are their places
 abbrev pub IsNumbered : {A : Type 0} → List (List ℕ × ℕ) → List (List ℕ × A) → Type 0

@@ -1,9 +1,7 @@
 -- The lines of a segment, and what one after another tells. (Own.)
-use Rattle.std.specs.Prelude.{◌≡◌, ◌⊎◌, ⊤, ℕ, ◌<◌, ◌≤◌, List, [], ◌∷◌, ◌++◌, length, Option, None, Some, codes, decimal}
+use Rattle.std.specs.Prelude.{◌≡◌, ◌⊎◌, ⊤, ℕ, ◌<◌, ◌≤◌, false, List, [], ◌∷◌, ◌++◌, length, Option, None, Some, codes, decimal}
 use Rattle.std.specs.List.{flat_map}
-use Rattle.std.specs.Ordering.{nat_cmp}
-use Rattle.std.specs.declared.cmp.Ordering.TheVariants.{Less}
-use Rattle.std.specs.Cmp.Lexicographic.{slice_cmp}
+use Rattle.std.specs.Str.{bytes_eq}
 use Rattle.wopi_text.specs.FileName.{IsFileName, shard_of}
 use Rattle.wopi_text.specs.Ids.{id_of}
 use Rattle.wopi_text.specs.LockId.{IsLockId}
@@ -11,13 +9,16 @@ use Rattle.wopi_model.specs.Moment.{IsMoment}
 use Rattle.wopi_model.specs.declared.locks.Lock.{Lock}
 use Rattle.wopi_model.specs.declared.locks.Spent.{Spent}
 use Rattle.host_core.specs.Opening.{IsFirstVersion}
+use Rattle.host_core.specs.declared.life.LifeContents.{LifeContents}
+use Rattle.host_core.specs.declared.life.LifeContents.TheVariants as has
 use Rattle.host_table.specs.Text.{hex_text, optional_number}
 use Rattle.journal_text.specs.declared.text.Line.{Line}
 use Rattle.wopi_model.specs.Begin.{at_name, put_name}
 use Rattle.journal_text.specs.Lines.{Fits, IsBare, MayFit, told_size}
 use Rattle.journal_text.specs.Words.{IsRow, bare_words}
 use Rattle.journal_text.specs.Journals.{row_text}
-use Rattle.journal_segments.specs.Told.{Placed, Told, told_line, unmet}
+use Rattle.journal_segments.specs.Places.{place_in}
+use Rattle.journal_segments.specs.Told.{Placed, Told, told_as, told_line, unmet}
 use Rattle.journal_segments.specs.Line.{contents_text, holds_words, off_words, size_in}
 use Rattle.journal_segments.specs.declared.rows.Head.{Head}
 use Rattle.journal_segments.specs.declared.rows.Row.{Row}
@@ -144,14 +145,19 @@ told_at state = told_with state.told state.pending
 abbrev pub shard_at : State → ℕ
 shard_at state = state.shard
 
+-- contents of that size, which no line has changed
+abbrev pub left_as : Option ℕ → LifeContents
+left_as None = has.Absent
+left_as (Some size) = has.Left size
+
 abbrev pub placed_at : ℕ → Option ℕ → Placed
-placed_at version size = record { version = version; size = size; lock = None; spent = []; fresh = None }
+placed_at version size = record { version = version; contents = left_as size; lock = None; spent = [] }
 
 abbrev pub held_place : Placed → Lock → Placed
-held_place place lock = record { version = place.version; size = place.size; lock = Some lock; spent = place.spent; fresh = place.fresh }
+held_place place lock = record { version = place.version; contents = place.contents; lock = Some lock; spent = place.spent }
 
 abbrev pub spent_place : Placed → Spent → Placed
-spent_place place one = record { version = place.version; size = place.size; lock = place.lock; spent = place.spent ++ one ∷ []; fresh = place.fresh }
+spent_place place one = record { version = place.version; contents = place.contents; lock = place.lock; spent = place.spent ++ one ∷ [] }
 
 abbrev pub pending_held : Pending → Lock → Pending
 pending_held (pending.File name place) lock = pending.File name (held_place place lock)
@@ -163,7 +169,7 @@ pending_spent other one = other
 
 -- what stands under a name
 abbrev pub holding : Placed → Option (List ℕ) → Placed
-holding place contents = record { version = place.version; size = size_in contents; lock = place.lock; spent = place.spent; fresh = contents }
+holding place contents = record { version = place.version; contents = told_as contents; lock = place.lock; spent = place.spent }
 
 abbrev pub told_holds : Told → List ℕ → Option (List ℕ) → Told
 told_holds told name contents =
@@ -187,12 +193,12 @@ step state (row.Holds name contents) =
 
 -- ---- which line may come next
 
--- files come first, by the bytes of their names
-abbrev pub MayBegin : Pending → List ℕ → Type 0
-MayBegin pending.Start name = ⊤
-MayBegin (pending.File last place) name = slice_cmp nat_cmp last name ≡ Less
-MayBegin (pending.Entry line) name = ⊥
-MayBegin pending.Done name = ⊥
+-- files come first, each name once
+abbrev pub MayBegin : Told → Pending → List ℕ → Type 0
+MayBegin told pending.Start name = place_in told.files name ≡ None
+MayBegin told (pending.File last place) name = (bytes_eq last name ≡ false) × (place_in told.files name ≡ None)
+MayBegin told (pending.Entry line) name = ⊥
+MayBegin told pending.Done name = ⊥
 
 -- a file's lock stands behind its line, before its spent ids
 abbrev pub MayHold : Pending → List ℕ → Type 0
@@ -231,7 +237,7 @@ MayStand (pending.Entry line) name = (line.name ≡ name) × (line.status ≡ 50
 MayStand _ name = ⊥
 
 abbrev pub MayCome : State → Row → Type 0
-MayCome state (row.At name version size) = (shard_of name ≡ state.shard) × MayBegin state.pending name
+MayCome state (row.At name version size) = (shard_of name ≡ state.shard) × MayBegin state.told state.pending name
 MayCome state (row.Held name lock) = MayHold state.pending name
 MayCome state (row.Spent name one) = MaySpend state.pending name
 MayCome state (row.Entry line) = MayEnter state.shard (now_with state.told state.pending) (last_with state.told state.pending) line

@@ -1,5 +1,5 @@
 -- What the lines of a segment leave, told by their rulings alone. (Own.)
-use Rattle.std.specs.Prelude.{◌≡◌, ⊤, ℕ, ◌-◌, Bool, false, ◌&&◌, ◌==◌, nat_lt, List, [], ◌∷◌, map, Option, None, Some, unwrap_or, if◌then◌else◌}
+use Rattle.std.specs.Prelude.{◌≡◌, ⊤, ℕ, ◌-◌, Bool, false, ◌&&◌, ◌==◌, nat_lt, List, [], ◌∷◌, length, map, Option, None, Some, unwrap_or, if◌then◌else◌}
 use Rattle.std.specs.Str.{bytes_eq}
 use Rattle.wopi_model.specs.declared.locks.Lock.{Lock}
 use Rattle.wopi_model.specs.declared.locks.Spent.{Spent}
@@ -12,32 +12,31 @@ use Rattle.wopi_model.specs.Shard.{Shard}
 use Rattle.wopi_model.specs.Kept.{Shows}
 use Rattle.host_core.specs.declared.entry.EntryAct.{EntryAct}
 use Rattle.host_core.specs.declared.entry.EntryAct.TheVariants as act
+use Rattle.host_core.specs.declared.life.LifeContents.{LifeContents}
+use Rattle.host_core.specs.declared.life.LifeContents.TheVariants as has
 use Rattle.journal_text.specs.declared.text.Line.{Line}
 use Rattle.wopi_model.specs.Begin.{Begin, at_name, put_name}
 
 -- ---- one file
 
--- What is told of a file: `size` is None where it is absent. `fresh` has the contents that lines brought; where it is None, and the
--- file is there, they are those of the folder.
+-- What is told of a file. Of its contents, those that lines changed are told, and of others the size alone: the folder has them.
 pub record Placed : Type 0 where
   pub version : ℕ
-  pub size : Option ℕ
+  pub contents : LifeContents
   pub lock : Option Lock
   pub spent : List Spent
-  pub fresh : Option (List ℕ)
 
 -- a name that was never met
 abbrev pub unmet : ℕ → Placed
-unmet first = record { version = first - 1; size = None; lock = None; spent = []; fresh = None }
+unmet first = record { version = first - 1; contents = has.Absent; lock = None; spent = [] }
 
 abbrev pub settled_place : Placed → ℕ → Placed
 settled_place place now =
     record {
       version = place.version;
-      size = place.size;
+      contents = place.contents;
       lock = standing place.lock now;
       spent = still_spent (with_spent (expired place.lock now) place.spent) now;
-      fresh = place.fresh;
     }
 
 -- the lock has ended then, and its id is still refused
@@ -65,27 +64,25 @@ version_told old (act.Put lock size) told = unwrap_or told old
 version_told old (act.Create overwrite size) told = unwrap_or told old
 version_told old _ told = old
 
-abbrev pub size_after : Option ℕ → EntryAct → Option ℕ
-size_after old (act.Put lock size) = Some size
-size_after old (act.Create overwrite size) = Some size
-size_after old act.Delete = None
-size_after old _ = old
+-- those that a line put there, or none, where it removed them
+abbrev pub told_as : Option (List ℕ) → LifeContents
+told_as None = has.Removed
+told_as (Some bytes) = has.Told bytes
 
-abbrev pub fresh_after : Option (List ℕ) → EntryAct → Option (List ℕ) → Option (List ℕ)
-fresh_after old (act.Put lock size) contents = contents
-fresh_after old (act.Create overwrite size) contents = contents
-fresh_after old act.Delete contents = None
-fresh_after old _ contents = old
+abbrev pub contents_after : LifeContents → EntryAct → Option (List ℕ) → LifeContents
+contents_after old (act.Put lock size) brought = told_as brought
+contents_after old (act.Create overwrite size) brought = told_as brought
+contents_after old act.Delete brought = has.Removed
+contents_after old _ brought = old
 
 -- what an accepted act leaves of a settled file
 abbrev pub placed_after : Placed → EntryAct → ℕ → ℕ → Option ℕ → Option (List ℕ) → Placed
-placed_after place one expires now told contents =
+placed_after place one expires now told brought =
     record {
       version = version_told place.version one told;
-      size = size_after place.size one;
+      contents = contents_after place.contents one brought;
       lock = lock_after place.lock (asked one) expires now;
       spent = with_spent (spent_by place.lock (asked one) expires) place.spent;
-      fresh = fresh_after place.fresh one contents;
     }
 
 -- ---- a shard
@@ -113,14 +110,22 @@ told_line told line =
 -- ---- what is told is what stands
 
 -- the contents, where the folder has those of the files that didn't change
-abbrev pub contents_in : Option (List ℕ) → Option ℕ → Option (List ℕ) → Option (List ℕ)
-contents_in kept None fresh = None
-contents_in kept (Some size) None = kept
-contents_in kept (Some size) (Some contents) = Some contents
+abbrev pub contents_in : Option (List ℕ) → LifeContents → Option (List ℕ)
+contents_in kept has.Absent = None
+contents_in kept (has.Left size) = kept
+contents_in kept has.Removed = None
+contents_in kept (has.Told bytes) = Some bytes
+
+-- how many bytes they have, if they are there
+abbrev pub size_told : LifeContents → Option ℕ
+size_told has.Absent = None
+size_told (has.Left size) = Some size
+size_told has.Removed = None
+size_told (has.Told bytes) = Some (length bytes)
 
 abbrev pub whole : Option (List ℕ) → Placed → File
 whole kept place =
-    record { contents = contents_in kept place.size place.fresh; version = place.version; lock = place.lock; spent = place.spent }
+    record { contents = contents_in kept place.contents; version = place.version; lock = place.lock; spent = place.spent }
 
 -- the files that are told, where the folder has these contents
 abbrev pub files_in : (List ℕ → Option (List ℕ)) → Told → List ℕ → File

@@ -7,27 +7,28 @@ ghost use Rattle.wopi_model.specs.Act.{is_spent};
 ghost use Rattle.wopi_model.specs.Settle.{expired, standing, still_spent, with_spent};
 ghost use Rattle.wopi_model.specs.LockTable.{lock_after, spent_by};
 ghost use Rattle.lock_machine.specs.Asks.{act_of};
-ghost use Rattle.journal_segments.specs.Told.{asked, ends_in, fresh_after, placed_after, settled_place, size_after, unmet, version_told};
-ghost use Rattle.journal_segments.specs.Line.{size_in};
-ghost use Rattle.journal_segments.specs.Rows.{held_place, holding, placed_at, spent_place};
+ghost use Rattle.journal_segments.specs.Told.{asked, contents_after, ends_in, placed_after, settled_place, size_told, told_as, unmet, version_told};
+ghost use Rattle.journal_segments.specs.Rows.{held_place, holding, left_as, placed_at, spent_place};
+ghost use Rattle.journal_segments.specs.Lives.{file_told};
 
+use host_core::{LifeContents, LifeFile};
 use journal_text::{Line, LineAct};
 use lock_machine::{
     LockAsk, change_by, is_over, lock_left, settle, spent_left, spent_until, taken_in,
 };
 use std::alloc::Global;
 use std::marker::Model;
+use std::mem;
 use wopi_model::{Lock, Spent};
-use wopi_text::{Bytes, LockId, Memory};
+use wopi_text::{Bytes, FileName, LockId, Memory};
 
 /// What is told of a file. What it keeps of contents are those that lines brought.
 #[derive(Drop)]
 pub struct ToldFile {
     version: u64,
-    size: Option<u64>,
+    contents: LifeContents,
     lock: Option<Lock>,
     spent: Vec<Spent>,
-    fresh: Option<Bytes>,
 }
 
 impl Model for ToldFile {
@@ -35,7 +36,7 @@ impl Model for ToldFile {
 
     ghost Value = { Placed };
 
-    ghost view = { λ f. record { version = f.version; size = f.size; lock = f.lock; spent = f.spent.items; fresh = f.fresh } };
+    ghost view = { λ f. record { version = f.version; contents = f.contents; lock = f.lock; spent = f.spent.items } };
 
     ghost use Rattle.std.specs.Prelude.{IfSome};
     ghost use Rattle.wopi_model.specs.Moment.{IsMoment};
@@ -126,36 +127,46 @@ fn version_told(old: u64, act: &LineAct, told: Option<u64>) -> u64
     }
 }
 
-/// The size behind an act that was accepted.
-fn size_after(old: Option<u64>, act: &LineAct) -> Option<u64>
-    ensures { result ≡ size_after old act.now }
-{
-    match act {
-        LineAct::Put { lock: _, size } => Some(*size),
-        LineAct::Create { overwrite: _, size } => Some(*size),
-        LineAct::Delete => None,
-        _ => old,
-    }
-}
-
-/// The contents that were brought, behind an act that was accepted.
-fn fresh_after(old: Option<Bytes>, act: &LineAct, contents: Option<Bytes>) -> Option<Bytes>
-    ensures { result ≡ fresh_after old act.now contents }
-{
-    match act {
-        LineAct::Put { .. } | LineAct::Create { .. } => contents,
-        LineAct::Delete => None,
-        _ => old,
-    }
-}
-
-/// How many bytes contents have, if there are some.
-fn size_of(contents: &Option<Bytes>) -> Option<u64>
-    ensures { result ≡ size_in contents.now }
+/// What a line put there, or that it removed what was there.
+fn told_as(contents: Option<Bytes>) -> LifeContents
+    ensures { result ≡ told_as contents }
 {
     match contents {
-        None => return None,
-        Some(contents) => return Some(contents.as_slice().len() as u64),
+        None => return LifeContents::Removed,
+        Some(contents) => return LifeContents::Told { contents },
+    }
+}
+
+/// The contents behind an act that was accepted, and that brought these.
+fn contents_after(old: LifeContents, act: &LineAct, brought: Option<Bytes>) -> LifeContents
+    ensures { result ≡ contents_after old act.now brought }
+{
+    match act {
+        LineAct::Put { .. } | LineAct::Create { .. } => told_as(brought),
+        LineAct::Delete => LifeContents::Removed,
+        _ => old,
+    }
+}
+
+/// Contents of that size, which no line has changed.
+fn left_as(size: Option<u64>) -> LifeContents
+    ensures { result ≡ left_as size }
+{
+    match size {
+        None => return LifeContents::Absent,
+        Some(size) => return LifeContents::Left { size },
+    }
+}
+
+/// How many bytes contents have, if they are there.
+fn size_told(contents: &LifeContents) -> Option<u64>
+    ensures { result ≡ size_told contents.now }
+{
+    match contents {
+        LifeContents::Absent => return None,
+        LifeContents::Left { size } => return Some(*size),
+        LifeContents::Removed => return None,
+        LifeContents::Told { contents } => return Some(contents.as_slice().len() as u64),
     }
 }
 
@@ -208,10 +219,9 @@ impl ToldFile {
     {
         ToldFile {
             version: first.saturating_sub(1),
-            size: None,
+            contents: LifeContents::Absent,
             lock: None,
             spent: Vec::new(alloc),
-            fresh: None,
         }
     }
 
@@ -221,10 +231,9 @@ impl ToldFile {
     {
         ToldFile {
             version,
-            size,
+            contents: left_as(size),
             lock: None,
             spent: Vec::new(alloc),
-            fresh: None,
         }
     }
 
@@ -248,8 +257,7 @@ impl ToldFile {
     pub(crate) fn stand(&mut self, contents: Option<Bytes>)
         ensures { self.new ≡ holding self.old contents }
     {
-        self.size = size_of(&contents);
-        self.fresh = contents;
+        self.contents = told_as(contents);
     }
 
     /// Its version.
@@ -261,9 +269,16 @@ impl ToldFile {
 
     /// The size of its contents, if it is there.
     pub fn size(&self) -> Option<u64>
-        ensures { result ≡ self.now.size }
+        ensures { result ≡ size_told self.now.contents }
     {
-        self.size
+        size_told(&self.contents)
+    }
+
+    /// Its contents, as far as they are told.
+    pub fn contents(&self) -> &LifeContents
+        ensures { result.now ≡ self.now.contents }
+    {
+        &self.contents
     }
 
     /// Its lock, which may be over.
@@ -325,23 +340,16 @@ impl ToldFile {
             token,
             now,
             version,
-            contents,
+            contents: brought,
             ..
         } = line;
         let (lock, ended) = judged(&self.lock, &act, token.expires, now);
         self.lock = lock;
         add_spent(&mut self.spent, ended)?;
         self.version = version_told(self.version, &act, version);
-        self.size = size_after(self.size, &act);
-        self.fresh = fresh_after(self.fresh.take(), &act, contents);
+        let before = mem::replace(&mut self.contents, LifeContents::Absent);
+        self.contents = contents_after(before, &act, brought);
         Ok(())
-    }
-
-    /// The contents that lines brought, if they did.
-    pub fn fresh(&self) -> Option<&Bytes>
-        ensures { option_map (λ bytes. bytes.now) result ≡ self.now.fresh }
-    {
-        self.fresh.as_ref()
     }
 
     /// What an accepted line leaves of it.
@@ -351,5 +359,18 @@ impl ToldFile {
     {
         self.settle(line.now)?;
         self.take(line)
+    }
+
+    /// The file of that name in a life.
+    pub(crate) fn into_life(self, name: FileName) -> LifeFile
+        ensures { file_told result ≡ (name, self) }
+    {
+        LifeFile {
+            name,
+            version: self.version,
+            contents: self.contents,
+            lock: self.lock,
+            spent: self.spent,
+        }
     }
 }

@@ -1,10 +1,13 @@
 //! What holds of segments and of what they tell, as contracts of functions that do nothing.
-ghost use Rattle.std.specs.Prelude.{◌≡◌, ◌⊎◌, ◌++◌, [], ℕ, List, Option, map};
+ghost use Rattle.std.specs.Prelude.{◌≡◌, ◌⊎◌, ◌≤◌, ◌-◌, ◌^◌, ◌++◌, [], ℕ, List, Option, Some, map};
 ghost use Rattle.std.specs.List.{AllByRecursion};
-ghost use Rattle.wopi_model.specs.Shard.{Along, IsAllowed, begun};
+ghost use Rattle.outside.specs.Folder.{Files};
+ghost use Rattle.wopi_model.specs.Shard.{Along, IsAllowed, after, begun, entries, last_from, stamps};
 ghost use Rattle.wopi_model.specs.Begin.{Begin};
 ghost use Rattle.wopi_model.specs.Lives.{IsLeftBy};
+ghost use Rattle.host_core.specs.declared.life.Life.{Life};
 ghost use Rattle.host_core.specs.Entries.{Made, items_of, history_of};
+ghost use Rattle.host_core.specs.Life.{IsGoodLife, MayGoOn, TellsShard};
 ghost use Rattle.host_table.specs.Bounds.{IsBounded};
 ghost use Rattle.host_log.specs.Rows as log;
 ghost use Rattle.journal_text.specs.Journals.{row_text};
@@ -12,14 +15,14 @@ ghost use Rattle.journal_text.specs.Told.{line_of};
 ghost use Rattle.line_text.specs.Words.{IsRow};
 ghost use Rattle.journal_segments.specs.declared.rows.Head.{Head};
 ghost use Rattle.journal_segments.specs.declared.rows.Row.{Row};
-ghost use Rattle.journal_segments.specs.declared.state.Pending.TheVariants.{Start};
 ghost use Rattle.journal_segments.specs.Places.{AreOnce, AreOwn};
 ghost use Rattle.journal_segments.specs.Told.{Placed, Told, Tells, begin_of};
 ghost use Rattle.journal_segments.specs.Line.{entry_text, off_words};
+ghost use Rattle.journal_segments.specs.Lives.{HasSizesOf, HoldsUnchanged, told_in};
 ghost use Rattle.journal_segments.specs.Logs.{entry_row, logged_rows};
 ghost use Rattle.journal_segments.specs.Rows.{AreRows, IsCutShort, IsForm, IsHead, IsSegment, rows_text, start, state_after, told_by};
 ghost use Rattle.journal_segments.specs.Reading.{HasNoHead, IsBadRow};
-ghost use Rattle.journal_segments.specs.Openings.{AreBehind, AreEntries, AreOf, GoOn, IsPlaced, counted, opening_rows, opening_text, told_of, told_rows};
+ghost use Rattle.journal_segments.specs.Openings.{AreEntries, AreOf, GoOn, IsPlaced, counted, opening_rows, opening_text, told_of, told_rows};
 
 /// Bytes are the lines of one segment at most, and what stands behind these is determined.
 pub fn one_segment()
@@ -55,8 +58,8 @@ pub fn told_is_left()
 
 /// The lines of a beginning are those of a segment, and tell just that.
 pub fn a_beginning_is_restored()
-    ensures rows { (head : Head) (files : List (List ℕ × Placed)) → AllByRecursion (IsPlaced head.shard) files → AreBehind Start files → AreRows (start head) (opening_rows files) }
-    ensures text { (head : Head) (files : List (List ℕ × Placed)) → IsHead head → AllByRecursion (IsPlaced head.shard) files → AreBehind Start files → IsSegment (opening_text head files) head (opening_rows files) [] }
+    ensures rows { (head : Head) (files : List (List ℕ × Placed)) → AllByRecursion (IsPlaced head.shard) files → AreOnce files → AreRows (start head) (opening_rows files) }
+    ensures text { (head : Head) (files : List (List ℕ × Placed)) → IsHead head → AllByRecursion (IsPlaced head.shard) files → AreOnce files → IsSegment (opening_text head files) head (opening_rows files) [] }
     ensures told { (head : Head) (files : List (List ℕ × Placed)) → AllByRecursion (IsPlaced head.shard) files → told_by head (opening_rows files) ≡ told_of head files }
 {}
 
@@ -77,6 +80,24 @@ pub fn what_is_restored_is_left()
 /// What is told is what a shard begins with that begins from it.
 pub fn a_begin_is_told()
     ensures { (folder : List ℕ → Option (List ℕ)) (told : Told) → Tells folder told (begun (begin_of folder told)) }
+{}
+
+/// The life that a segment restores tells just where the shard stands whose entries the lines are that count, over a folder
+/// that has what the shard has of each file which no line has changed. So a shard that reopens with it goes on from what
+/// the entries left (`a_reopened_shard_goes_on` of host_core).
+pub fn a_restored_life_tells_its_shard()
+    ensures { (folder files : Files) (begin : Begin) (head : Head) (placed : List (List ℕ × Placed)) (rows : List Row) (made : List Made) (life : Life) →
+        AllByRecursion (IsPlaced head.shard) placed → AreEntries rows → AreRows (state_after (start head) (opening_rows placed)) rows → AreOf (begun begin) (counted [] rows) made →
+        Tells folder (told_of head placed) (begun begin) → HasSizesOf (begun begin) (told_of head placed) → head.last ≡ begin.last → Along IsAllowed (begun begin) (items_of made) →
+        told_in life ≡ told_by head (opening_rows placed ++ rows) → HoldsUnchanged head.shard files (told_in life) (after (begun begin) (history_of made life.now)) →
+        TellsShard (Some head.shard) files life (after (begun begin) (history_of made life.now)) × (life.last ≡ last_from begin.last (stamps (entries (history_of made life.now)))) }
+{}
+
+/// A life that a segment restores is a good one of its shard, but for its last stamp, the versions, and the moments at which
+/// locks began: those may be too high, and the reader doesn't look at them. A shard that reopens does.
+pub fn a_restored_life_is_good()
+    ensures { (head : Head) (rows : List Row) (life : Life) → IsHead head → AreRows (start head) rows → told_in life ≡ told_by head rows → life.last ≤ 2 ^ 63 - 1 →
+        AllByRecursion (MayGoOn life.now life.last) life.files.items → IsGoodLife (Some head.shard) life }
 {}
 
 /// What a store writes to its log for an entry is the line of that entry, which may stand in a segment, and what it

@@ -23,13 +23,15 @@
 //!
 //! [`watch_segment`] does the same, and shows each line to a [`Watcher`] as it comes.
 //!
+//! [`ToldShard::into_life`] gives what was restored as the life with which a shard of host_core goes on.
+//!
 //! What each line makes of what was told before it is one step of a [`State`], and no line but the last is kept. So a
 //! reading takes the memory of what is live, and twice that of the longest line with its contents.
 //!
 //! Bytes are those of one segment at most, what stands of one whose writing was stopped is one with fewer lines, and the
 //! lines of a beginning tell just what it was written from. Where a shard may have made the entries whose lines count,
-//! what a segment restores is what they leave: a shard that begins with it goes on as if it had never stopped. What a
-//! store of host_log appends are such lines. These are the laws of [`laws`].
+//! what a segment restores is what they leave, and the life tells where that shard stands: one that begins with it goes
+//! on as if it had never stopped. What a store of host_log appends are such lines. These are the laws of [`laws`].
 #![tactic(auto)]
 
 mod file;

@@ -1,12 +1,14 @@
 //! Files by name.
-ghost use Rattle.std.specs.Prelude.{◌≡◌, ◌∷◌, ◌++◌, [], IfOk, option_map, unwrap_or};
+ghost use Rattle.std.specs.Prelude.{◌≡◌, ◌↔◌, ◌∷◌, ◌++◌, [], None, IfOk, IsTrue, map, option_map, unwrap_or};
 ghost use Rattle.wopi_model.specs.Moment.{IsMoment};
 ghost use Rattle.wopi_model.specs.Begin.{at_name, put_name};
 ghost use Rattle.journal_segments.specs.Places.{IsNumbered, place_in};
 ghost use Rattle.journal_segments.specs.Told.{Placed, placed_by, unmet};
 ghost use Rattle.journal_segments.specs.Rows.{holding};
+ghost use Rattle.journal_segments.specs.Lives.{file_told};
 
 use crate::file::ToldFile;
+use host_core::LifeFile;
 use journal_text::Line;
 use name_index::NameIndex;
 use std::alloc::Global;
@@ -121,6 +123,25 @@ fn hold(
     }
 }
 
+/// Whether a name wasn't met yet.
+fn is_new(names: &NameIndex, files: &Vec<(FileName, ToldFile)>, name: &FileName) -> bool
+    requires { IsNumbered names.now files.now.items }
+    ensures { IsTrue result ↔ (place_in files.now.items name.now ≡ None) }
+{
+    place_of(names, files, name).is_none()
+}
+
+/// The same files, as those of a life.
+fn into_life_files(alloc: Global, files: Vec<(FileName, ToldFile)>) -> Result<Vec<LifeFile>, Memory>
+    ensures { IfOk result (λ lived. map file_told lived.items ≡ files.items) }
+{
+    let mut lived = Vec::with_capacity(alloc, files.len())?;
+    'files: for (name, file) in files {
+        lived.push(file.into_life(name))?;
+    }
+    Ok(lived)
+}
+
 /// The file of a name.
 fn file_of<'a>(
     names: &NameIndex,
@@ -185,6 +206,13 @@ impl Shelf {
         file_of(&self.names, &self.files, name)
     }
 
+    /// Whether a name wasn't met yet.
+    pub(crate) fn is_new(&self, name: &FileName) -> bool
+        ensures { IsTrue result ↔ (place_in self.now name.now ≡ None) }
+    {
+        is_new(&self.names, &self.files, name)
+    }
+
     /// The files, in their order.
     pub fn as_slice(&self) -> &[(FileName, ToldFile)]
         ensures { result.now ≡ self.now }
@@ -192,10 +220,10 @@ impl Shelf {
         &self.files
     }
 
-    /// The files, in their order.
-    pub fn into_files(self) -> Vec<(FileName, ToldFile)>
-        ensures { result.items ≡ self }
+    /// The files in their order, as those of a life.
+    pub(crate) fn into_life(self, alloc: Global) -> Result<Vec<LifeFile>, Memory>
+        ensures { IfOk result (λ lived. map file_told lived.items ≡ self) }
     {
-        self.files
+        into_life_files(alloc, self.files)
     }
 }

@@ -9,7 +9,6 @@ use crate::rows::{Head, Row};
 use crate::told::ToldShard;
 use journal_text::Line;
 use std::alloc::Global;
-use std::cmp::Ordering;
 use wopi_model::{Lock, Spent};
 use wopi_text::{FileName, Memory};
 
@@ -31,12 +30,12 @@ pub struct State {
 }
 
 /// Whether a file may come next.
-fn may_begin(pending: &Pending, name: &FileName) -> bool
-    ensures { IsTrue result ↔ MayBegin pending.now name.now }
+fn may_begin(told: &ToldShard, pending: &Pending, name: &FileName) -> bool
+    ensures { IsTrue result ↔ MayBegin told.entry.now pending.now name.now }
 {
     match pending {
-        Pending::Start => return true,
-        Pending::File(last, _) => return last.as_slice().cmp(name.as_slice()) == Ordering::Less,
+        Pending::Start => return told.is_new(name),
+        Pending::File(last, _) => return *last != *name && told.is_new(name),
         Pending::Entry(_) => return false,
         Pending::Done => return false,
     }
@@ -205,7 +204,7 @@ impl State {
     {
         match row {
             Row::At(name, _, _) => return name.shard() == self.shard
-                && may_begin(&self.pending, name),
+                && may_begin(&self.told, &self.pending, name),
             Row::Held(name, _) => return may_hold(&self.pending, name),
             Row::Spent(name, _) => return may_spend(&self.pending, name),
             Row::Entry(line) => {

@@ -1,12 +1,15 @@
 //! What is told of a shard.
-ghost use Rattle.std.specs.Prelude.{◌≡◌, [], IfOk, option_map, unwrap_or};
+ghost use Rattle.std.specs.Prelude.{◌≡◌, ◌↔◌, [], None, IfOk, IsTrue, option_map, unwrap_or};
 ghost use Rattle.wopi_model.specs.Moment.{IsMoment};
 ghost use Rattle.journal_segments.specs.Told.{Placed, told_line};
 ghost use Rattle.wopi_model.specs.Begin.{at_name};
+ghost use Rattle.journal_segments.specs.Places.{place_in};
 ghost use Rattle.journal_segments.specs.Rows.{told_holds, with_place};
+ghost use Rattle.journal_segments.specs.Lives.{told_in};
 
 use crate::file::ToldFile;
 use crate::shelf::Shelf;
+use host_core::Life;
 use journal_text::Line;
 use std::alloc::Global;
 use std::marker::Model;
@@ -86,11 +89,32 @@ impl ToldShard {
         self.files.find(name)
     }
 
-    /// The files that were met, by value.
-    pub fn into_files(self) -> Vec<(FileName, ToldFile)>
-        ensures { result.items ≡ self.files }
+    /// Whether a name wasn't met yet.
+    pub(crate) fn is_new(&self, name: &FileName) -> bool
+        ensures { IsTrue result ↔ (place_in self.entry.now.files name.now ≡ None) }
     {
-        self.files.into_files()
+        self.files.is_new(name)
+    }
+
+    /// The life with which a shard goes on from there. No contents are copied: memory is wanted for the list alone.
+    pub fn into_life(self, alloc: Global) -> Result<Life, Memory>
+        ensures { IfOk result (λ life. told_in life ≡ self) }
+    {
+        let ToldShard {
+            opened,
+            first,
+            now,
+            last,
+            files,
+        } = self;
+        let files = files.into_life(alloc)?;
+        Ok(Life {
+            opened,
+            first,
+            now,
+            last,
+            files,
+        })
     }
 
     /// Adds a file that was met.

@@ -5,3 +5,5 @@
 
 #[cfg(test)]
 mod logs;
+#[cfg(test)]
+mod reopened;

@@ -11,14 +11,14 @@ use std::test::Fail;
 use wopi_model::{Act, Call, Token, User};
 use wopi_text::{Bytes, FileName, LockId};
 
-fn name(rt: &impl Abort, text: &[u8]) -> FileName {
+pub(crate) fn name(rt: &impl Abort, text: &[u8]) -> FileName {
     match FileName::read(text) {
         Ok(name) => name,
         Err(_) => panic!(rt; "a file's name"),
     }
 }
 
-fn call(rt: &impl Abort, file: &[u8], act: Act) -> Call {
+pub(crate) fn call(rt: &impl Abort, file: &[u8], act: Act) -> Call {
     Call {
         name: name(rt, file),
         token: Token {
@@ -33,7 +33,7 @@ fn call(rt: &impl Abort, file: &[u8], act: Act) -> Call {
     }
 }
 
-fn bytes(alloc: Global, text: &[u8]) -> Result<Bytes, Fail> {
+pub(crate) fn bytes(alloc: Global, text: &[u8]) -> Result<Bytes, Fail> {
     Ok(Bytes::from_vec(text.to_vec(alloc)?))
 }
 

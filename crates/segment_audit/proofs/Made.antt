@@ -19,7 +19,10 @@ use Rattle.wopi_model.specs.Step.{IsOutcome}
 use Rattle.wopi_model.specs.Kept.{Shows}
 use Rattle.wopi_model.specs.Shard.{Along, IsAllowed, LegalFrom, RisesFrom, Shard, Step, Tick, at_moment, begun, entries, happens, stamps}
 use Rattle.wopi_model.proofs.Keeping.{shows-tick, shown-at_moment}
+use Rattle.host_core.specs.declared.life.LifeContents.{LifeContents}
+use Rattle.host_core.specs.declared.life.LifeContents.TheVariants as has
 use Rattle.host_core.specs.Entries.{Made, brought_by, items_of, kept_act}
+use Rattle.host_core.specs.Life.{is_changed}
 use Rattle.host_log.specs.Rows as log
 use Rattle.host_log.specs.Rows.{Counts, TakenBack}
 use Rattle.journal_text.specs.declared.text.Line.{Line}
@@ -34,12 +37,14 @@ use Rattle.journal_segments.specs.declared.state.Pending.{Pending}
 use Rattle.journal_segments.specs.declared.state.Pending.TheVariants as pending
 use Rattle.journal_segments.specs.declared.state.State.{State}
 use Rattle.journal_segments.specs.Line.{size_in}
-use Rattle.journal_segments.specs.Told.{Placed, Tells, Told, begin_of, contents_in, files_in, told_line, unmet}
+use Rattle.journal_segments.specs.Places.{AreOnce}
+use Rattle.journal_segments.specs.Told.{Placed, Tells, Told, begin_of, contents_in, files_in, size_told, told_line, unmet}
 use Rattle.journal_segments.specs.Logs.{entry_row, logged_rows}
-use Rattle.journal_segments.specs.Openings.{AreBehind, IsPlaced, counted, held_rows, opening_rows, opening_text, place_rows, told_of}
+use Rattle.journal_segments.specs.Openings.{IsPlaced, counted, held_rows, opening_rows, opening_text, place_rows, told_of}
 use Rattle.journal_segments.specs.Rows.{AreRows, IsForm, IsHead, IsSegment, MayCome, MayEnter, MayTakeBack, head_text, last_with, now_with, rows_text, segment_text, start, state_after, step, told_at, told_by, told_with}
 use Rattle.journal_segments.proofs.Going.{rows-append, shard_after, text-append}
 use Rattle.journal_segments.proofs.Logged.{entry_is_form, log_is_lines}
+use Rattle.journal_segments.proofs.Sized.{AreSized, sizes_go}
 use Rattle.journal_segments.proofs.Telling.{begin_tells, tells-rows}
 use Rattle.journal_segments.proofs.Texts.{written_is_segment}
 use Rattle.journal_segments.proofs.Written.{begins, begun_tells, no-entry}
@@ -47,7 +52,7 @@ use Rattle.segment_audit.specs.Sizes.{file_of, zeros}
 use Rattle.segment_audit.specs.Legal.{AreRight, IsLegalSegment, IsRight, IsRuledAt, is_saved}
 use Rattle.segment_audit.specs.Making.{AreLogged, AreMade, HasSizes, MayBeMade, begin_told, zeros_in}
 use Rattle.segment_audit.proofs.Ruling.{zeros_sized}
-use Rattle.segment_audit.proofs.Telling.{AreSized, Brings, IsSized, allowed_right, contents_again, kept_again, made_of, ruled_whole, sizes_go}
+use Rattle.segment_audit.proofs.Telling.{Brings, allowed_right, contents_again, kept_again, made_of, ruled_whole}
 
 -- ---- one entry
 
@@ -154,7 +159,7 @@ on_entry folder state shard line rows tells sized are ruled first rest =
     let (ruling, is, allowed) = line_made folder told shard line tells sized (named ∙ sym own) there soon brings ruled in
     let next = tells_more folder told shard (made_of line ruling) line tells is here soon allowed in
     made_first shard told.last line ruling rows is allowed above first
-    (rest (happens (at_moment shard line.now) (Step (made_of line ruling).step)) next (sizes_go folder told line brings sized))
+    (rest (happens (at_moment shard line.now) (Step (made_of line ruling).step)) next (sizes_go folder told line sized))
 
 made_rows : (folder : List ℕ → Option (List ℕ)) (state : State) (shard : Shard) (rows : List Row) → Tells folder (told_at state) shard → AreSized folder (told_at state) → AreLogged rows → IsKept rows →
     AreRows state rows → AreRight state rows → TellsMade shard (told_at state).last rows
@@ -180,25 +185,23 @@ made_rows folder state shard (row.Entry line ∷ row.Holds name contents ∷ row
 
 -- ---- from a beginning on
 
-size_start : (kept : Option (List ℕ)) (count : Option ℕ) → IsSize kept count → IsSize (contents_in kept count None) count
-size_start kept None is = refl
-size_start kept (Some count) is = is
+sized_start : (kept : Option (List ℕ)) (contents : LifeContents) → is_changed contents ≡ false → IsSize kept (size_told contents) → IsSize (contents_in kept contents) (size_told contents)
+sized_start kept has.Absent left is = refl
+sized_start kept (has.Left size) left is = is
+sized_start kept has.Removed left is = absurd (cc left)
+sized_start kept (has.Told bytes) left is = absurd (cc left)
 
-sized_start : (kept : Option (List ℕ)) (place : Placed) → place.fresh ≡ None → IsSize kept place.size → IsSized kept place
-sized_start kept place none is =
-    subst (λ (fresh : Option (List ℕ)). IsSize (contents_in kept place.size fresh) place.size) (sym none) (size_start kept place.size is)
-
-fresh_none : (shard first : ℕ) (files : List (List ℕ × Placed)) (name : List ℕ) → AllByRecursion (IsPlaced shard) files → (at_name (unmet first) files name).fresh ≡ None
-fresh_none shard first [] name placed = refl
-fresh_none shard first (file ∷ files) name placed =
-    elim (bytes_eq file.0 name) as (λ b. (cond b file.1 (at_name (unmet first) files name)).fresh ≡ None) [
-      | true ↦ placed.0.none
-      | false ↦ fresh_none shard first files name placed.1
+all_left : (shard first : ℕ) (files : List (List ℕ × Placed)) (name : List ℕ) → AllByRecursion (IsPlaced shard) files → is_changed (at_name (unmet first) files name).contents ≡ false
+all_left shard first [] name placed = refl
+all_left shard first (file ∷ files) name placed =
+    elim (bytes_eq file.0 name) as (λ b. is_changed (cond b file.1 (at_name (unmet first) files name)).contents ≡ false) [
+      | true ↦ placed.0.left
+      | false ↦ all_left shard first files name placed.1
     ]
 
 pub sizes_start : (folder : List ℕ → Option (List ℕ)) (head : Head) (files : List (List ℕ × Placed)) → AllByRecursion (IsPlaced head.shard) files → HasSizes folder (told_of head files) → AreSized folder (told_of head files)
 sizes_start folder head files placed sizes name =
-    sized_start (folder name) (at_name (unmet head.first) files name) (fresh_none head.shard head.first files name placed) (sizes name)
+    sized_start (folder name) (at_name (unmet head.first) files name).contents (all_left head.shard head.first files name placed) (sizes name)
 
 right_back : (state : State) (rows more : List Row) → AreRight state (rows ++ more) → AreRight (state_after state rows) more
 right_back state [] more right = right
@@ -212,7 +215,7 @@ legal_made head files rows placed logged are right =
     let shard = begun (begin_told told) in
     let state = state_after (start head) (opening_rows files) in
     let at : told_at state ≡ told = begun_tells head files placed in
-    let sizes = sizes_start folder head files placed (λ name. zeros_sized (at_name (unmet told.first) told.files name).size) in
+    let sizes = sizes_start folder head files placed (λ name. zeros_sized (size_told (at_name (unmet told.first) told.files name).contents)) in
     let (made, same, along, rises) = made_rows folder state shard rows (subst (λ (t : Told). Tells folder t shard) (sym at) (begin_tells folder told)) (subst (AreSized folder) (sym at) sizes) logged
     (kept_first state rows (no-entry (start head) files placed (λ h. h)) are) are (right_back (start head) (opening_rows files) rows right) in (
       made,
@@ -251,7 +254,7 @@ log_rows folder state shard (Counts one ∷ rows) tells sized made =
     let here : told.now ≤ one.time = subst (λ (n : ℕ). n ≤ one.time) (sym tells.now_is) may.late in
     let form = entry_is_form one may.bounded in
     let next = tells_more folder told shard one (line_of one) tells refl here may.soon may.allowed in
-    let rest = log_rows folder (step state (entry_row one)) (happens (at_moment shard one.time) (Step one.step)) rows next (sizes_go folder told (line_of one) form.1 sized) made.1 in
+    let rest = log_rows folder (step state (entry_row one)) (happens (at_moment shard one.time) (Step one.step)) rows next (sizes_go folder told (line_of one) sized) made.1 in
     ((form, entry_comes folder state shard one tells may, rest.0), (allowed_right folder told shard one tells sized may.late may.soon may.allowed, rest.1))
 log_rows folder state shard (TakenBack one ∷ rows) tells sized made =
     let told = told_at state in
@@ -287,9 +290,9 @@ no_row : IsRow []
 no_row = λ i d below. absurd (omega (arith, below))
 
 pub lines_legal : (folder : List ℕ → Option (List ℕ)) (head : Head) (files : List (List ℕ × Placed)) (shard : Shard) (rows : List log.Row) → IsHead head → AllByRecursion (IsPlaced head.shard) files →
-    AreBehind pending.Start files → HasSizes folder (told_of head files) → Tells folder (told_of head files) shard → AreMade shard head.shard head.last rows →
+    AreOnce files → HasSizes folder (told_of head files) → Tells folder (told_of head files) shard → AreMade shard head.shard head.last rows →
     IsLegalSegment (opening_text head files ++ log.rows_text rows)
-lines_legal folder head files shard rows is placed behind sizes tells made =
+lines_legal folder head files shard rows is placed once sizes tells made =
     let told = told_of head files in
     let opening = opening_rows files in
     let lines = logged_rows rows in
@@ -298,7 +301,7 @@ lines_legal folder head files shard rows is placed behind sizes tells made =
     let number : state.shard ≡ head.shard = shard_after (start head) opening in
     let made_here : AreMade shard state.shard (told_at state).last rows = subst (λ (p : ℕ × ℕ). AreMade shard p.0 p.1 rows) (λ i. (sym number i, (sym at i).last)) made in
     let both = log_rows folder state shard rows (subst (λ (t : Told). Tells folder t shard) (sym at) tells) (subst (AreSized folder) (sym at) (sizes_start folder head files placed sizes)) made_here in
-    let segment : IsSegment (opening_text head files) head opening [] = written_is_segment head files is placed behind in
+    let segment : IsSegment (opening_text head files) head opening [] = written_is_segment head files is placed once in
     let text : opening_text head files ≡ segment_text head opening = segment.parts ∙ append-nil (segment_text head opening) in
     let seam : opening_text head files ++ log.rows_text rows ≡ segment_text head opening ++ rows_text lines = λ i. text i ++ log_is_lines rows i in
     record {
@@ -307,7 +310,7 @@ lines_legal folder head files shard rows is placed behind sizes tells made =
       tail = [];
       segment = record {
         head_is = is;
-        rows_are = rows-append (start head) opening lines (begins head files placed behind) both.0;
+        rows_are = rows-append (start head) opening lines (begins head files placed once) both.0;
         parts = seam ∙ append_assoc (head_text head) (rows_text opening) (rows_text lines)
             ∙ ap (λ (l : List ℕ). head_text head ++ l) (sym (text-append opening lines)) ∙ sym (append-nil (segment_text head (opening ++ lines)));
         cut = inl no_row;

@@ -1,21 +1,18 @@
 -- What is told of files has the sizes of the shard's, and a line is right where its entry is allowed.
 use Rattle.std.proofs.Common.{◌≡◌, ◌↔◌, ℕ, ◌≤◌, ◌<◌, ◌+◌, ◌==◌, max, Bool, true, false, cond, List, [], ◌∷◌, ◌++◌, length, Option, None, Some, refl, ap, sym, ◌∙◌, subst, arith}
 use Rattle.std.specs.Prelude.{option_map, replicate}
-use Rattle.std.specs.Str.{bytes_eq}
 use Rattle.std.proofs.lemmas.List.{length-replicate}
-use Rattle.std.proofs.lemmas.Slice.Eq.{bytes_eq-Decides}
 use Rattle.wopi_model.specs.declared.calls.Act.{Act}
 use Rattle.wopi_model.specs.declared.calls.Act.TheVariants as asks
 use Rattle.wopi_model.specs.declared.calls.Call.{Call}
 use Rattle.wopi_model.specs.declared.calls.Ruling.{Ruling}
 use Rattle.wopi_model.specs.File.{File}
-use Rattle.wopi_model.specs.Begin.{at_name, put_name}
+use Rattle.wopi_model.specs.Begin.{at_name}
 use Rattle.wopi_model.specs.Settle.{settled}
 use Rattle.wopi_model.specs.Step.{IsOutcome}
 use Rattle.wopi_model.specs.Kept.{Shows}
 use Rattle.wopi_model.specs.Shard.{IsAllowed, Shard, Step, at_moment}
 use Rattle.wopi_model.proofs.Keeping.{shows-tick, shown-at_moment}
-use Rattle.wopi_model.proofs.Living.{at-put}
 use Rattle.host_core.specs.declared.entry.EntryAct.{EntryAct}
 use Rattle.host_core.specs.declared.entry.EntryAct.TheVariants as act
 use Rattle.host_core.specs.Entries.{Made, accepted_contents, brought_by, kept_act}
@@ -26,8 +23,9 @@ use Rattle.journal_audit.specs.Calls.{act_of, call_of, contents_of, said_by, sai
 use Rattle.journal_audit.specs.Judging.{IsSize, SaysOutcome, shows_spent}
 use Rattle.journal_audit.specs.Lines.{IsRuledOn}
 use Rattle.journal_segments.specs.Line.{size_in}
-use Rattle.journal_segments.specs.Told.{Placed, Tells, Told, contents_in, files_after, files_in, fresh_after, placed_by, settled_place, size_after, told_line, unmet, whole}
+use Rattle.journal_segments.specs.Told.{Placed, Tells, Told, files_in, unmet, whole}
 use Rattle.journal_segments.proofs.Apart.{some_of_size}
+use Rattle.journal_segments.proofs.Sized.{AreSized, IsSized}
 use Rattle.segment_audit.specs.Sizes.{file_of, refused_at, sized_at}
 use Rattle.segment_audit.specs.Legal.{IsRuledAt}
 use Rattle.segment_audit.specs.Making.{HasSizes, MayBeMade}
@@ -35,10 +33,6 @@ use Rattle.segment_audit.proofs.Sizing.{Stands, outcome_of, says_outcome}
 use Rattle.segment_audit.proofs.Ruling.{ruled_on}
 
 -- ---- one file
-
--- contents of that size stand there, whether lines brought them or the folder has them
-abbrev pub IsSized : Option (List ℕ) → Placed → Type 0
-IsSized kept place = IsSize (contents_in kept place.size place.fresh) place.size
 
 stands_whole : (kept : Option (List ℕ)) (place : Placed) (now : ℕ) → IsSized kept place → Stands (sized_at place now) (refused_at place now) (settled (whole kept place) now)
 stands_whole kept place now sized = record { version_is = refl; size_is = sized; lock_is = refl; spent_is = λ id. refl }
@@ -50,50 +44,9 @@ ruled_whole kept place line opened sized ruled =
     outcome_of (sized_at place line.now) (refused_at place line.now) (settled (whole kept place) line.now) line opened (stands_whole kept place line.now sized)
     ((ruled_on place line opened).1 ruled)
 
--- ---- sizes go on
-
 -- a line tells as many bytes as it says
 abbrev pub Brings : Line → Type 0
 Brings line = size_in line.contents ≡ told_size line.act line.status
-
-brought_size : (status : ℕ) (size : ℕ) (contents : Option (List ℕ)) (kept : Option (List ℕ)) → (status == 200) ≡ true → size_in contents ≡ (cond (status == 200) (Some size) None) → IsSize (contents_in kept (Some size) contents) (Some size)
-brought_size status size None kept ok brings = absurd (cc (brings ∙ ap (λ (b : Bool). cond b (Some size) None) ok))
-brought_size status size (Some bytes) kept ok brings = sym (brings ∙ ap (λ (b : Bool). cond b (Some size) None) ok)
-
-size_goes : (kept : Option (List ℕ)) (place : Placed) (one : EntryAct) (status : ℕ) (contents : Option (List ℕ)) → (status == 200) ≡ true → size_in contents ≡ told_size one status → IsSized kept place →
-    IsSize (contents_in kept (size_after place.size one) (fresh_after place.fresh one contents)) (size_after place.size one)
-size_goes kept place act.Info status contents ok brings sized = sized
-size_goes kept place (act.Get most) status contents ok brings sized = sized
-size_goes kept place (act.Put lock size) status contents ok brings sized = brought_size status size contents kept ok brings
-size_goes kept place (act.Lock id) status contents ok brings sized = sized
-size_goes kept place act.GetLock status contents ok brings sized = sized
-size_goes kept place (act.Refresh id) status contents ok brings sized = sized
-size_goes kept place (act.Unlock id) status contents ok brings sized = sized
-size_goes kept place (act.Relock old id) status contents ok brings sized = sized
-size_goes kept place act.Look status contents ok brings sized = sized
-size_goes kept place (act.Create overwrite size) status contents ok brings sized = brought_size status size contents kept ok brings
-size_goes kept place act.Delete status contents ok brings sized = refl
-
--- all files
-abbrev pub AreSized : (List ℕ → Option (List ℕ)) → Told → Type 0
-AreSized folder told = (name : List ℕ) → IsSized (folder name) (at_name (unmet told.first) told.files name)
-
-pub sizes_go : (folder : List ℕ → Option (List ℕ)) (told : Told) (line : Line) → Brings line → AreSized folder told → AreSized folder (told_line told line)
-sizes_go folder told line brings sized name =
-    let other = unmet told.first in
-    let own = line.name in
-    let it = placed_by told.files told.first line in
-    elim (line.status == 200) as (λ b. (line.status == 200) ≡ b → IsSized (folder name) (at_name other (cond b (put_name own it told.files) told.files) name)) [
-      | true ↦ λ ok.
-          subst (IsSized (folder name)) (sym (at-put other own it told.files name))
-          (elim (bytes_eq own name) as (λ b. bytes_eq own name ≡ b → IsSized (folder name) (cond b it (at_name other told.files name))) [
-            | true ↦ λ e.
-                subst (λ (n : List ℕ). IsSized (folder n) it) ((bytes_eq-Decides own name).0 e)
-                (size_goes (folder own) (settled_place (at_name other told.files own) line.now) line.act line.status line.contents ok brings (sized own))
-            | false ↦ λ e. sized name
-          ] refl)
-      | false ↦ λ ok. sized name
-    ] refl
 
 -- ---- a line and its entry
 

@@ -10,6 +10,7 @@ use Rattle.wopi_model.specs.declared.token.Token.{Token}
 use Rattle.wopi_model.specs.Step.{bare, store_fault}
 use Rattle.host_core.specs.declared.entry.EntryAct.{EntryAct}
 use Rattle.host_core.specs.declared.entry.EntryAct.TheVariants as act
+use Rattle.host_core.specs.declared.life.LifeContents.TheVariants as has
 use Rattle.journal_text.specs.declared.text.Line.{Line}
 use Rattle.journal_segments.specs.Told.{Placed, Told}
 use Rattle.segment_audit.specs.Legal.{IsRuledAt}
@@ -21,10 +22,9 @@ abbrev place : Placed
 place =
     record {
       version = 2;
-      size = Some 2;
+      contents = has.Left 2;
       lock = Some (record { id = codes "L1"; since = 9; until = 9000000 });
       spent = record { id = codes "L0"; until = 9000000 } ∷ [];
-      fresh = None;
     }
 
 abbrev told : Told

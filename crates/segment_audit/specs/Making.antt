@@ -10,18 +10,18 @@ use Rattle.host_log.specs.Rows.{Counts, TakenBack}
 use Rattle.journal_audit.specs.Judging.{IsSize}
 use Rattle.journal_segments.specs.declared.rows.Row.{Row}
 use Rattle.journal_segments.specs.declared.rows.Row.TheVariants as row
-use Rattle.journal_segments.specs.Told.{Told, begin_of, unmet}
+use Rattle.journal_segments.specs.Told.{Told, begin_of, size_told, unmet}
 use Rattle.segment_audit.specs.Sizes.{zeros}
 
 -- ---- what a beginning leaves open
 
 -- contents of the sizes that are told
 abbrev pub HasSizes : (List ℕ → Option (List ℕ)) → Told → Type 0
-HasSizes folder told = (name : List ℕ) → IsSize (folder name) (at_name (unmet told.first) told.files name).size
+HasSizes folder told = (name : List ℕ) → IsSize (folder name) (size_told (at_name (unmet told.first) told.files name).contents)
 
 -- those of as many zero bytes
 abbrev pub zeros_in : Told → List ℕ → Option (List ℕ)
-zeros_in told name = zeros (at_name (unmet told.first) told.files name).size
+zeros_in told name = zeros (size_told (at_name (unmet told.first) told.files name).contents)
 
 -- what a shard begins with that goes on from what is told, with such contents
 abbrev pub begin_told : Told → Begin

@@ -5,7 +5,7 @@ use Rattle.wopi_model.specs.Act.{is_spent}
 use Rattle.wopi_model.specs.Settle.{standing, expired, with_spent, still_spent}
 use Rattle.wopi_model.specs.Step.{Decision, Refuse, Conflict, Accept}
 use Rattle.journal_audit.specs.Judging as judging
-use Rattle.journal_segments.specs.Told.{Placed}
+use Rattle.journal_segments.specs.Told.{Placed, size_told}
 use Rattle.segment_audit.specs.declared.judging.Judgement.{Judgement}
 use Rattle.segment_audit.specs.declared.judging.Judgement.TheVariants as judgement
 
@@ -15,11 +15,11 @@ abbrev pub zeros : Option ℕ → Option (List ℕ)
 zeros size = option_map (λ count. replicate count 0) size
 
 abbrev pub file_of : Placed → File
-file_of place = record { contents = zeros place.size; version = place.version; lock = place.lock; spent = place.spent }
+file_of place = record { contents = zeros (size_told place.contents); version = place.version; lock = place.lock; spent = place.spent }
 
 -- what is told of a file, once it is settled, but for its spent ids
 abbrev pub sized_at : Placed → ℕ → judging.Placed
-sized_at place now = record { version = place.version; size = place.size; lock = standing place.lock now }
+sized_at place now = record { version = place.version; size = size_told place.contents; lock = standing place.lock now }
 
 -- the id is refused on the file then
 abbrev pub refused_at : Placed → ℕ → List ℕ → Bool

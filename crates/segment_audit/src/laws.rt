@@ -7,10 +7,10 @@ ghost use Rattle.host_core.specs.Entries.{Made, items_of};
 ghost use Rattle.host_log.specs.Rows as log;
 ghost use Rattle.journal_segments.specs.declared.rows.Head.{Head};
 ghost use Rattle.journal_segments.specs.declared.rows.Row.{Row};
-ghost use Rattle.journal_segments.specs.declared.state.Pending.TheVariants.{Start};
+ghost use Rattle.journal_segments.specs.Places.{AreOnce};
 ghost use Rattle.journal_segments.specs.Told.{Placed, Tells};
 ghost use Rattle.journal_segments.specs.Logs.{entry_row};
-ghost use Rattle.journal_segments.specs.Openings.{AreBehind, IsPlaced, counted, opening_rows, opening_text, told_of};
+ghost use Rattle.journal_segments.specs.Openings.{IsPlaced, counted, opening_rows, opening_text, told_of};
 ghost use Rattle.journal_segments.specs.Rows.{AreRows, IsHead, start, state_after};
 ghost use Rattle.segment_audit.specs.declared.verdict.RowFault.{RowFault};
 ghost use Rattle.segment_audit.specs.Legal.{AreRight, IsBadLine, IsLegalSegment};
@@ -39,6 +39,6 @@ pub fn legal_segments_are_made()
 /// host_log appends them, and of those that it took back.
 pub fn lines_of_entries_are_legal()
     ensures { (folder : List ℕ → Option (List ℕ)) (head : Head) (files : List (List ℕ × Placed)) (shard : Shard) (rows : List log.Row) → IsHead head →
-        AllByRecursion (IsPlaced head.shard) files → AreBehind Start files → HasSizes folder (told_of head files) → Tells folder (told_of head files) shard →
+        AllByRecursion (IsPlaced head.shard) files → AreOnce files → HasSizes folder (told_of head files) → Tells folder (told_of head files) shard →
         AreMade shard head.shard head.last rows → IsLegalSegment (opening_text head files ++ log.rows_text rows) }
 {}

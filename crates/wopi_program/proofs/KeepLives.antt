@@ -14,7 +14,7 @@ use Rattle.host_core.specs.Opening.{AreDatesOf, IsOpening, Fits}
 use Rattle.host_core.specs.Times.{steps_of, last_time, IsTimely}
 use Rattle.host_core.specs.Value.{Book, Left, Agrees, state_of, is_torn, faults_in}
 use Rattle.host_log.specs.Logs.{LogView, HasEnded, IsDoubt, started}
-use Rattle.host_log.specs.Rows.{IsInDoubt, IsLog, head_of, opening_text}
+use Rattle.host_log.specs.Rows.{IsInDoubt, IsLog, begin_text, head_of, opening_text}
 use Rattle.host_table.specs.Journal.{AreParts, openings}
 use Rattle.host_table.specs.Passes.{Place}
 use Rattle.host_table.specs.Start.{log_in, AreBegun, IsBegun}
@@ -23,7 +23,7 @@ use Rattle.wopi_program.specs.Meanings.{Meanings}
 use Rattle.wopi_program.specs.Journal.{IsOpened, AreOpened}
 use Rattle.wopi_program.specs.Keep.{KeptShard, IsKept, AreKept, lost_in}
 use Rattle.wopi_program.specs.Paired.{IsPaired, AreAnew, AreParted, faults_of, files_of, lost_store, notes_of}
-use Rattle.wopi_program.proofs.FolderLemmas.{bytes_in, life_files, same_openings, told_files}
+use Rattle.wopi_program.proofs.FolderLemmas.{bytes_in, told_files}
 use Rattle.wopi_program.proofs.JournalLemmas.{steps-append}
 use Rattle.wopi_program.proofs.Merged.{AreBased, IsBased}
 
@@ -152,10 +152,10 @@ names_told : (files : List (List ℕ × File)) → map (λ one. one.0) files ≡
 names_told [] = refl
 names_told (file ∷ files) = ap (λ (l : List (List ℕ)). file.0 ∷ l) (names_told files)
 
-head_at : (shard opened first : ℕ) (opening : Opening) → 1 ≤ first → head_of shard opened first opening ≡ opening_text shard opened first opening
-head_at shard opened first opening some = go (first == 0) refl
+head_at : (shard : ℕ) (begin : Begin) → 1 ≤ begin.first → head_of shard begin ≡ begin_text shard begin
+head_at shard begin some = go (begin.first == 0) refl
   where
-    go : (b : Bool) → (first == 0) ≡ b → (if b then [] else opening_text shard opened first opening) ≡ opening_text shard opened first opening
+    go : (b : Bool) → (begin.first == 0) ≡ b → (if b then [] else begin_text shard begin) ≡ begin_text shard begin
     go true is = absurd (grind (arith, nat_tests))
     go false is = refl
 
@@ -228,14 +228,8 @@ module _ {S K F N D C G L : Type 0} (m : Meanings S K F N D C G L) (every : Bool
     head_is some =
         let e = is.life.ended in
         let begin : row.life.last.notes.begin ≡ new_life (part_of row).opening opened first = is.noted.begin ∙ begin_is in
-        let at : row.life.last.notes.begin.opened ≡ opened = ap (λ (b : Begin). b.opened) begin in
-        let from : row.life.last.notes.begin.first ≡ first = ap (λ (b : Begin). b.first) begin in
-        let files : life_files first e.opening ≡ life_files first (part_of row).opening =
-        ap (λ n. life_files n e.opening) (sym from) ∙ ap (λ (b : Begin). b.files) (sym e.begin_is ∙ begin)
-        in
-        let opening : e.opening ≡ (part_of row).opening = same_openings first e.opening (part_of row).opening files in
         let shard = (same_log m.log_held m.log_synced m.log_faults every number row.life is.life).shard in
-        e.head_is ∙ (λ i. head_of (shard i) (at i) (from i) (opening i)) ∙ head_at number opened first (part_of row).opening some
+        e.head_is ∙ (λ i. head_of (shard i) (begin i)) ∙ head_at number (new_life (part_of row).opening opened first) some
 
     row_holds : Agrees (Some number) (m.files row.life.folder) (m.files row.life.folder') (state_of (new_life (part_of row).opening opened first) row.life.last.notes.made (last_time opened row.life.last.notes.made)).files (is_torn row.life.last.notes.made)
     row_holds =
@@ -258,9 +252,9 @@ module _ {S K F N D C G L : Type 0} (m : Meanings S K F N D C G L) (every : Bool
         let was : m.folder_faults row.base.start.folder ≡ m.folder_faults row.life.folder = ap m.folder_faults (ap (λ (s : LogView F). s.folder) start ∙ is.life.paired.anew.folder_is) in
         let before : m.folder_faults row.base.start.folder + row.base.start.refused ≡ m.folder_faults row.life.folder = omega (arith, none, was) in
         let now : row.life.last.folder ≡ row.life.folder' = sym is.life.ended.folder_is in
-        let R1 : ℕ → Type 0 = λ n. RoseBy n (faults_in made) (m.folder_faults row.life.last.folder + row.life.last.refused) in
-        let R2 : F → Type 0 = λ f. RoseBy (m.folder_faults row.life.folder) (faults_in made) (m.folder_faults f + row.life.last.refused) in
-        subst R2 now (subst R1 before is.noted.lawful.faults)
+        let RoseFrom : ℕ → Type 0 = λ n. RoseBy n (faults_in made) (m.folder_faults row.life.last.folder + row.life.last.refused) in
+        let RoseOver : F → Type 0 = λ f. RoseBy (m.folder_faults row.life.folder) (faults_in made) (m.folder_faults f + row.life.last.refused) in
+        subst RoseOver now (subst RoseFrom before is.noted.lawful.faults)
 
     row_timely : IsTimely opened row.life.last.notes.made
     row_timely = subst (λ n. IsTimely n row.life.last.notes.made) (ap (λ (b : Begin). b.now) begin_is) is.noted.timely

@@ -15,6 +15,7 @@ use Rattle.host_log.specs.contracts.lines.Lines as lines
 use Rattle.host_log.specs.contracts.logged.Logged as logged
 use Rattle.host_log.specs.contracts.logged.Saved as saved
 use Rattle.host_log.specs.contracts.note.Note as note
+use Rattle.host_log.specs.contracts.origin.Origin as origin
 
 token_send : IsSend (token.the_field).row
 token_send = search (sendable, any.crosses, name_send, user_send) depth 20
@@ -25,8 +26,11 @@ act_send = search (sendable, any.crosses, id_send) depth 20
 begun_send : IsSend begun.the_row
 begun_send = search (sendable, any.crosses, name_send, token_send, act_send) depth 20
 
+origin_send : IsSend origin.the_row
+origin_send = search (sendable, any.crosses) depth 20
+
 head_send : IsSend head.the_row
-head_send = search (sendable, any.crosses) depth 20
+head_send = search (sendable, any.crosses, origin_send) depth 20
 
 note_send : IsSend note.the_row
 note_send = search (sendable, any.crosses) depth 20
@@ -41,4 +45,4 @@ lines_send : (G : RattleType) (d e : _) → IsSend G → IsSend (lines.the_row G
 lines_send G d e g = search (sendable, any.crosses, room_send, head_send, note_send, story_send) depth 20
 
 pub logged_send : (F G : RattleType) (c d e : _) → IsSend F → IsSend G → IsSend (logged.the_row F G c d e)
-logged_send F G c d e f g = search (sendable, any.crosses, lines_send, begun_send, saved_send, note_send, story_send) depth 20
+logged_send F G c d e f g = search (sendable, any.crosses, lines_send, begun_send, saved_send, note_send, origin_send, story_send) depth 20

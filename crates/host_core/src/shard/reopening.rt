@@ -110,7 +110,8 @@ impl<F: Lasting> Shard<F> {
     /// Opens a shard that goes on where another one was, of which it is told, over the folder of that one. What was changed last
     /// is made up for in the folder, where it isn't there. Each other file stands as the folder has it; one that was told with
     /// another size, or as absent, is taken in at the next version, under the locks that were told, and one of a new name at
-    /// the version `first`. There are places for so many held locks and refused ids. A refusal hands the folder back.
+    /// the version `first`. There are places for so many held locks and refused ids. The shard starts with the folder as it is then. A
+    /// refusal hands the folder back.
     pub fn reopen(
         alloc: Global,
         folder: F,
@@ -129,7 +130,7 @@ impl<F: Lasting> Shard<F> {
           made = [];
           time = life.now;
           ticked = false;
-          start = folder;
+          start = shard.folder;
           folder = shard.folder;
         }) }
         ensures reopened { IfOk result (λ shard. IsReopened only (F.files folder) (F.times folder) life shard.begin shard.dates) }
@@ -182,7 +183,7 @@ impl<F: Lasting> Shard<F> {
           made = [];
           time = life.entry.now.now;
           ticked = false;
-          start = folder;
+          start = shard.folder;
           folder = shard.folder;
         }) }
         ensures reopened { IfOk result (λ shard. IsReopened only (F.files folder) (F.times folder) life.entry.now shard.begin shard.dates) }
@@ -202,7 +203,7 @@ impl<F: Lasting> Shard<F> {
         ensures counts { IfErr result (λ refused. F.faults folder ≤ F.faults refused.0) }
     {
         let mut folder = folder;
-        let start = Snapshot::of(&folder);
+        let before = Snapshot::of(&folder);
         let going = match take_up(alloc, &mut folder, only, life, index) {
             Ok(going) => going,
             Err(fault) => return Err((folder, fault)),
@@ -217,18 +218,20 @@ impl<F: Lasting> Shard<F> {
         match begin_on(alloc, &mut folder, &going, life) {
             Err(fault) => return Err((folder, fault)),
             Ok(()) => {
-                let shard = Shard::assemble_on(alloc, folder, only, start, going, locks, ids, life);
+                let shard = Shard::assemble_on(
+                    alloc, folder, only, before, going, locks, ids, life,
+                );
                 return Ok(shard);
             }
         }
     }
 
-    /// The shard over a store that goes on, with the files and the locks that were taken up.
+    /// The shard over a store that goes on, with the files and the locks that were taken up from the folder as it was before.
     fn assemble_on(
         alloc: Global,
         folder: F,
         only: Option<u8>,
-        start: Snapshot<F>,
+        before: Snapshot<F>,
         going: Going,
         locks: KeptLocks,
         ids: u32,
@@ -236,15 +239,14 @@ impl<F: Lasting> Shard<F> {
     ) -> Shard<F>
         requires good { IsGoodLife only life.now }
         requires ids { ids ≤ 32768 }
-        requires going { TakesUp only (F.files start.value) (F.times start.value) life.now going }
+        requires going { TakesUp only (F.files before.value) (F.times before.value) life.now going }
         requires held { AreHeld going.told.items life.now.now ids locks }
         requires enough { ids_told going.told.items ≤ ids }
-        requires mends { Mends life.now.files.items (F.files start.value) (F.files folder) }
+        requires mends { Mends life.now.files.items (F.files before.value) (F.files folder) }
         requires begin { (F.notes folder).begin ≡ begin_listed life.now.opened life.now.first life.now.now life.now.last going.stock.files.items going.told.items }
         requires made { (F.notes folder).made ≡ [] }
         requires ended { (F.notes folder).begun ≡ None }
         requires most { (F.notes folder).most ≡ None }
-        requires faults { F.faults start.value ≤ F.faults folder }
         ensures value { result ≡ record {
           only = only;
           begin = result.begin;
@@ -253,15 +255,16 @@ impl<F: Lasting> Shard<F> {
           made = [];
           time = life.entry.now.now;
           ticked = false;
-          start = start.value;
+          start = folder;
           folder = folder;
         } }
-        ensures reopened { IsReopened only (F.files start.value) (F.times start.value) life.entry.now result.begin result.dates }
+        ensures reopened { IsReopened only (F.files before.value) (F.times before.value) life.entry.now result.begin result.dates }
         ensures enough { live_ids result.begin.files ≤ ids }
         ensures lawful { IsLawful result (F.files result.start) (F.files result.folder) (F.faults result.start) (F.faults result.folder) }
     {
         let ticked = Snapshot::of(&false);
         let opening = Snapshot::of(&going.stock.files);
+        let start = Snapshot::of(&folder);
         Shard {
             ledger: Ledger {
                 alloc,

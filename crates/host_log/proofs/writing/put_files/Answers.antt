@@ -1,18 +1,22 @@
-use Rattle.std.proofs.Common.{◌∙◌, arith}
-use Rattle.host_table.proofs.WritingLemmas.{pieces_more, pieces_cut}
-use Rattle.host_log.specs.Rows.{kept_line}
+use Rattle.std.proofs.Common.{ℕ, List, ap, option_map, subst}
+use Rattle.kept_locks.specs.Locks.{Standing}
+use Rattle.host_table.specs.Writing.{Gathers}
+use Rattle.host_log.proofs.Texts.{none_locked, some_locked}
 use Rattle.host_log.proofs.writing.put_files.Goals as goal
 
-pub returns-in-Err-clause-bytes : goal.returns-in-Err-clause-bytes
-returns-in-Err-clause-bytes g c =
-    let line = rw c.at_pieces.ensures at c.in-Err.ensures.bytes in
-    pieces_cut (kept_line c.args.first) c.args.files.now c.files.file-index c.file-item.result c.file-item.result _ _ _ _ _ c.files-test.true c.file-item.is c.files.invariant.written line
+pub returns-in-None-clause-bytes : goal.returns-in-None-clause-bytes
+returns-in-None-clause-bytes g c =
+    let s = c.args.start.now in
+    let opened = rw c.deref.ensures.value at c.put_all_opened.ensures.bytes in
+    let text = none_locked s.first s.files.now.items _ (ap (option_map {U = List Standing} (λ locks. locks.now.items)) c.in-None.is) in
+    subst (λ (l : List ℕ). Gathers (g.L.Sink.held c.args.log.now) (g.L.Sink.held c.put_all_opened.new.log) c.args.room.now.bytes.items c.put_all_opened.new.room.bytes.items c.put_all_opened.result l)
+    text opened
 
-pub files-preserved : goal.files-preserved
-files-preserved g c =
-    let line = rw c.at_pieces.ensures at c.in-Ok.ensures.bytes in
-    record {
-      written = pieces_more (kept_line c.args.first) c.args.files.now c.files.file-index c.file-item.result c.file-item.result _ _ _ _ _ _ c.files-test.true c.file-item.is c.files.invariant.written line;
-      beside = c.put_pieces.ensures.beside ∙ c.files.invariant.beside;
-      counts = omega (arith, c.files.invariant.counts, c.put_pieces.ensures.never_falls);
-    }
+pub returns-in-Some-clause-bytes : goal.returns-in-Some-clause-bytes
+returns-in-Some-clause-bytes g c =
+    let s = c.args.start.now in
+    let files = rw c.deref-in-Some.ensures.value at c.put_all_whole.ensures.bytes in
+    let whole = rw c.deref-in-Some-2.ensures.value at files in
+    let text = some_locked s.first s.files.now.items _ c.in-Some.locks.now.items (ap (option_map {U = List Standing} (λ locks. locks.now.items)) c.in-Some.is) in
+    subst (λ (l : List ℕ). Gathers (g.L.Sink.held c.args.log.now) (g.L.Sink.held c.put_all_whole.new.log) c.args.room.now.bytes.items c.put_all_whole.new.room.bytes.items c.put_all_whole.result l)
+    text whole

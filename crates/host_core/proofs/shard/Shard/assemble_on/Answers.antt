@@ -22,7 +22,7 @@ use Rattle.host_core.proofs.Chaining.{with_chains}
 use Rattle.host_core.proofs.Dating.{dated_start}
 use Rattle.host_core.proofs.Standing.{rose-begin, lawful}
 use Rattle.host_core.proofs.Regains.{all_stand}
-use Rattle.host_core.proofs.Reopens.{agrees_on, began_all, began_files, bytes_on, files_listed, ids_on, keeps_begin, keeps_live, low_within, names_listed, none_torn}
+use Rattle.host_core.proofs.Reopens.{agrees_itself, agrees_on, began_all, began_files, bytes_on, files_listed, ids_on, keeps_begin, keeps_live, low_within, names_listed, none_torn}
 use Rattle.host_core.proofs.shard.Shard.assemble_on.Goals as goal
 
 pub invariant_of-result : goal.invariant_of-result
@@ -33,7 +33,8 @@ invariant_of-result g c =
     let life = c.args.life.now in
     let stock = c.args.going.stock in
     let told = c.args.going.told.items in
-    let start = c.args.start.value in
+    let before = c.args.before.value in
+    let start = c.of-start.result.value in
     let taken = c.requires.going in
     let is = taken.going_is in
     let begin = goes_on life taken.opening in
@@ -84,9 +85,12 @@ invariant_of-result g c =
     subst (λ (b : Begin). KeepsLive c.args.ids b notes.made life.now life.last stock.bytes) (sym begins)
     (subst (λ (m : List Made). KeepsLive c.args.ids begin m life.now life.last stock.bytes) (sym c.requires.made)
     (keeps_live c.args.ids stock.bytes begin once (omega (arith, ids, counted, listed)) c.requires.good.last live)) in
+    let same_start : start ≡ c.args.folder = c.of-start.ensures in
     let agrees : Agrees c.of.result.value (files start) (files c.args.folder) (files_of life.first kept) (torn_in kept) =
-    subst (λ (only : Option ℕ). Agrees only (files start) (files c.args.folder) (files_of life.first kept) (torn_in kept)) (sym c.of.ensures)
-    (agrees_on c.args.only (files start) (files c.args.folder) life taken.opening kept taken.read c.requires.mends c.requires.good.own shown) in
+    subst (λ f. Agrees c.of.result.value (files f) (files c.args.folder) (files_of life.first kept) (torn_in kept)) (sym same_start)
+    (subst (λ (only : Option ℕ). Agrees only (files c.args.folder) (files c.args.folder) (files_of life.first kept) (torn_in kept)) (sym c.of.ensures)
+    (agrees_itself c.args.only (files before) (files c.args.folder) (files_of life.first kept) (torn_in kept)
+    (agrees_on c.args.only (files before) (files c.args.folder) life taken.opening kept taken.read c.requires.mends c.requires.good.own shown))) in
     let first_is : life.first ≡ notes.begin.first = sym (ap (λ (b : Begin). b.first) begins) in
     let goes : GoesByEntries life.now notes.made life.now =
     subst (λ (m : List Made). GoesByEntries life.now m life.now) (sym c.requires.made) (record { timely = tt; time_is = refl }) in
@@ -100,7 +104,7 @@ invariant_of-result g c =
     record {
       keeps = started;
       folder = subst (λ (n : ℕ). Agrees c.of.result.value (files start) (files c.args.folder) (files_of n kept) (torn_in kept)) first_is agrees;
-      faults = subst (λ (m : List Made). RoseBy (faults start) (faults_in m) (faults c.args.folder)) (sym c.requires.made) (rose-begin (faults start) (faults c.args.folder) c.requires.faults);
+      faults = subst (λ (m : List Made). RoseBy (faults start) (faults_in m) (faults c.args.folder)) (sym c.requires.made) (rose-begin (faults start) (faults c.args.folder) (subst (λ f. faults f ≤ faults c.args.folder) (sym same_start) (omega arith)));
       timely = λ _. subst (λ (b : Begin). GoesByEntries b.now notes.made life.now) (sym begins) goes;
       within = subst (λ (b : Begin). AreWithin (most_version b (length notes.made)) kept) (sym begins) within;
       number = subst IsFirstVersion first_is c.requires.good.first;
@@ -127,7 +131,7 @@ pub returns-clause-lawful : goal.returns-clause-lawful
 returns-clause-lawful g c =
     let files = g.F.Store.files in
     let faults = g.F.Store.faults in
-    let start = c.args.start.value in
+    let start = c.of-start.result.value in
     lawful _ c.args.life.now.last _ c.args.going.stock.bytes
     (files start) (files c.args.folder) (faults start) (faults c.args.folder) (invariant_of-result g c).0
 

@@ -68,7 +68,7 @@ returns-in-Err-begin_on-clause-handed g c =
 pub assemble_on-shard-requires-clause-mends : goal.assemble_on-shard-requires-clause-mends
 assemble_on-shard-requires-clause-mends g c =
     let files = g.F.Store.files in
-    subst (λ (o : Option Files). Mends c.args.life.now.files.items o (files c.begin_on.new.folder)) (sym (ap files c.of-start.ensures))
+    subst (λ (o : Option Files). Mends c.args.life.now.files.items o (files c.begin_on.new.folder)) (sym (ap files c.of-before.ensures))
     (mends_then c.args.life.now.files.items (files c.args.folder) (files c.take_up.new.folder) (files c.begin_on.new.folder) c.in-Ok.ensures.mends c.begin_on.ensures.files)
 
 pub returns-in-Ok-begin_on-clause-mends : goal.returns-in-Ok-begin_on-clause-mends

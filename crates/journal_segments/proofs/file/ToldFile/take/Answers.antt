@@ -1,7 +1,7 @@
 use Rattle.std.proofs.Common.{rules, ◌≡◌, ◌∙◌, ap, ℕ, List, Option}
 use Rattle.wopi_model.specs.Settle.{with_spent}
 use Rattle.wopi_model.specs.LockTable.{lock_after, spent_by}
-use Rattle.journal_segments.specs.Told.{Placed, asked, fresh_after, size_after, version_told}
+use Rattle.journal_segments.specs.Told.{Placed, asked, contents_after, version_told}
 use Rattle.journal_segments.proofs.file.ToldFile.take.Goals as goal
 
 pub returns : goal.returns
@@ -11,6 +11,5 @@ returns c =
     let lock : c.judged-lock.result.0 ≡ lock_after old.lock (asked line.act) line.token.expires line.now = grind rules in
     let spent : c.add_spent.new.spent.items ≡ with_spent (spent_by old.lock (asked line.act) line.token.expires) old.spent = grind rules in
     let version : c.version_told-self-inside.result ≡ version_told old.version line.act line.version = c.version_told-self-inside.ensures ∙ ap (λ (p : Placed). version_told p.version line.act line.version) c.self.view_is in
-    let size : c.size_after-self-inside.result ≡ size_after old.size line.act = c.size_after-self-inside.ensures ∙ ap (λ (p : Placed). size_after p.size line.act) c.self.view_is in
-    let fresh : c.fresh_after.result ≡ fresh_after old.fresh line.act line.contents = c.fresh_after.ensures ∙ ap (λ (f : Option (List ℕ)). fresh_after f line.act line.contents) c.take.ensures.value ∙ ap (λ (p : Placed). fresh_after p.fresh line.act line.contents) c.self.view_is in
-    λ i. record { version = version i; size = size i; lock = lock i; spent = spent i; fresh = fresh i }
+    let contents : c.contents_after.result ≡ contents_after old.contents line.act line.contents = grind rules in
+    λ i. record { version = version i; contents = contents i; lock = lock i; spent = spent i }

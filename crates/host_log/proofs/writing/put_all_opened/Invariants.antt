@@ -1,0 +1,12 @@
+use Rattle.std.proofs.Common.{◌≡◌, ◌≤◌, take}
+use Rattle.std.specs.List.{flat_map}
+use Rattle.host_table.specs.Writing.{IsGathered}
+use Rattle.host_log.specs.Rows.{opened_text}
+use Rattle.host_log.proofs.writing.put_all_opened.Given as goal
+
+abbrev pub invariant-files : goal.invariant-files
+invariant-files g l = record {
+  written : IsGathered (g.L.Sink.held l.fn.log) (g.L.Sink.held l.log) l.fn.room.bytes.items l.room.bytes.items (flat_map (opened_text l.first) (take l.file-index l.files));
+  beside : g.L.Sink.beside_writes l.log ≡ g.L.Sink.beside_writes l.fn.log;
+  counts : g.L.Sink.write_faults l.fn.log ≤ g.L.Sink.write_faults l.log;
+}
