@@ -2,7 +2,7 @@
 ghost use Rattle.std.specs.Prelude.{◌≡◌, ◌≤◌, IfOk, IfSome, OnErr, OnOk, IsTrue, option_map, string_bytes};
 ghost use Rattle.std.specs.Fs.{asks_append, asks_create_new};
 ghost use Rattle.outside.specs.Faults.{Rose};
-ghost use Rattle.adapters.specs.Places.{IsPendingAt};
+ghost use Rattle.adapters.specs.Places.{IsPendingAt, untold};
 
 use crate::directory::{Cause, open_anew, sync_folder};
 use outside::{Failed, Log, Sink};
@@ -224,7 +224,7 @@ impl<'a, R: Files> Sink for FileLog<'a, R> {
     ghost use Rattle.std.specs.Prelude.{◌<◌, None, [], length};
     ghost use Rattle.std.specs.Io.KnownBytes.{WriteAppends};
 
-    ghost held = { λ _. None };
+    ghost held = { λ _. untold };
 
     ghost write_faults = { λ l. l.faults };
 
@@ -233,6 +233,7 @@ impl<'a, R: Files> Sink for FileLog<'a, R> {
     fn write(&mut self, piece: &[u8]) -> Result<usize, Failed>
         ensures fits { IfOk result (λ n. n ≤ length piece.now) }
         ensures takes { IfOk result (λ n. 0 < length piece.now → 0 < n) }
+        ensures bytes { WriteAppends untold untold result piece.now }
         ensures never_falls { self.old.faults ≤ self.new.faults }
         ensures failed { OnErr result (Rose self.old.faults self.new.faults) }
         ensures path { self.new.path ≡ self.old.path }
@@ -248,11 +249,13 @@ impl<'a, R: Files> Sink for FileLog<'a, R> {
 }
 
 impl<'a, R: Files> Log for FileLog<'a, R> {
-    ghost use Rattle.std.specs.Prelude.{None, [], refl};
+    ghost use Rattle.std.specs.Prelude.{[], refl};
+    ghost use Rattle.outside.specs.Log.{HasLength, IsCutAt};
 
-    ghost synced = { λ _. None };
+    ghost synced = { λ _. untold };
 
     fn length(&mut self) -> Result<u64, Failed>
+        ensures length { IfOk result (HasLength untold) }
         ensures never_falls { self.old.faults ≤ self.new.faults }
         ensures failed { OnErr result (Rose self.old.faults self.new.faults) }
         ensures path { self.new.path ≡ self.old.path }
@@ -266,6 +269,7 @@ impl<'a, R: Files> Log for FileLog<'a, R> {
 
     /// Where it is pending, this brings it to its path.
     fn sync(&mut self) -> Result<(), Failed>
+        ensures synced { OnOk result (untold ≡ untold) }
         ensures never_falls { self.old.faults ≤ self.new.faults }
         ensures failed { OnErr result (Rose self.old.faults self.new.faults) }
         ensures path { self.new.path ≡ self.old.path }
@@ -279,6 +283,8 @@ impl<'a, R: Files> Log for FileLog<'a, R> {
     }
 
     fn resume(&mut self, count: u64) -> Result<(), Failed>
+        ensures cut { OnOk result (IsCutAt count untold untold) }
+        ensures synced { OnOk result (untold ≡ untold) }
         ensures never_falls { self.old.faults ≤ self.new.faults }
         ensures failed { OnErr result (Rose self.old.faults self.new.faults) }
         ensures path { self.new.path ≡ self.old.path }
