@@ -283,7 +283,7 @@ opening_right : (state : State) (files : List (List ℕ × Placed)) → AreRight
 opening_right state [] = tt
 opening_right state (file ∷ files) =
     right_join state (place_rows file) (opening_rows files)
-    (tt, held_right (step state (row.At file.0 file.1.version file.1.size)) file.0 file.1.lock file.1.spent)
+    (tt, held_right (step state (row.At file.0 file.1.version (size_told file.1.contents))) file.0 file.1.lock file.1.spent)
     (opening_right (state_after state (place_rows file)) files)
 
 no_row : IsRow []
