@@ -251,13 +251,13 @@ const TAKEN_BACK: &[u8] =
 
 #[test]
 fn at_each_call_of_the_folder_that_fails_so_it_does(rt: HostRuntime) -> Result<(), Fail> {
-    let mut refused = 0;
+    let mut refused: u64 = 0;
     for fault in MADE + 1..40 {
         let ran = run(&rt, rt.alloc(), &[fault], &[])?;
         let text = ran.log.as_slice();
         if !ran.is_open {
             assert!(rt; text.is_empty() && ran.told.is_empty());
-            refused += 1;
+            refused = refused.saturating_add(1);
             continue;
         }
         assert!(rt; text.starts_with(BEGUN));
