@@ -12,8 +12,6 @@ mod logs;
 #[cfg(test)]
 mod sockets;
 #[cfg(test)]
-mod starts;
-#[cfg(test)]
 mod stops;
 #[cfg(test)]
 mod telling;

@@ -1,4 +1,3 @@
-pub mod LastLemmas
 pub mod ListenerLemmas
 pub mod LogLemmas
 pub mod Sorted

@@ -1,6 +1,5 @@
 pub mod Closing
 pub mod Limits
 pub mod LogNames
-pub mod Places
 pub mod Stopping
 pub mod Telling
