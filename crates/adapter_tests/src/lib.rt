@@ -12,6 +12,8 @@ mod logs;
 #[cfg(test)]
 mod sockets;
 #[cfg(test)]
+mod starts;
+#[cfg(test)]
 mod stops;
 #[cfg(test)]
 mod telling;

@@ -11,16 +11,16 @@ use std::test::Fail;
 use std::{fs, io};
 
 // A folder of files beside which logs are kept.
-const FILES: &str = ".";
+pub const FILES: &str = ".";
 
 // Makes an empty folder.
-fn empty_folder(rt: &HostRuntime, folder: &str) -> io::Result<()> {
+pub fn empty_folder(rt: &HostRuntime, folder: &str) -> io::Result<()> {
     let _old = fs::remove_dir_all(rt, folder);
     fs::create_dir(rt, folder)
 }
 
 // Whether the file of that name holds just these bytes.
-fn holds(rt: &HostRuntime, folder: &str, name: &str, bytes: &[u8]) -> Result<bool, Fail> {
+pub fn holds(rt: &HostRuntime, folder: &str, name: &str, bytes: &[u8]) -> Result<bool, Fail> {
     let mut folder = DirFolder::new(rt.alloc(), rt, folder)?;
     match folder.read(name, 4096)? {
         FolderRead::Whole(found) => Ok(found.as_slice() == bytes),
@@ -134,13 +134,13 @@ fn a_hosts_logs_have_the_next_number_in_their_folder(rt: HostRuntime) -> Result<
     let Some(log) = held.logs.get_mut(11) else {
         return Err(Fail::new("there is no log of the twelfth shard"));
     };
-    assert!(rt; append(log, b"first\n") == Ok(()));
+    assert!(rt; append(log, b"first\n") == Ok(()) && log.sync() == Ok(()));
     assert!(rt; holds(&rt, FOLDER, "11.8", b"first\n")?);
     assert!(rt; matches!(open_logs(alloc, &rt, FOLDER, FILES), Err(Unopened::Held)));
     drop(held);
     assert!(rt; open_logs(alloc, &rt, FOLDER, FILES).is_ok());
-    assert!(rt; holds(&rt, FOLDER, "15.9", b"")? && holds(&rt, FOLDER, "3.7", b"old\n")?);
-    assert!(rt; new_logs(alloc, &rt, FOLDER, 9).is_err());
+    assert!(rt; holds(&rt, FOLDER, "15.9.tmp", b"")? && holds(&rt, FOLDER, "3.7", b"old\n")?);
+    assert!(rt; new_logs(alloc, &rt, FOLDER, 8).is_err());
     for files in [FOLDER, "./outside_test_logs/"] {
         let opened = open_logs(alloc, &rt, FOLDER, files);
         assert!(rt; matches!(opened, Err(Unopened::Files)), "{files}");
@@ -152,7 +152,7 @@ fn a_hosts_logs_have_the_next_number_in_their_folder(rt: HostRuntime) -> Result<
 }
 
 // Why no logs are opened in the folder.
-fn refusal(rt: &HostRuntime, folder: &str) -> Option<io::ErrorKind> {
+pub fn refusal(rt: &HostRuntime, folder: &str) -> Option<io::ErrorKind> {
     match open_logs(rt.alloc(), rt, folder, FILES) {
         Err(Unopened::Failed(error)) => Some(error.kind()),
         _ => None,
@@ -185,28 +185,6 @@ fn no_logs_are_opened_where_no_file_can_be_made(rt: HostRuntime) -> Result<(), F
         names: b"a\xff\0",
     };
     assert!(rt; next_logs(alloc, &odd, FOLDER).is_err());
-    fs::remove_dir_all(&rt, FOLDER)?;
-    Ok(())
-}
-
-// A look into the folder, sixteen files, and the folder's sync in two steps.
-#[test]
-fn no_logs_are_opened_where_a_step_fails(rt: HostRuntime) -> Result<(), Fail> {
-    const FOLDER: &str = "outside_test_half_logs";
-    let alloc = rt.alloc();
-    empty_folder(&rt, FOLDER)?;
-    let left = Cell::new(0);
-    let stopping = Stopping {
-        rt: &rt,
-        left: &left,
-        fault: io::ErrorKind::StorageFull,
-        names: b"",
-    };
-    for steps in 0..20 {
-        left.set(steps);
-        let is_opened = next_logs(alloc, &stopping, FOLDER).is_ok();
-        assert!(rt; is_opened == (steps == 19), "after {steps} steps");
-    }
     fs::remove_dir_all(&rt, FOLDER)?;
     Ok(())
 }

@@ -1,3 +1,4 @@
+pub mod LastLemmas
 pub mod ListenerLemmas
 pub mod LogLemmas
 pub mod Sorted

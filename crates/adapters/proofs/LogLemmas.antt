@@ -13,7 +13,7 @@ use Rattle.wopi_text.proofs.Decimals.{decimal_of-some, decimal_of-decimal, digit
 use Rattle.adapters.specs.LogNames.{ArePaths, HasLogOf, IsLogOf, IsNext, is_dot, log_path, number_in, of_shard}
 
 -- what a choice that gave a number shows
-chosen : (b : Bool) (o : Option ℕ) (n : ℕ) → (if b then o else None) ≡ Some n → (b ≡ true) × (o ≡ Some n)
+pub chosen : (b : Bool) (o : Option ℕ) (n : ℕ) → (if b then o else None) ≡ Some n → (b ≡ true) × (o ≡ Some n)
 chosen true o n is = (refl, is)
 chosen false o n is = cc is
 
@@ -21,7 +21,7 @@ shard_chosen : (s o : Option ℕ) (n : ℕ) → of_shard s o ≡ Some n → (sha
 shard_chosen None o n is = cc is
 shard_chosen (Some shard) o n is = let told = chosen (nat_lt shard 16) o n is in (shard, refl, ltb-true _ _ told.0, told.1)
 
-is_dot_byte : (byte : ℕ) → is_dot byte ≡ true → byte ≡ 46
+pub is_dot_byte : (byte : ℕ) → is_dot byte ≡ true → byte ≡ 46
 is_dot_byte byte is = grind arith
 
 pub number_in_some : (name : List ℕ) (n : ℕ) → number_in name ≡ Some n → IsLogOf name n
@@ -44,7 +44,7 @@ no_dot : (byte : ℕ) → is_ascii_digit byte ≡ true → is_dot byte ≡ false
 no_dot byte is = grind arith
 
 -- the first dot behind digits
-first_dot : (xs ys : List ℕ) → list_all is_ascii_digit xs ≡ true → position_or_len is_dot (xs ++ (46 ∷ ys)) ≡ length xs
+pub first_dot : (xs ys : List ℕ) → list_all is_ascii_digit xs ≡ true → position_or_len is_dot (xs ++ (46 ∷ ys)) ≡ length xs
 first_dot [] ys digits = refl
 first_dot (x ∷ xs) ys digits =
     let both = and_parts (is_ascii_digit x) (list_all is_ascii_digit xs) digits in

@@ -372,14 +372,18 @@ fn store<R: Files>(rt: &R, path: &str, temporary: &str, contents: &[u8]) -> io::
     renamed
 }
 
-// A new file, with a mode from which the system takes its mask. One that was left over under its name
-// is taken away first. A link isn't followed.
+// A new file, with a mode from which the system takes its mask. A link isn't followed.
 fn create<R: Files>(rt: &R, path: &str, mode: u32) -> io::Result<R::File> {
     let mut how = OpenOptions::new();
     let _how = how.write(true).create_new(true).mode(mode);
+    open_anew(rt, &how, path)
+}
+
+/// Opens a file that is asked to be made anew. One that was left over under its name is taken away first.
+pub(crate) fn open_anew<R: Files>(rt: &R, how: &OpenOptions, path: &str) -> io::Result<R::File> {
     match how.open(rt, path) {
         Err(error) if error.kind() == ErrorKind::AlreadyExists => {}
-        created => return created,
+        opened => return opened,
     }
     fs::remove_file(rt, path)?;
     how.open(rt, path)

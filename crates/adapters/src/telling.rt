@@ -32,9 +32,9 @@ pub fn folder_line<R: Files>(
 }
 
 /// That of the first log that failed.
-pub fn log_line<F, H: CloseAll + Drop>(
+pub fn log_line<R: Files, H: CloseAll + Drop>(
     alloc: Global,
-    logs: &[ClosingLog<FileLog<F>, H>],
+    logs: &[ClosingLog<FileLog<'_, R>, H>],
 ) -> Result<Option<String>, Memory> {
     for log in logs {
         if let Some(cause) = log.below().cause() {

@@ -32,11 +32,11 @@ pub(crate) struct End<'a> {
 impl<'a> End<'a> {
     /// The line that tells why a folder or a log failed, a folder is too large, or a socket couldn't be bound. Where memory
     /// is wanting for it, there is none.
-    pub(crate) fn cause<R: Files, G, H: CloseAll + Drop>(
+    pub(crate) fn cause<R: Files, G: Files, H: CloseAll + Drop>(
         &self,
         alloc: Global,
         folders: &[DirFolder<'_, R>],
-        logs: &[ClosingLog<FileLog<G>, H>],
+        logs: &[ClosingLog<FileLog<'_, G>, H>],
     ) -> Option<String> {
         let line = match self.status {
             5 => folder_line(alloc, folders),

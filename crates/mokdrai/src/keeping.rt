@@ -26,24 +26,30 @@ pub(crate) fn logs_of(asked: Asked<'_>) -> Option<&str>
 
 /// Logs, and their folder, which is no other host's while this is open.
 #[derive(Drop)]
-pub(crate) struct Kept {
+pub(crate) struct Kept<'a, R: Files> {
     pub(crate) lock: Option<File>,
-    pub(crate) logs: Vec<FileLog<File>>,
+    pub(crate) logs: Vec<FileLog<'a, R>>,
 }
 
 /// New logs in the folder, where there is one. It may not be that of the files.
-pub(crate) fn keep<R: Files<File = File>>(
+pub(crate) fn keep<'a, R: Files<File = File>>(
     alloc: Global,
-    rt: &R,
+    rt: &'a R,
     folder: Option<&str>,
     files: &str,
-) -> Result<Kept, Unopened>
+) -> Result<Kept<'a, R>, Unopened>
     ensures count { IsSome folder.entry → IfOk result (λ kept. vec_len kept.logs ≡ 16) }
     ensures paths { IfOk result (λ kept. IfSome (option_copied folder.entry) (λ name. (number : ℕ) × ArePaths name number 0 (map (λ log. string_bytes log.path) kept.logs.items))) }
 {
     match folder {
         Some(folder) => match open_logs(alloc, rt, folder, files) {
-            Ok(HeldLogs { lock, logs }) => Ok(Kept {
+            Ok(
+                HeldLogs {
+                    lock,
+                    logs,
+                    lasts: _lasts,
+                },
+            ) => Ok(Kept {
                 lock: Some(lock),
                 logs,
             }),

@@ -23,7 +23,6 @@ use crate::reading::understand;
 use adapters::{FileLog, StdSink, StdSource, Unopened, stop_path, wake_path};
 use std::alloc::Global;
 use std::env::{self, Args, Env};
-use std::fs::File;
 use std::io::{self, ErrorKind, IsTerminal, Stderr};
 use std::process::ExitCode;
 use wopi_program::{Asked, Keep, ServeAsk, asked_by, note, run};
@@ -118,7 +117,10 @@ fn refuse_logs(rt: &HostRuntime, folder: &str, why: Unopened, is_told: bool) -> 
 }
 
 /// The logs of these words: sixteen where the words keep any, in the folder that they name.
-fn logs_for(_words: &[String], logs: Vec<FileLog<File>>) -> Vec<FileLog<File>>
+fn logs_for<'a>(
+    _words: &[String],
+    logs: Vec<FileLog<'a, HostRuntime>>,
+) -> Vec<FileLog<'a, HostRuntime>>
     requires count { (keys : Keys) (base : List ℕ) (ask : ServeAsk) (keep : Keep) → IsServeRow (map string_bytes _words.now) keys base ask → ask.keep ≡ Some keep
         → vec_len logs ≡ 16 }
     requires paths { (keys : Keys) (base : List ℕ) (ask : ServeAsk) (row : IsServeRow (map string_bytes _words.now) keys base ask)

@@ -27,11 +27,11 @@ pub(crate) type World<'a, R, S, K> = Outside<
     StopListener<'a, R, SharedListener<TcpListen<R>>>,
     TcpDialer<'a, R, ReplyLength>,
     SystemClock<'a, R>,
-    OwnLog,
+    OwnLog<'a, R>,
 >;
 
 /// A log that closes the listeners of its host at its first fault.
-pub(crate) type OwnLog = ClosingLog<FileLog<File>, Arc<SharedSocket, Global>>;
+pub(crate) type OwnLog<'a, R> = ClosingLog<FileLog<'a, R>, Arc<SharedSocket, Global>>;
 
 /// The streams that a program is begun with.
 #[derive(Drop)]
@@ -226,11 +226,11 @@ pub(crate) fn listeners<'a, R: Files + time::Clock + Copy + Send>(
 }
 
 /// Logs that close all that listen at the socket at their first fault.
-fn closing(
+fn closing<'a, R: Files>(
     alloc: Global,
-    files: Vec<FileLog<File>>,
+    files: Vec<FileLog<'a, R>>,
     socket: &Option<Arc<SharedSocket, Global>>,
-) -> Result<Vec<OwnLog>, Memory>
+) -> Result<Vec<OwnLog<'a, R>>, Memory>
     ensures logs { IfOk result (λ all. map (λ one. one.log) all.items ≡ files.items) }
     ensures listeners { IfOk result (λ all. AllByRecursion (λ one. is_some one.listeners ≡ is_some socket.now) all.items) }
 {
@@ -276,7 +276,7 @@ pub(crate) fn world<
     stop: Option<&'a str>,
     wake: Option<&str>,
     streams: Streams<S, K>,
-    logs: Vec<FileLog<File>>,
+    logs: Vec<FileLog<'a, R>>,
     unbound: &mut Option<Unbound>,
 ) -> Result<World<'a, R, S, K>, Memory>
     ensures once { (name : List ℕ) → IsOnceOver name asked.entry
