@@ -1,3 +1,4 @@
+pub mod AnySource
 pub mod Closing
 pub mod Limits
 pub mod LogNames

@@ -4,6 +4,7 @@
 //! that tell an operator of a fault's cause are made here too ([`folder_line`], [`too_large_line`]).
 #![tactic(auto)]
 
+mod any_source;
 mod appending;
 mod closing;
 mod closing_log;
@@ -23,6 +24,7 @@ mod telling;
 mod turns;
 mod wire;
 
+pub use any_source::AnySource;
 pub use appending::{FileLog, open_log};
 pub use closing_log::ClosingLog;
 pub use dialer::TcpDialer;

@@ -17,12 +17,13 @@ mod reading;
 
 use crate::after::End;
 use crate::around::Around;
-use crate::keeping::{Kept, keep, logs_of, unkept_line};
+use crate::keeping::{Kept, OwnSource, keep, logs_of, unkept_line};
 use crate::making::{Streams, parts_of, world};
 use crate::reading::understand;
-use adapters::{FileLog, StdSink, StdSource, Unopened, stop_path, wake_path};
+use adapters::{AnySource, FileLog, StdSink, StdSource, Unopened, stop_path, wake_path};
 use std::alloc::Global;
 use std::env::{self, Args, Env};
+use std::fs::File;
 use std::io::{self, ErrorKind, IsTerminal, Stderr};
 use std::process::ExitCode;
 use wopi_program::{Asked, Keep, ServeAsk, asked_by, note, run};
@@ -90,9 +91,9 @@ fn told_at(asked: Asked<'_>, verbose: bool, notes: Stderr) -> Option<Stderr> {
 }
 
 /// The program's own streams.
-fn streams(rt: &HostRuntime, ready: Option<Stderr>) -> Streams<StdSource, StdSink> {
+fn streams(rt: &HostRuntime, ready: Option<Stderr>) -> Streams<OwnSource<File>, StdSink> {
     Streams {
-        input: StdSource::new(rt.stdin()),
+        input: AnySource::Input(StdSource::new(rt.stdin())),
         output: StdSink::output(rt.stdout()),
         notes: StdSink::notes(rt.stderr()),
         ready,
@@ -145,7 +146,11 @@ fn main(rt: HostRuntime) -> ExitCode {
     let asked = asked_by(words);
     let ready = told_at(asked, asking.given.around.verbose, rt.stderr());
     let folder = logs_of(asked);
-    let Kept { lock: _lock, logs } = match keep(alloc, &rt, folder, parts_of(asked).folder) {
+    let Kept {
+        lock: _lock,
+        lasts,
+        logs,
+    } = match keep(alloc, &rt, folder, parts_of(asked).folder) {
         Ok(kept) => kept,
         Err(why) => {
             return exit_code(refuse_logs(&rt, folder.unwrap_or(""), why, ready.is_some()));
@@ -162,6 +167,7 @@ fn main(rt: HostRuntime) -> ExitCode {
         wake.as_deref(),
         streams(&rt, ready),
         logs,
+        lasts,
         &mut unbound,
     ) else {
         return exit_code(6);

@@ -277,6 +277,7 @@ pub(crate) fn world<
     wake: Option<&str>,
     streams: Streams<S, K>,
     logs: Vec<FileLog<'a, R>>,
+    lasts: Vec<Option<S>>,
     unbound: &mut Option<Unbound>,
 ) -> Result<World<'a, R, S, K>, Memory>
     ensures once { (name : List ℕ) → IsOnceOver name asked.entry
@@ -284,6 +285,7 @@ pub(crate) fn world<
     ensures serve { (name : List ℕ) (ask : ServeAsk) → IsServeOver name ask asked.entry
         → IfOk result (λ world. (length world.folders.items ≡ 16) × (length world.listeners.items ≡ ask.workers) × (length world.clocks.items ≡ ask.workers)) }
     ensures logs { IfOk result (λ world. map (λ one. one.log) world.logs.items ≡ logs.items) }
+    ensures lasts { IfOk result (λ world. world.lasts ≡ lasts) }
     ensures has_all_back { IfOk result (λ world. AllByRecursion (λ one. one.finished ≡ one.accepted) world.listeners.items) }
     ensures over_once { (name : List ℕ) → IsOnceOver name asked.entry
         → IfOk result (λ world. AllByRecursion (λ one. string_bytes one.folder ≡ name) world.folders.items) }
@@ -309,5 +311,6 @@ pub(crate) fn world<
         dialer: TcpDialer::new(alloc, rt, authority, ReplyLength::new(alloc), around.idle),
         clocks,
         logs,
+        lasts,
     })
 }

@@ -150,6 +150,7 @@ pub fn fakes(alloc: Global, given: &Given) -> Result<Fakes, Memory>
         dialer: ScriptDialer::new(alloc, Vec::new(alloc)),
         clocks: clocks(alloc, &[0, 1, 2, 3, 4])?,
         logs: Vec::new(alloc),
+        lasts: Vec::new(alloc),
     })
 }
 

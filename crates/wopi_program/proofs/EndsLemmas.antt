@@ -56,4 +56,4 @@ module _ {S K F N D C G L : Type 0} (m : Meanings S K F N D C G L) where
   all_legal (journal ∷ journals) (inl (keys, base, origin, ask, ends, old, new, one), served) =
       (journal_legal journal one.desk.opened ask.first one.journal_is.opened_is one.journal_is.first_is one.journal_is.legal, all_legal journals served)
   all_legal (journal ∷ journals) (inr (keys, base, origin, ask, ids, ends, shards, old, new, one), served) =
-      (journal_legal journal one.desk.opened ask.first one.journal_is.opened_is one.journal_is.first_is one.journal_is.legal, all_legal journals served)
+      (journal_legal journal one.kept.desk.opened ask.first one.journal_is.opened_is one.journal_is.first_is one.journal_is.legal, all_legal journals served)

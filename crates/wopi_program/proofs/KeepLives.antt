@@ -18,14 +18,15 @@ use Rattle.host_log.specs.Rows.{IsInDoubt, IsLog, begin_text, head_of, opening_t
 use Rattle.host_table.specs.Journal.{AreParts, openings}
 use Rattle.host_table.specs.Passes.{Place}
 use Rattle.host_table.specs.Start.{log_in, AreBegun, IsBegun}
-use Rattle.host_table.specs.Close.{AreNoted, AreNotedParts, AreSeen, AreSeenIn, IsNoted, begin_of}
+use Rattle.host_table.specs.Close.{AreNoted, AreNotedParts, AreSeenIn, IsNoted, begin_of}
 use Rattle.wopi_program.specs.Meanings.{Meanings}
 use Rattle.wopi_program.specs.Journal.{IsOpened, AreOpened}
-use Rattle.wopi_program.specs.Keep.{KeptShard, IsKept, AreKept, lost_in}
+use Rattle.wopi_program.specs.Keep.{AreTaleParts, KeptShard, IsKept, lost_in}
+use Rattle.wopi_program.specs.Tale.{Part}
 use Rattle.wopi_program.specs.Paired.{IsPaired, AreAnew, AreParted, faults_of, files_of, lost_store, notes_of}
 use Rattle.wopi_program.proofs.FolderLemmas.{bytes_in, told_files}
 use Rattle.wopi_program.proofs.JournalLemmas.{steps-append}
-use Rattle.wopi_program.proofs.Merged.{AreBased, IsBased}
+use Rattle.wopi_program.proofs.Merged.{AreBased, AreSeenOf, IsBased}
 
 -- A folder and a log, the store over them, and that at the end with the folder and the log that it gave.
 pub record Life (F G : Type 0) : Type 0 where
@@ -135,22 +136,15 @@ module _ {F G : Type 0} where
   abbrev pub base_in : Row F G → Book (LogView F)
   base_in row = row.base
 
-  abbrev pub store_in : Row F G → LogView F
-  store_in row = row.life.store
-
   abbrev pub last_in : Row F G → LogView F
   last_in row = row.life.last
 
-  -- what the shard leaves
-  abbrev pub part_of : Row F G → Left F
-  part_of row = record { opening = map bytes_in row.base.begin.files; dates = row.base.dates; made = row.life.last.notes.made; start = row.life.folder }
+  -- what is told of the shard
+  abbrev pub part_of : Row F G → Part
+  part_of row = record { begin = row.base.begin; dates = row.base.dates; made = row.life.last.notes.made }
 
   abbrev pub shard_of_row : Row F G → KeptShard F G
   shard_of_row row = record { folder = row.life.folder; log = row.life.log; part = part_of row; lost = row.life.last.lost; folder' = row.life.folder'; log' = row.life.log' }
-
-names_told : (files : List (List ℕ × File)) → map (λ one. one.0) files ≡ map (λ file. file.0) (map bytes_in files)
-names_told [] = refl
-names_told (file ∷ files) = ap (λ (l : List (List ℕ)). file.0 ∷ l) (names_told files)
 
 head_at : (shard : ℕ) (begin : Begin) → 1 ≤ begin.first → head_of shard begin ≡ begin_text shard begin
 head_at shard begin some = go (begin.first == 0) refl
@@ -159,114 +153,63 @@ head_at shard begin some = go (begin.first == 0) refl
     go true is = absurd (grind (arith, nat_tests))
     go false is = refl
 
-module _ {S K F N D C G L : Type 0} (m : Meanings S K F N D C G L) (every : Bool) (opened first : ℕ) (limits : Limits) where
+module _ {S K F N D C G L : Type 0} (m : Meanings S K F N D C G L) (every : Bool) where
   abbrev pub IsLifeOf : ℕ → Life F G → Type 0
   IsLifeOf = IsLife m.log_held m.log_synced m.log_faults every
 
   abbrev pub times_of : LogView F → Option Times
   times_of store = m.times store.folder
 
+  -- the folder's files when the shard began, and how often it had failed then
+  abbrev pub stood_in : Row F G → Option Files
+  stood_in row = m.files row.base.start.folder
+
+  abbrev pub began_in : Row F G → ℕ
+  began_in row = m.folder_faults row.base.start.folder + row.base.start.refused
+
   pub record IsRow (number : ℕ) (row : Row F G) : Type 0 where
     pub life : IsLifeOf number row.life
-    pub begun : IsBegun (files_of m.files) times_of (faults_of m.folder_faults) opened first limits number row.life.store row.base
+    pub only : row.base.only ≡ Some number
+    pub some : 1 ≤ row.base.begin.first
     pub noted : IsNoted (files_of m.files) (faults_of m.folder_faults) notes_of row.base row.life.last
 
   abbrev pub AreRows : ℕ → List (Row F G) → Type 0
   AreRows number [] = Unit {0}
   AreRows number (row ∷ rows) = IsRow number row × AreRows (number + 1) rows
 
-  pub record HasRows (number : ℕ) (lives : List (Life F G)) (bases : List (Book (LogView F))) : Type 0 where
-    pub rows : List (Row F G)
-    pub are : AreRows number rows
-    pub lives_are : map life_of rows ≡ lives
-    pub bases_are : map base_in rows ≡ bases
-
-  pub rows_of : (number : ℕ) (lives : List (Life F G)) (bases : List (Book (LogView F))) → AreLives m.log_held m.log_synced m.log_faults every number lives
-      → AreBegun (files_of m.files) times_of (faults_of m.folder_faults) opened first limits number (map store_of lives) bases
-      → AreNoted (files_of m.files) (faults_of m.folder_faults) notes_of bases (map last_of lives) → HasRows number lives bases
-  rows_of number [] [] are begun noted = record { rows = []; are = tt; lives_are = refl; bases_are = refl }
-  rows_of number [] (base ∷ bases) are begun noted = absurd begun
-  rows_of number (life ∷ lives) [] are begun noted = absurd begun
-  rows_of number (life ∷ lives) (base ∷ bases) are begun noted =
-      let rest = rows_of (number + 1) lives bases are.1 begun.1 noted.1 in
-      record {
-        rows = record { life = life; base = base } ∷ rest.rows;
-        are = (record { life = are.0; begun = begun.0; noted = noted.0 }, rest.are);
-        lives_are = ap (λ (l : List (Life F G)). life ∷ l) rest.lives_are;
-        bases_are = ap (λ (l : List (Book (LogView F))). base ∷ l) rest.bases_are;
-      }
-
   module _ (number : ℕ) (row : Row F G) (is : IsRow number row) where
-    part : Left F
-    part = part_of row
-
-    stood_is : is.begun.stood ≡ (part_of row).opening
-    stood_is = sym (told_files first is.begun.stood) ∙ ap (λ (b : Book (LogView F)). map bytes_in b.begin.files) (sym is.begun.book)
-
-    begin_is : row.base.begin ≡ new_life (part_of row).opening opened first
-    begin_is = ap (λ (b : Book (LogView F)). b.begin) is.begun.book ∙ ap (λ (o : Opening). new_life o opened first) stood_is
-
-    pub row_based : IsBased opened first row.base (part_of row)
-    row_based = record { begin = begin_is; dates = refl }
-
-    pub row_opened : IsOpened m number row.life.folder (part_of row)
-    row_opened =
-        let folder_is = is.life.paired.anew.folder_is in
-        record {
-          start = refl;
-          opening = subst (IsOpening (Some number) (m.files row.life.folder)) stood_is (subst (λ (f : F). IsOpening (Some number) (m.files f) is.begun.stood) folder_is is.begun.opening);
-          fits = subst Fits stood_is is.begun.fits;
-          dated = is.begun.dated ∙ names_told row.base.begin.files;
-          told = subst (λ (f : F). AreDatesOf (m.times f) row.base.dates) folder_is is.begun.told;
-        }
-
     begun_none : row.life.last.notes.begun ≡ None
     begun_none = is.noted.ended
 
     -- what the log begins with
-    head_is : 1 ≤ first → row.life.last.lines.head ≡ opening_text number opened first (part_of row).opening
-    head_is some =
-        let e = is.life.ended in
-        let begin : row.life.last.notes.begin ≡ new_life (part_of row).opening opened first = is.noted.begin ∙ begin_is in
+    head_is : row.life.last.lines.head ≡ begin_text number row.base.begin
+    head_is =
         let shard = (same_log m.log_held m.log_synced m.log_faults every number row.life is.life).shard in
-        e.head_is ∙ (λ i. head_of (shard i) (begin i)) ∙ head_at number (new_life (part_of row).opening opened first) some
+        is.life.ended.head_is ∙ (λ i. head_of (shard i) (is.noted.begin i)) ∙ head_at number row.base.begin is.some
 
-    row_holds : Agrees (Some number) (m.files row.life.folder) (m.files row.life.folder') (state_of (new_life (part_of row).opening opened first) row.life.last.notes.made (last_time opened row.life.last.notes.made)).files (is_torn row.life.last.notes.made)
+    row_holds : Agrees (Some number) (stood_in row) (m.files row.life.folder') (state_of row.base.begin row.life.last.notes.made (last_time row.base.begin.now row.life.last.notes.made)).files (is_torn row.life.last.notes.made)
     row_holds =
         let made = row.life.last.notes.made in
-        let start : row.base.start ≡ row.life.store = ap (λ (b : Book (LogView F)). b.start) is.begun.book in
-        let only : row.base.only ≡ Some number = ap (λ (b : Book (LogView F)). b.only) is.begun.book in
-        let was : row.base.start.folder ≡ row.life.folder = ap (λ (s : LogView F). s.folder) start ∙ is.life.paired.anew.folder_is in
         let now : row.life.last.folder ≡ row.life.folder' = sym is.life.ended.folder_is in
-        let A1 : Option ℕ → Type 0 = λ o. Agrees o (m.files row.base.start.folder) (m.files row.life.last.folder) (state_of row.base.begin made (last_time row.base.begin.now made)).files (is_torn made) in
-        let A2 : F → Type 0 = λ f. Agrees (Some number) (m.files f) (m.files row.life.last.folder) (state_of row.base.begin made (last_time row.base.begin.now made)).files (is_torn made) in
-        let A3 : F → Type 0 = λ f. Agrees (Some number) (m.files row.life.folder) (m.files f) (state_of row.base.begin made (last_time row.base.begin.now made)).files (is_torn made) in
-        let A4 : Begin → Type 0 = λ b. Agrees (Some number) (m.files row.life.folder) (m.files row.life.folder') (state_of b made (last_time b.now made)).files (is_torn made) in
-        subst A4 begin_is (subst A3 now (subst A2 was (subst A1 only is.noted.lawful.folder)))
+        let OfShard : Option ℕ → Type 0 = λ o. Agrees o (stood_in row) (m.files row.life.last.folder) (state_of row.base.begin made (last_time row.base.begin.now made)).files (is_torn made) in
+        let OfFolder : F → Type 0 = λ f. Agrees (Some number) (stood_in row) (m.files f) (state_of row.base.begin made (last_time row.base.begin.now made)).files (is_torn made) in
+        subst OfFolder now (subst OfShard is.only is.noted.lawful.folder)
 
-    row_failures : RoseBy (m.folder_faults row.life.folder) (faults_in row.life.last.notes.made) (m.folder_faults row.life.folder' + row.life.last.refused)
+    row_failures : RoseBy (began_in row) (faults_in row.life.last.notes.made) (m.folder_faults row.life.folder' + row.life.last.refused)
     row_failures =
         let made = row.life.last.notes.made in
-        let start : row.base.start ≡ row.life.store = ap (λ (b : Book (LogView F)). b.start) is.begun.book in
-        let none : row.base.start.refused ≡ 0 = ap (λ (s : LogView F). s.refused) start ∙ is.life.paired.anew.refused in
-        let was : m.folder_faults row.base.start.folder ≡ m.folder_faults row.life.folder = ap m.folder_faults (ap (λ (s : LogView F). s.folder) start ∙ is.life.paired.anew.folder_is) in
-        let before : m.folder_faults row.base.start.folder + row.base.start.refused ≡ m.folder_faults row.life.folder = omega (arith, none, was) in
         let now : row.life.last.folder ≡ row.life.folder' = sym is.life.ended.folder_is in
-        let RoseFrom : ℕ → Type 0 = λ n. RoseBy n (faults_in made) (m.folder_faults row.life.last.folder + row.life.last.refused) in
-        let RoseOver : F → Type 0 = λ f. RoseBy (m.folder_faults row.life.folder) (faults_in made) (m.folder_faults f + row.life.last.refused) in
-        subst RoseOver now (subst RoseFrom before is.noted.lawful.faults)
+        let RoseOver : F → Type 0 = λ f. RoseBy (began_in row) (faults_in made) (m.folder_faults f + row.life.last.refused) in
+        subst RoseOver now is.noted.lawful.faults
 
-    row_timely : IsTimely opened row.life.last.notes.made
-    row_timely = subst (λ n. IsTimely n row.life.last.notes.made) (ap (λ (b : Begin). b.now) begin_is) is.noted.timely
-
-    log_at : (told : List Made) (tail : List ℕ) → 1 ≤ first → IsLog row.life.last.lines.all row.life.last.lines.start (m.log_held row.life.log') (m.log_synced row.life.log') row.life.last.lines.head told tail
-        → IsLog every (m.log_held row.life.log) (m.log_held row.life.log') (m.log_synced row.life.log') (opening_text number opened first (part_of row).opening) told tail
-    log_at told tail some log =
+    log_at : (told : List Made) (tail : List ℕ) → IsLog row.life.last.lines.all row.life.last.lines.start (m.log_held row.life.log') (m.log_synced row.life.log') row.life.last.lines.head told tail
+        → IsLog every (m.log_held row.life.log) (m.log_held row.life.log') (m.log_synced row.life.log') (begin_text number row.base.begin) told tail
+    log_at told tail log =
         let same = same_log m.log_held m.log_synced m.log_faults every number row.life is.life in
         let one : IsLog every row.life.last.lines.start (m.log_held row.life.log') (m.log_synced row.life.log') row.life.last.lines.head told tail =
         subst (λ (b : Bool). IsLog b row.life.last.lines.start (m.log_held row.life.log') (m.log_synced row.life.log') row.life.last.lines.head told tail) same.every_is log
         in
-        subst (λ (h : List ℕ). IsLog every (m.log_held row.life.log) (m.log_held row.life.log') (m.log_synced row.life.log') h told tail) (head_is some)
+        subst (λ (h : List ℕ). IsLog every (m.log_held row.life.log) (m.log_held row.life.log') (m.log_synced row.life.log') h told tail) head_is
         (subst (λ (o : Option (List ℕ)). IsLog every o (m.log_held row.life.log') (m.log_synced row.life.log') row.life.last.lines.head told tail) same.start one)
 
     rose_at : row.life.last.lines.lost ≡ true → Rose (m.log_faults row.life.log) (m.log_faults row.life.log')
@@ -283,12 +226,15 @@ module _ {S K F N D C G L : Type 0} (m : Meanings S K F N D C G L) (every : Bool
         let now = e.faults_are in
         omega (arith, began, less, now)
 
-    whole_row : 1 ≤ first → row.life.last.lines.lost ≡ false → IsKept m every opened first number (shard_of_row row)
-    whole_row some fine =
+    abbrev IsKeptRow : Type 0
+    IsKeptRow = IsKept m every number (stood_in row) (began_in row) (shard_of_row row)
+
+    whole_row : row.life.last.lines.lost ≡ false → IsKeptRow
+    whole_row fine =
         let e = is.life.ended in
         let v = row.life.last in
         record {
-          timely = row_timely;
+          timely = is.noted.timely;
           holds = row_holds;
           failed = false;
           refused = v.refused;
@@ -298,7 +244,7 @@ module _ {S K F N D C G L : Type 0} (m : Meanings S K F N D C G L) (every : Bool
           made_are = sym (append-nil v.notes.made);
           unsaved = tt;
           tail = [];
-          log = log_at v.notes.made [] some (e.told fine begun_none);
+          log = log_at v.notes.made [] (e.told fine begun_none);
           rest = e.rest ++ steps_of v.missing;
           sure = ap steps_of e.made ∙ steps-append v.lines.told v.missing ∙ ap (λ (l : List Entry). l ++ steps_of v.missing) e.kept ∙ append_assoc (told_of v.notes.made) e.rest (steps_of v.missing);
           fine = λ _. (e.refusals fine, refl, refl);
@@ -310,13 +256,13 @@ module _ {S K F N D C G L : Type 0} (m : Meanings S K F N D C G L) (every : Bool
           cause = λ lost. inr (e.full lost fine);
         }
 
-    failed_row : 1 ≤ first → row.life.last.lines.lost ≡ true → IsKept m every opened first number (shard_of_row row)
-    failed_row some lost =
+    failed_row : row.life.last.lines.lost ≡ true → IsKeptRow
+    failed_row lost =
         let e = is.life.ended in
         let v = row.life.last in
         let stands = e.lost lost in
         record {
-          timely = row_timely;
+          timely = is.noted.timely;
           holds = row_holds;
           failed = true;
           refused = v.refused;
@@ -326,13 +272,13 @@ module _ {S K F N D C G L : Type 0} (m : Meanings S K F N D C G L) (every : Bool
           made_are = e.made;
           unsaved = e.unsaved;
           tail = stands.0;
-          log = log_at v.lines.told stands.0 some stands.2;
+          log = log_at v.lines.told stands.0 stands.2;
           rest = e.rest;
           sure = e.kept;
           fine = λ fine. absurd (true≢false fine);
           doubt = v.lines.doubt;
           cut = λ _. (
-            subst (λ (h : List ℕ). IsInDoubt h v.lines.told v.lines.doubt stands.0) (head_is some) stands.1,
+            subst (λ (h : List ℕ). IsInDoubt h v.lines.told v.lines.doubt stands.0) head_is stands.1,
             subst (λ o. IsDoubt o v.missing v.lines.doubt) begun_none (e.doubt lost),
           );
           rose = λ _. rose_at lost;
@@ -341,47 +287,27 @@ module _ {S K F N D C G L : Type 0} (m : Meanings S K F N D C G L) (every : Bool
           cause = λ _. inl refl;
         }
 
-    pub row_kept : 1 ≤ first → IsKept m every opened first number (shard_of_row row)
-    row_kept some = go row.life.last.lines.lost refl
+    pub row_kept : IsKeptRow
+    row_kept = go row.life.last.lines.lost refl
       where
-        go : (b : Bool) → row.life.last.lines.lost ≡ b → IsKept m every opened first number (shard_of_row row)
-        go true lost = failed_row some lost
-        go false fine = whole_row some fine
-
-  -- ---- all rows
-
-  pub rows_kept : (number : ℕ) (rows : List (Row F G)) → 1 ≤ first → AreRows number rows → AreKept m every opened first number (map shard_of_row rows)
-  rows_kept number [] some are = tt
-  rows_kept number (row ∷ rows) some are = (row_kept number row are.0 some, rows_kept (number + 1) rows some are.1)
-
-  pub rows_opened : (number : ℕ) (rows : List (Row F G)) → AreRows number rows → AreOpened m number (map (λ (row : Row F G). row.life.folder) rows) (map part_of rows)
-  rows_opened number [] are = tt
-  rows_opened number (row ∷ rows) are = (row_opened number row are.0, rows_opened (number + 1) rows are.1)
-
-  pub rows_based : (number : ℕ) (rows : List (Row F G)) → AreRows number rows → AreBased opened first (map base_in rows) (map part_of rows)
-  rows_based number [] are = tt
-  rows_based number (row ∷ rows) are = (row_based number row are.0, rows_based (number + 1) rows are.1)
-
-  -- each shard's life begins with the files of its part
-  pub rows_begin : (number : ℕ) (rows : List (Row F G)) → AreRows number rows
-      → map begin_of (map base_in rows) ≡ map (λ opening. new_life opening opened first) (map (λ (p : Left F). p.opening) (map part_of rows))
-  rows_begin number [] are = refl
-  rows_begin number (row ∷ rows) are = λ i. begin_is number row are.0 i ∷ rows_begin (number + 1) rows are.1 i
+        go : (b : Bool) → row.life.last.lines.lost ≡ b → IsKeptRow
+        go true lost = failed_row lost
+        go false fine = whole_row fine
 
 module _ {F G : Type 0} where
-  pub rows_parts : (merge : List Made) (number : ℕ) (rows : List (Row F G)) → AreNotedParts notes_of merge number (map last_in rows) → AreParts merge number (map part_of rows)
+  pub rows_based : (rows : List (Row F G)) → AreBased (map base_in rows) (map part_of rows)
+  rows_based [] = tt
+  rows_based (row ∷ rows) = (record { begin = refl; dates = refl }, rows_based rows)
+
+  pub rows_parts : (merge : List Made) (number : ℕ) (rows : List (Row F G)) → AreNotedParts notes_of merge number (map last_in rows) → AreTaleParts merge number (map part_of rows)
   rows_parts merge number [] noted = tt
   rows_parts merge number (row ∷ rows) noted = (noted.0, rows_parts merge (number + 1) rows noted.1)
 
-  pub rows_seen : {T : Type 0} (seats : List (Place T)) (rows : List (Row F G)) → AreSeenIn notes_of seats (map last_in rows) → AreSeen seats (map part_of rows)
+  pub rows_seen : {T : Type 0} (seats : List (Place T)) (rows : List (Row F G)) → AreSeenIn notes_of seats (map last_in rows) → AreSeenOf seats (map part_of rows)
   rows_seen [] [] seen = tt
   rows_seen [] (row ∷ rows) seen = absurd seen
   rows_seen (seat ∷ seats) [] seen = absurd seen
   rows_seen (seat ∷ seats) (row ∷ rows) seen = (seen.0, rows_seen seats rows seen.1)
-
-  pub rows_openings : (rows : List (Row F G)) → flat_map (λ (opening : Opening). opening) (map (λ (p : Left F). p.opening) (map part_of rows)) ≡ openings (map part_of rows)
-  rows_openings [] = refl
-  rows_openings (row ∷ rows) = ap (λ (l : Opening). (part_of row).opening ++ l) (rows_openings rows)
 
   pub rows_lost : (rows : List (Row F G)) → list_any lost_store (map last_in rows) ≡ list_any lost_in (map shard_of_row rows)
   rows_lost [] = refl

@@ -15,12 +15,12 @@ use Rattle.host_server.specs.declared.working.WorkEnd.{WorkEnd}
 use Rattle.host_server.specs.Connection.{IsConnEnd}
 use Rattle.host_server.specs.Deeds.{Deed, made}
 use Rattle.host_server.specs.Visits.{Visit, IsVisit, deeds_of}
-use Rattle.host_table.specs.Journal.{JournalView}
 use Rattle.wopi_ends.specs.Sources.{IsOfMessage}
 use Rattle.wopi_ends.proofs.Sourcing.{all_append, made-append}
 use Rattle.wopi_program.specs.BothEnds.{CameBy, CameOnLink}
 use Rattle.wopi_program.specs.Journal.{IsWorker, AreWorkers}
 use Rattle.wopi_program.specs.Meanings.{Meanings}
+use Rattle.wopi_program.specs.Tale.{Tale}
 
 -- what holds of the entries of each pass holds of all
 of_passes : (P : Entry → Type 0) (count : ℕ) (merge : List Made) → ((pass : ℕ) → pass < count → AllByRecursion P (filter (λ entry. entry.pass == pass) (steps_of merge))) →
@@ -87,17 +87,17 @@ module _ {S K F N D C G L : Type 0} (m : Meanings S K F N D C G L) (desk : Desk)
       (of_visit number worker (length front) visit v.input known there v.reads (made visit.deeds) (come visit.end v.input (m.work.left visit.went) visit.moments visit.deeds v.output v.says))
       (of_visits number worker (front ++ visit ∷ []) visits known (append_assoc front (visit ∷ []) visits ∙ whole) h.1))
 
-  module _ (limits : Limits) (journal : JournalView F) where
+  module _ (limits : Limits) (tale : Tale) where
     abbrev PassCame : ℕ → Type 0
-    PassCame pass = AllByRecursion (CameOnLink m desk all) (filter (λ entry. entry.pass == pass) (steps_of journal.merge))
+    PassCame pass = AllByRecursion (CameOnLink m desk all) (filter (λ entry. entry.pass == pass) (steps_of tale.merge))
 
     of_worker : (number : ℕ) (worker : List (Visit L)) (end : WorkEnd) (listener listener' : N) (clock clock' : C) → slice_get all number ≡ Some worker →
-        IsWorker m desk limits journal number worker end listener listener' clock clock' → PassCame number
+        IsWorker m desk limits tale number worker end listener listener' clock clock' → PassCame number
     of_worker number worker end listener listener' clock clock' known w =
-        by_pass Came number (steps_of journal.merge) (subst (AllByRecursion (Came number)) (sym w.entries) (of_visits number worker [] worker known refl w.each))
+        by_pass Came number (steps_of tale.merge) (subst (AllByRecursion (Came number)) (sym w.entries) (of_visits number worker [] worker known refl w.each))
 
     of_workers : (number : ℕ) (front visits : List (List (Visit L))) (ends : List WorkEnd) (listeners listeners' : List N) (clocks clocks' : List C) → number ≡ length front →
-        front ++ visits ≡ all → AreWorkers m desk limits journal number visits ends listeners listeners' clocks clocks' → (pass : ℕ) → number ≤ pass →
+        front ++ visits ≡ all → AreWorkers m desk limits tale number visits ends listeners listeners' clocks clocks' → (pass : ℕ) → number ≤ pass →
         pass < number + length listeners → PassCame pass
     of_workers number front visits ends [] listeners' clocks clocks' at whole w pass low high = absurd (omega (arith, low, high))
     of_workers number front [] [] (listener ∷ listeners) listeners' clocks clocks' at whole w pass low high = absurd w
@@ -116,9 +116,9 @@ module _ {S K F N D C G L : Type 0} (m : Meanings S K F N D C G L) (desk : Desk)
               (append_assoc front (visits ∷ []) rest ∙ whole) w.1 pass (omega (arith, low, apart)) (omega (arith, high))
         ]
 
-  pub served_come : (limits : Limits) (journal : JournalView F) (ends : List WorkEnd) (listeners listeners' : List N) (clocks clocks' : List C) →
-      AreWorkers m desk limits journal 0 all ends listeners listeners' clocks clocks' → AllByRecursion (λ one. one.step.pass < length listeners) journal.merge →
-      AllByRecursion (λ one. CameOnLink m desk all one.step) journal.merge
-  served_come limits journal ends listeners listeners' clocks clocks' workers whose =
-      of_passes (CameOnLink m desk all) (length listeners) journal.merge
-      (λ pass within. of_workers limits journal 0 [] all ends listeners listeners' clocks clocks' refl refl workers pass (omega arith) (omega (arith, within))) whose
+  pub served_come : (limits : Limits) (tale : Tale) (ends : List WorkEnd) (listeners listeners' : List N) (clocks clocks' : List C) →
+      AreWorkers m desk limits tale 0 all ends listeners listeners' clocks clocks' → AllByRecursion (λ one. one.step.pass < length listeners) tale.merge →
+      AllByRecursion (λ one. CameOnLink m desk all one.step) tale.merge
+  served_come limits tale ends listeners listeners' clocks clocks' workers whose =
+      of_passes (CameOnLink m desk all) (length listeners) tale.merge
+      (λ pass within. of_workers limits tale 0 [] all ends listeners listeners' clocks clocks' refl refl workers pass (omega arith) (omega (arith, within))) whose

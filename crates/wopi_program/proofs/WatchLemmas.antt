@@ -19,12 +19,11 @@ use Rattle.host_core.specs.Value.{Left}
 use Rattle.host_core.specs.Times.{steps_of, untimed}
 use Rattle.host_table.specs.Journal.{JournalView, IsNearlyFullIn}
 use Rattle.host_table.specs.Passes.{HostView, PassView, IsPassOf, IsSamePass, sight_of}
-use Rattle.host_table.specs.Close.{AreSeen}
-use Rattle.wopi_program.specs.Journal.{entries_in}
 use Rattle.wopi_program.specs.Notes.{AreFronts, Notes, NotesAll, text_of}
+use Rattle.wopi_program.specs.Tale.{Part, Tale, entries_in, new_part}
 use Rattle.wopi_program.specs.Watched.{AreRight, AreRightIn, HasTold, SawNearlyFull, TellsOf, WasNearlyFullAt, WasNearlyFullIn, nearly_full_line, none_raised, raised}
 use Rattle.wopi_program.proofs.JournalLemmas.{begin_part, entries-alone, extends_on, front_at, part_there}
-use Rattle.wopi_program.proofs.Merged.{AreBased}
+use Rattle.wopi_program.proofs.Merged.{AreBased, AreSeenOf}
 
 -- ---- lines one after another
 
@@ -259,50 +258,57 @@ all_before held count old new marks marks' capacity parts at before tells here s
     go false is = let below : shard < at = grind (arith, nat_tests, inside) in
         stays_raised held count old new marks marks' shard tells (before shard below near)
 
-module _ {T F : Type 0} (host : HostView T) (pass : PassView T) (parts : List (Left F))
-    (of : IsPassOf host pass) (seen : AreSeen pass.seats parts) (based : AreBased host.opened host.first host.bases parts)
+-- what stands at a place of parts, and of what is told of them
+part_at : {F : Type 0} (opened first : ℕ) (parts : List (Left F)) (shard : ℕ) → shard < length parts
+    → (part : Left F) × ((slice_get parts shard ≡ Some part) × (slice_get (map (new_part opened first) parts) shard ≡ Some (new_part opened first part)))
+part_at opened first [] shard inside = absurd (omega (arith, inside))
+part_at opened first (part ∷ parts) zero inside = (part, (refl, refl))
+part_at opened first (part ∷ parts) (suc shard) inside = part_at opened first parts shard (omega (arith, inside))
+
+module _ {T F : Type 0} (host : HostView T) (pass : PassView T) (opened first : ℕ) (parts : List (Left F)) (many : length parts ≡ 16)
+    (of : IsPassOf host pass) (seen : AreSeenOf pass.seats (map (new_part opened first) parts)) (based : AreBased host.bases (map (new_part opened first) parts))
     (capacity : ℕ) (limits : pass.limits ≡ kept_limits capacity) where
-  near_in : (shard : ℕ) (part : Left F) → slice_get parts shard ≡ Some part → WasNearlyFullAt (sight_of pass) shard → IsNearlyFullIn capacity (slice_get parts shard)
-  near_in shard part is (before, begins, near) =
+  near_in : (shard : ℕ) (part : Left F) → slice_get parts shard ≡ Some part → slice_get (map (new_part opened first) parts) shard ≡ Some (new_part opened first part)
+      → WasNearlyFullAt (sight_of pass) shard → IsNearlyFullIn capacity (slice_get parts shard)
+  near_in shard part is told (before, begins, near) =
       let sight = sight_of pass in
-      let life : Begin = new_life part.opening host.opened host.first in
-      let begin : sight.begins shard ≡ life = begin_part host.opened host.first pass.seats host.bases parts shard part of.bases based is in
-      let front = front_at pass.seats parts shard seen in
+      let life : Begin = new_life part.opening opened first in
+      let begin : sight.begins shard ≡ life = begin_part pass.seats host.bases (map (new_part opened first) parts) shard (new_part opened first part) of.bases based told in
+      let front = front_at pass.seats (map (new_part opened first) parts) shard seen in
       let rest : Extends (entries (sight.seen shard)) (entries (untimed part.made)) =
-      (front.0, entries-alone part.made ∙ (ap (λ (o : Option (Left F)). entries_in o) (sym is) ∙ front.1)) in
+      (front.0, entries-alone part.made ∙ (ap (λ (o : Option Part). entries_in o) (sym told) ∙ front.1)) in
       let same : (pass.limits, sight.begins shard) ≡ (kept_limits capacity, life) = λ i. (limits i, begin i) in
       let by_life : IsNearlyFull (Some capacity) life before = subst (λ (z : Limits × Begin). IsNearlyFull z.0.calls z.1 before) same near in
-      let later = near_later capacity part.opening host.opened host.first before (untimed part.made)
+      let later = near_later capacity part.opening opened first before (untimed part.made)
       (extends_on (entries before) (entries (sight.seen shard)) (entries (untimed part.made)) begins rest) by_life in
       subst (λ (o : Option (Left F)). IsNearlyFullIn capacity o) (sym is) later
 
-  pub right_in : (marks : List Bool) → length marks ≡ 16 → length pass.seats ≡ 16 → AreRight marks (sight_of pass) → AreRightIn capacity parts marks
-  right_in marks many wide right = λ shard is.
+  pub right_in : (marks : List Bool) → length marks ≡ 16 → AreRight marks (sight_of pass) → AreRightIn capacity parts marks
+  right_in marks as_many right = λ shard is.
       let below : shard < length marks = slice_get_within marks shard true is in
-      let there = part_there pass.seats parts shard seen (omega (arith, below, many, wide)) in
-      near_in shard there.0 there.1 (right.each shard is)
+      let there = part_at opened first parts shard (omega (arith, below, as_many, many)) in
+      near_in shard there.0 there.1.0 there.1.1 (right.each shard is)
 
--- what was seen of a shard, in what it leaves
-module _ {T F : Type 0} (host : HostView T) (pass : PassView T) (journal : JournalView F) (opened : journal.opened ≡ host.opened) (begins : journal.first ≡ host.first)
-    (of : IsPassOf host pass) (seen : AreSeen pass.seats journal.parts) (based : AreBased host.opened host.first host.bases journal.parts) (wide : length pass.seats ≡ 16) where
-  was_in : (shard : ℕ) (part : Left F) → slice_get journal.parts shard ≡ Some part → WasNearlyFullAt (sight_of pass) shard
-      → WasNearlyFullIn pass.limits.calls journal.opened journal.first (slice_get journal.parts shard)
+-- what was seen of a shard, in what is told of it
+module _ {T : Type 0} (host : HostView T) (pass : PassView T) (tale : Tale)
+    (of : IsPassOf host pass) (seen : AreSeenOf pass.seats tale.parts) (based : AreBased host.bases tale.parts) (wide : length pass.seats ≡ 16) where
+  was_in : (shard : ℕ) (part : Part) → slice_get tale.parts shard ≡ Some part → WasNearlyFullAt (sight_of pass) shard
+      → WasNearlyFullIn pass.limits.calls (slice_get tale.parts shard)
   was_in shard part is (before, begun, near) =
       let sight = sight_of pass in
-      let begin : sight.begins shard ≡ new_life part.opening journal.opened journal.first =
-      begin_part host.opened host.first pass.seats host.bases journal.parts shard part of.bases based is ∙ (λ i. new_life part.opening (sym opened i) (sym begins i)) in
-      let front = front_at pass.seats journal.parts shard seen in
-      let rest : Extends (entries (sight.seen shard)) (steps_of part.made) = (front.0, ap (λ (o : Option (Left F)). entries_in o) (sym is) ∙ front.1) in
-      let fact : WasNearlyFullIn pass.limits.calls journal.opened journal.first (Some part) = (
+      let begin : sight.begins shard ≡ part.begin = begin_part pass.seats host.bases tale.parts shard part of.bases based is in
+      let front = front_at pass.seats tale.parts shard seen in
+      let rest : Extends (entries (sight.seen shard)) (steps_of part.made) = (front.0, ap (λ (o : Option Part). entries_in o) (sym is) ∙ front.1) in
+      let fact : WasNearlyFullIn pass.limits.calls (Some part) = (
         before,
         extends_on (entries before) (entries (sight.seen shard)) (steps_of part.made) begun rest,
         subst (λ (b : Begin). IsNearlyFull pass.limits.calls b before) begin near,
       )
       in
-      subst (λ (o : Option (Left F)). WasNearlyFullIn pass.limits.calls journal.opened journal.first o) (sym is) fact
+      subst (λ (o : Option Part). WasNearlyFullIn pass.limits.calls o) (sym is) fact
 
   pub saw : {K : Type 0} (held : K → Option (List ℕ)) (count : K → ℕ) (limits : Limits) (old new : K) (marks : List Bool) → pass.limits ≡ limits → TellsOf held count old new none_raised marks
-      → AreRight marks (sight_of pass) → SawNearlyFull held count limits journal old new
+      → AreRight marks (sight_of pass) → SawNearlyFull held count limits tale old new
   saw held count limits old new marks limits_are tells right = record {
     told = tells.told;
     once = λ shard.
@@ -316,8 +322,8 @@ module _ {T F : Type 0} (host : HostView T) (pass : PassView T) (journal : Journ
         let up : slice_get marks shard ≡ Some true = is_up (slice_get marks shard) (omega (arith, none, now, told)) in
         let below : shard < length marks = slice_get_within marks shard true up in
         let many : length marks ≡ 16 = tells.many in
-        let there = part_there pass.seats journal.parts shard seen (omega (arith, below, many, wide)) in
-        subst (λ (l : Limits). WasNearlyFullIn l.calls journal.opened journal.first (slice_get journal.parts shard)) limits_are (was_in shard there.0 there.1 (right.each shard up));
+        let there = part_there pass.seats tale.parts shard seen (omega (arith, below, many, wide)) in
+        subst (λ (l : Limits). WasNearlyFullIn l.calls (slice_get tale.parts shard)) limits_are (was_in shard there.0 there.1 (right.each shard up));
     lines = tells.lines;
   }
     where

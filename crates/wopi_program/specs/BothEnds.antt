@@ -20,7 +20,7 @@ use Rattle.wopi_program.specs.declared.outside_world.Outside.{Outside}
 use Rattle.wopi_program.specs.declared.serve_words.Keep.{Keep}
 use Rattle.wopi_program.specs.declared.serve_words.ServeAsk.{ServeAsk}
 use Rattle.wopi_program.specs.Meanings.{Meanings}
-use Rattle.wopi_program.specs.Keep.{HasKept, KeptShard}
+use Rattle.wopi_program.specs.Keep.{HasKeptAnew, KeptShard}
 use Rattle.wopi_program.specs.Serve.{HasServed}
 
 -- what a host's journal has of the shard of the client's file
@@ -41,7 +41,7 @@ WasServed {S} {K} {F} {N} {D} {C} {G} m journal =
     ((keys : Keys) × (base : List ℕ) × (origin : Option (List ℕ)) × (ask : ServeAsk) × (ends : List WorkEnd) × (old : Outside S K F N D C G) × (new : Outside S K F N D C G)
     × HasServed m keys base origin ask ends journal old new)
     ⊎ ((keys : Keys) × (base : List ℕ) × (origin : Option (List ℕ)) × (ask : ServeAsk) × (keep : Keep) × (ends : List WorkEnd) × (shards : List (KeptShard F G)) × (old : Outside S K F N D C G)
-    × (new : Outside S K F N D C G) × HasKept m keys base origin ask keep ends shards journal old new)
+    × (new : Outside S K F N D C G) × HasKeptAnew m keys base origin ask keep ends shards journal old new)
 
 -- each of these hosts opened behind the one before, over the contents that it had left in the shard of the client's file
 abbrev pub OpenOverIt : {F : Type 0} → JournalView F → List (JournalView F) → Client → Type 0

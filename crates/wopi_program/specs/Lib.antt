@@ -1,6 +1,7 @@
 pub mod Words
 pub mod Notes
 pub mod Meanings
+pub mod Tale
 pub mod Telling
 pub mod Files
 pub mod Once
@@ -11,6 +12,7 @@ pub mod Runs
 pub mod Passes
 pub mod Journal
 pub mod Watched
+pub mod Recalled
 pub mod Returned
 pub mod Serve
 pub mod Keep

@@ -2,6 +2,8 @@
 use Rattle.std.specs.Prelude.{◌≡◌, ⊤, ℕ, ◌+◌, Bool, List, [], ◌∷◌, Option, if◌then◌else◌}
 use Rattle.std.specs.List.{list_any}
 use Rattle.outside.specs.Folder.{Files}
+use Rattle.host_core.specs.declared.life.ReopenFault.{ReopenFault}
+use Rattle.host_core.specs.declared.life.ReopenFault.TheVariants as reopen
 use Rattle.host_core.specs.declared.opening.StartFault.{StartFault}
 use Rattle.host_core.specs.Notes.{Notes}
 use Rattle.host_log.specs.Logs.{LogView, HasEnded, IsAnew}
@@ -18,6 +20,14 @@ use Rattle.wopi_program.specs.Returned.{AreReturned}
 use Rattle.wopi_program.specs.Serve.{refused_end}
 use Rattle.wopi_program.specs.Watched.{TellsOf, none_raised}
 
+-- how a run ends whose host doesn't go on, where no log failed
+abbrev pub unresumed_end : ReopenFault → ServeEnd
+unresumed_end reopen.FolderFault = end.FolderFault
+unresumed_end (reopen.TooLarge name) = end.TooLarge name
+unresumed_end reopen.Memory = end.Memory
+unresumed_end reopen.BadLife = end.BadLogs
+unresumed_end reopen.TooManyIds = end.TooManyIds
+
 module _ {F : Type 0} where
   abbrev pub lost_store : LogView F → Bool
   lost_store store = store.lost
@@ -32,6 +42,10 @@ module _ {F : Type 0} where
   -- how a run ends where no host was opened over these stores
   abbrev pub opening_end : List (LogView F) → StartFault → ServeEnd
   opening_end stores refusal = if list_any failed_in stores then end.JournalFault else refused_end refusal
+
+  -- and where it doesn't go on
+  abbrev pub going_end : List (LogView F) → ReopenFault → ServeEnd
+  going_end stores refusal = if list_any failed_in stores then end.JournalFault else unresumed_end refusal
 
   abbrev pub files_of : (F → Option Files) → LogView F → Option Files
   files_of files store = files store.folder

@@ -1,7 +1,6 @@
 -- What the notes tell of shards that are nearly full. (Own.)
 use Rattle.std.specs.Prelude.{◌≡◌, ◌≤◌, ℕ, ◌+◌, nat_lt, if◌then◌else◌, Bool, true, false, List, [], ◌∷◌, ◌++◌, map, length, Option, None, Some, slice_get, replicate, codes}
 use Rattle.turn_lock.specs.Places.{times}
-use Rattle.wopi_model.specs.Begin.{new_life}
 use Rattle.wopi_model.specs.Host.{Limits}
 use Rattle.wopi_model.specs.Shard.{Item, entries}
 use Rattle.host_core.specs.Caller.{Sight, Extends}
@@ -10,6 +9,7 @@ use Rattle.host_core.specs.Times.{steps_of}
 use Rattle.host_core.specs.Value.{Left}
 use Rattle.host_table.specs.Journal.{JournalView, IsNearlyFullIn}
 use Rattle.wopi_program.specs.Notes.{NotesAll}
+use Rattle.wopi_program.specs.Tale.{Part, Tale}
 
 -- the decimal digits of a shard's number, which is below 16
 abbrev pub shard_digits : ℕ → List ℕ
@@ -65,15 +65,14 @@ pub record HasTold {K F : Type 0} (held : K → Option (List ℕ)) (count : K �
   pub are_told : AreTold capacity journal.parts told
   pub lines : NotesAll (held old) (held new) (count old) (count new) (map nearly_full_line told)
 
--- what a shard leaves has a front after which it was nearly full
-abbrev pub WasNearlyFullIn : {F : Type 0} → Option ℕ → ℕ → ℕ → Option (Left F) → Type 0
-WasNearlyFullIn calls opened first None = ⊥
-WasNearlyFullIn calls opened first (Some part) =
-    (front : List Item) × Extends (entries front) (steps_of part.made) × IsNearlyFull calls (new_life part.opening opened first) front
+-- what is told of a shard has a front after which it was nearly full
+abbrev pub WasNearlyFullIn : Option ℕ → Option Part → Type 0
+WasNearlyFullIn calls None = ⊥
+WasNearlyFullIn calls (Some part) = (front : List Item) × Extends (entries front) (steps_of part.made) × IsNearlyFull calls part.begin front
 
 -- The notes grew by the lines of some shards that were nearly full once, each told of once at most.
-pub record SawNearlyFull {K F : Type 0} (held : K → Option (List ℕ)) (count : K → ℕ) (limits : Limits) (journal : JournalView F) (old new : K) : Type 0 where
+pub record SawNearlyFull {K : Type 0} (held : K → Option (List ℕ)) (count : K → ℕ) (limits : Limits) (tale : Tale) (old new : K) : Type 0 where
   pub told : List ℕ
   pub once : (shard : ℕ) → times shard told ≤ 1
-  pub were : (shard : ℕ) → times shard told ≡ 1 → WasNearlyFullIn limits.calls journal.opened journal.first (slice_get journal.parts shard)
+  pub were : (shard : ℕ) → times shard told ≡ 1 → WasNearlyFullIn limits.calls (slice_get tale.parts shard)
   pub lines : NotesAll (held old) (held new) (count old) (count new) (map nearly_full_line told)

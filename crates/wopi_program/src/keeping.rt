@@ -5,16 +5,17 @@ ghost use Rattle.access_tokens.specs.Addresses.{is_base};
 ghost use Rattle.access_tokens.specs.Origins.{IsOrigin};
 ghost use Rattle.host_core.specs.Opening.{most_first};
 ghost use Rattle.wopi_program.specs.Keep.{KeepRuns, endless, is_lost, kept_end};
-ghost use Rattle.wopi_program.specs.Paired.{AreAnew, AreParted, HasKeptHost, failed_in, lost_store, opening_end};
+ghost use Rattle.wopi_program.specs.Paired.{AreAnew, AreParted, HasKeptHost, failed_in, going_end, lost_store, opening_end, unresumed_end};
 ghost use Rattle.wopi_program.specs.Passes.{IsFreshPass};
 ghost use Rattle.wopi_program.specs.Serve.{refused_end};
 
 use crate::crew::{Crew, Returned, crew_of, work_host};
+use crate::recalling::{RecallFault, recall};
 use crate::serve_words::{Keep, ServeAsk};
 use crate::serving::{ServeEnd, end_after, first_moment, refused_end};
 use crate::{Meant, Outside};
 use access_tokens::Keys;
-use host_core::{StartFault, Store};
+use host_core::{Life, ReopenFault, StartFault, Store};
 use host_log::Logged;
 use host_server::{Desk, WorkEnd};
 use host_table::{EndRoom, Host, Pass, WriteRoom};
@@ -252,8 +253,173 @@ fn refuse_keep<F: Folder, G: Log>(
     refused_end(fault)
 }
 
-/// Opens a host over the folders and the logs at the first clock's first moment, serves the links of every listener by a
+/// The same of a host that doesn't go on.
+fn refuse_on<F: Folder, G: Log>(
+    stores: Vec<Logged<F, G>>,
+    fault: ReopenFault,
+    folders: &mut Vec<F>,
+    logs: &mut Vec<G>,
+) -> ServeEnd
+    requires folders { (folders.old.items ≡ []) × (length stores.items ≤ vec_capacity folders.old) }
+    requires logs { (logs.old.items ≡ []) × (length stores.items ≤ vec_capacity logs.old) }
+    ensures parted { AreParted G.held G.synced G.write_faults stores.items folders.new.items logs.new.items }
+    ensures ended { result ≡ going_end stores.items fault }
+{
+    let failed = any_log_failed(&stores);
+    part_all(stores, folders, logs);
+    if failed {
+        return ServeEnd::JournalFault;
+    }
+    unresumed_end(fault)
+}
+
+/// How a run ends whose host doesn't go on, where no log failed.
+fn unresumed_end(fault: ReopenFault) -> ServeEnd
+    ensures { result ≡ unresumed_end fault }
+{
+    match fault {
+        ReopenFault::FolderFault => ServeEnd::FolderFault,
+        ReopenFault::TooLarge { name } => ServeEnd::TooLarge(name),
+        ReopenFault::Memory => ServeEnd::Memory,
+        ReopenFault::BadLife => ServeEnd::BadLogs,
+        ReopenFault::TooManyIds => ServeEnd::TooManyIds,
+    }
+}
+
+/// What a host over logs is opened with.
+#[derive(Drop)]
+struct Opened<F: Folder, N, C, G: Log>
+where
+    Logged<F, G>: Store,
+{
+    crew: Crew<Logged<F, G>, N, C>,
+    ending: EndRoom<Logged<F, G>>,
+    stores: Vec<Logged<F, G>>,
+}
+
+/// Stores over the folders and the logs, which room for as many stays in the place of, and memory for the workers.
+fn stores_of<S, K, F: Folder, N: Drop, D, C: Drop, G: Log>(
+    alloc: Global,
+    space: KeepSpace<F, N, C, G>,
+    syncs_all: bool,
+    outside: &mut Outside<S, K, F, N, D, C, G>,
+) -> Opened<F, N, C, G> {
+    let KeepSpace {
+        crew,
+        ending,
+        rooms,
+        stores,
+        folders,
+        logs,
+        ..
+    } = space;
+    let folders = mem::replace(&mut outside.folders, folders);
+    let logs = mem::replace(&mut outside.logs, logs);
+    let stores = pair_all(alloc, folders, logs, rooms, stores, syncs_all);
+    Opened {
+        crew,
+        ending,
+        stores,
+    }
+}
+
+/// Begins a new life over the folders and the logs at the first clock's first moment, serves the links of every listener by a
 /// worker of its own, and ends the host. Where there is no memory for that, nothing is opened.
+fn keep_anew<
+    R: Threads + Wait + Sync,
+    S: Source,
+    K: Sink + Send,
+    F: Folder + Send,
+    N: Listener + Send,
+    D: Dialer,
+    C: Clock + Send,
+    G: Log + Send,
+>(
+    rt: &R,
+    alloc: Global,
+    keys: Keys,
+    base: Bytes,
+    origin: Option<Bytes>,
+    ask: ServeAsk,
+    keep: Keep,
+    outside: &mut Outside<S, K, F, N, D, C, G>,
+) -> ServeEnd {
+    let opened = first_moment(&mut outside.clocks);
+    let desk = Desk::serving(keys, base, opened, ask.editor, origin);
+    let Ok(space) = reserve_keep(alloc, outside.listeners.len()) else {
+        return ServeEnd::Memory;
+    };
+    let Opened {
+        crew,
+        ending,
+        stores,
+    } = stores_of(alloc, space, keep.syncs_all, outside);
+    match Host::start_endless(alloc, stores, keep.ids, opened, ask.first) {
+        Err(refused) => {
+            let (stores, fault) = refused;
+            return refuse_keep(stores, fault, &mut outside.folders, &mut outside.logs);
+        }
+        Ok(begun) => {
+            let (host, first) = begun;
+            return keep_host(rt, alloc, &desk, host, first, crew, ending, outside);
+        }
+    }
+}
+
+/// Goes on with these lives, one of each shard, over the folders and the logs, as `keep_anew` begins. Tokens that count go on
+/// counting, since the host opened when it did.
+fn keep_on<
+    R: Threads + Wait + Sync,
+    S: Source,
+    K: Sink + Send,
+    F: Folder + Send,
+    N: Listener + Send,
+    D: Dialer,
+    C: Clock + Send,
+    G: Log + Send,
+>(
+    rt: &R,
+    alloc: Global,
+    lives: Vec<Life>,
+    keys: Keys,
+    base: Bytes,
+    origin: Option<Bytes>,
+    ask: ServeAsk,
+    keep: Keep,
+    outside: &mut Outside<S, K, F, N, D, C, G>,
+) -> ServeEnd {
+    let desk = Desk::serving(keys, base, lives[0].opened, ask.editor, origin);
+    let Ok(space) = reserve_keep(alloc, outside.listeners.len()) else {
+        return ServeEnd::Memory;
+    };
+    let Opened {
+        crew,
+        ending,
+        stores,
+    } = stores_of(alloc, space, keep.syncs_all, outside);
+    match Host::reopen(alloc, stores, lives, keep.ids) {
+        Err(refused) => {
+            let (stores, fault) = refused;
+            return refuse_on(stores, fault, &mut outside.folders, &mut outside.logs);
+        }
+        Ok(begun) => {
+            let (host, first) = begun;
+            return keep_host(rt, alloc, &desk, host, first, crew, ending, outside);
+        }
+    }
+}
+
+/// How a run ends whose last logs can't be gone on with.
+fn recall_end(fault: RecallFault) -> ServeEnd {
+    match fault {
+        RecallFault::Bad { shard, line } => ServeEnd::BadLine { shard, line },
+        RecallFault::Read => ServeEnd::JournalFault,
+        RecallFault::Memory => ServeEnd::Memory,
+    }
+}
+
+/// Opens a host over the folders and the logs, serves the links of every listener by a worker of its own, and ends the host. It
+/// goes on with what the last logs tell, and begins a new life where there is none.
 pub(crate) fn keep_in<
     R: Threads + Wait + Sync,
     S: Source,
@@ -279,6 +445,7 @@ pub(crate) fn keep_in<
     requires first { (1 ≤ ask.first) × (ask.first ≤ most_first) }
     requires folders { length outside.old.folders.items ≡ 16 }
     requires logs { length outside.old.logs.items ≡ 16 }
+    requires lasts { length outside.old.lasts.items ≡ 16 }
     requires synced { AllByRecursion (λ log. G.synced log ≡ G.held log) outside.old.logs.items }
     requires some { 1 ≤ length outside.old.listeners.items }
     requires few { length outside.old.listeners.items ≤ 1024 }
@@ -286,33 +453,13 @@ pub(crate) fn keep_in<
     requires has_all_back { AllByRecursion (λ listener. N.finished listener ≡ N.accepted listener) outside.old.listeners.items }
     ensures runs { KeepRuns ⟦<Outside<S, K, F, N, D, C, G> as Meant<S, K, F, N, D, C, G, N::Link>>⟧.meanings keys base origin ask keep outside.new.notes result outside.old outside.new }
     ensures others { outside.new
-        ≡ record outside.old { notes = outside.new.notes; folders = outside.new.folders; listeners = outside.new.listeners; clocks = outside.new.clocks; logs = outside.new.logs } }
+        ≡ record outside.old { notes = outside.new.notes; folders = outside.new.folders; listeners = outside.new.listeners; clocks = outside.new.clocks; logs = outside.new.logs; lasts = outside.new.lasts } }
 {
-    let opened = first_moment(&mut outside.clocks);
-    let desk = Desk::serving(keys, base, opened, ask.editor, origin);
-    let Ok(space) = reserve_keep(alloc, outside.listeners.len()) else {
-        return ServeEnd::Memory;
-    };
-    let KeepSpace {
-        crew,
-        ending,
-        rooms,
-        stores,
-        folders,
-        logs,
-        ..
-    } = space;
-    let folders = mem::replace(&mut outside.folders, folders);
-    let logs = mem::replace(&mut outside.logs, logs);
-    let stores = pair_all(alloc, folders, logs, rooms, stores, keep.syncs_all);
-    match Host::start_endless(alloc, stores, keep.ids, opened, ask.first) {
-        Err(refused) => {
-            let (stores, fault) = refused;
-            return refuse_keep(stores, fault, &mut outside.folders, &mut outside.logs);
-        }
-        Ok(begun) => {
-            let (host, first) = begun;
-            return keep_host(rt, alloc, &desk, host, first, crew, ending, outside);
-        }
+    match recall(alloc, &mut outside.lasts) {
+        Err(fault) => recall_end(fault),
+        Ok(None) => keep_anew(rt, alloc, keys, base, origin, ask, keep, outside),
+        Ok(Some(lives)) => keep_on(
+            rt, alloc, lives, keys, base, origin, ask, keep, outside,
+        ),
     }
 }

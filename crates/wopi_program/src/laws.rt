@@ -25,7 +25,8 @@ ghost use Rattle.wopi_program.specs.BothEnds.{CameOnLink, OpenOverIt, WasServed,
 ghost use Rattle.wopi_program.specs.Edit.{EditRan, IsRun};
 ghost use Rattle.wopi_program.specs.LegalJournals.{CallsLegal, IsLegalJournal};
 ghost use Rattle.wopi_program.specs.Once.{OpensAndServes};
-ghost use Rattle.wopi_program.specs.Keep.{HasKept, KeptShard, losing};
+ghost use Rattle.wopi_program.specs.Keep.{HasKept, HasKeptAnew, KeptShard, losing};
+ghost use Rattle.wopi_program.specs.Tale.{Tale};
 ghost use Rattle.wopi_program.specs.Serve.{HasServed};
 ghost use Rattle.wopi_program.specs.ServeEnds.{ServeEnds};
 ghost use Rattle.wopi_program.specs.ServeWords.{IsServeRow};
@@ -59,12 +60,12 @@ pub fn edits_at_a_serve_are_safe<S, K, F, N, D, C, G, L>()
     both_ends_are_safe();
 }
 
-/// The same of an `edit` and a `serve` that keeps logs.
+/// The same of an `edit` and a `serve` that keeps logs, where it began a new life.
 pub fn edits_at_a_host_that_keeps_are_safe<S, K, F, N, D, C, G, L>()
     ensures { (m : Meanings S K F N D C G L) (words : List (List ℕ)) (status : ℕ) (old new host host' : Outside S K F N D C G) (keys : Keys) (base : List ℕ) (origin : Option (List ℕ)) (ask : ServeAsk) (keep : Keep)
         (ends : List WorkEnd) (shards : List (KeptShard F G)) (journal : JournalView F) (client : Client)
         (edit : EditRan m words status old new) (run : IsRun m edit.first status old new) →
-        HasKept m keys base origin ask keep ends shards journal host host' → (h : IsScriptHeard (desktop_of edit.first) client first_speaker edit.first run.commands run.ran.last run.ran.result run.ran.written run.ran.sent) →
+        HasKeptAnew m keys base origin ask keep ends shards journal host host' → (h : IsScriptHeard (desktop_of edit.first) client first_speaker edit.first run.commands run.ran.last run.ran.result run.ran.written run.ran.sent) →
         AreExchangedOver (desktop_of edit.first) client h.has.spoken (history_at journal client) →
         IsSafeFor client h.told (start_at journal client) (history_at journal client) }
 {
@@ -82,10 +83,10 @@ pub fn exchanges_with_a_serve_are_safe<S, K, F, N, D, C, G, L>()
     both_ends_are_safe();
 }
 
-/// The same of any client's exchanges with a `serve` that keeps logs.
+/// The same of any client's exchanges with a `serve` that keeps logs, where it began a new life.
 pub fn exchanges_with_a_host_that_keeps_are_safe<S, K, F, N, D, C, G, L>()
     ensures { (m : Meanings S K F N D C G L) (keys : Keys) (base : List ℕ) (origin : Option (List ℕ)) (ask : ServeAsk) (keep : Keep) (ends : List WorkEnd) (shards : List (KeptShard F G)) (journal : JournalView F) (old new : Outside S K F N D C G)
-        (desktop : Desktop) (client : Client) (ending : Ending) (spoken : List Spoken) (heard : List Input) → HasKept m keys base origin ask keep ends shards journal old new →
+        (desktop : Desktop) (client : Client) (ending : Ending) (spoken : List Spoken) (heard : List Input) → HasKeptAnew m keys base origin ask keep ends shards journal old new →
         Hears desktop client ending first_speaker spoken heard →
         AreExchangedOver desktop client spoken (history_at journal client) →
         IsSafeFor client (told_by client heard) (start_at journal client) (history_at journal client) }
@@ -130,8 +131,8 @@ pub fn entries_of_a_serve_come_of_messages<S, K, F, N, D, C, G, L>()
 
 /// So was each entry of a `serve` that keeps logs.
 pub fn entries_of_a_host_that_keeps_come_of_messages<S, K, F, N, D, C, G, L>()
-    ensures { (m : Meanings S K F N D C G L) (keys : Keys) (base : List ℕ) (origin : Option (List ℕ)) (ask : ServeAsk) (keep : Keep) (ends : List WorkEnd) (shards : List (KeptShard F G)) (journal : JournalView F) (old new : Outside S K F N D C G)
-        (kept : HasKept m keys base origin ask keep ends shards journal old new) → AllByRecursion (λ one. CameOnLink (losing m) kept.desk kept.visits one.step) journal.merge }
+    ensures { (m : Meanings S K F N D C G L) (keys : Keys) (base : List ℕ) (origin : Option (List ℕ)) (ask : ServeAsk) (keep : Keep) (ends : List WorkEnd) (shards : List (KeptShard F G)) (tale : Tale) (old new : Outside S K F N D C G)
+        (kept : HasKept m keys base origin ask keep ends shards tale old new) → AllByRecursion (λ one. CameOnLink (losing m) kept.desk kept.visits one.step) tale.merge }
 {
     entries_come_of_messages();
 }

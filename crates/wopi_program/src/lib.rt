@@ -29,6 +29,7 @@ mod notes;
 mod once;
 mod once_words;
 mod outside_world;
+mod recalling;
 mod replay;
 mod replay_words;
 mod serve;

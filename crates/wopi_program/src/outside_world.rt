@@ -19,6 +19,8 @@ pub struct Outside<S, K, F, N, D, C, G> {
     pub clocks: Vec<C>,
     /// One for each folder where a host keeps logs, and none else.
     pub logs: Vec<G>,
+    /// The last log of each folder's shard from the runs before, where a host keeps logs and there is one; none else.
+    pub lasts: Vec<Option<S>>,
 }
 
 /// An outside world of a source S, a sink K, a folder F, a listener N with its links L, a dialer D, a

@@ -1,7 +1,7 @@
 //! The command `serve`: a host over the folders, and the logs where it keeps them, and a worker for each listener.
-ghost use Rattle.std.specs.Prelude.{◌≡◌, ℕ, List, Some, length, map, string_bytes};
+ghost use Rattle.std.specs.Prelude.{◌≡◌, ℕ, IfOk, List, Some, length, map, string_bytes};
 ghost use Rattle.std.specs.List.{AllByRecursion};
-ghost use Rattle.wopi_program.specs.ServeEnds.{ServeEnds, ServeFinishes};
+ghost use Rattle.wopi_program.specs.ServeEnds.{BadLineEnds, ServeEnds, ServeFinishes, bad_line};
 ghost use Rattle.wopi_program.specs.ServeWords.{IsServeRow};
 ghost use Rattle.wopi_program.specs.Words.{IsRow};
 ghost use Rattle.access_tokens.specs.declared.keys.Keys.{Keys};
@@ -17,7 +17,32 @@ use outside::{Clock, Dialer, Folder, Listener, Log, Sink, Source};
 use std::alloc::Global;
 use std::sync::Wait;
 use std::thread::Threads;
-use wopi_text::Bytes;
+use wopi_text::{Bytes, Memory};
+
+/// The line that tells of a bad line in the last log of a shard.
+#[tactic(auto, unfolding(crate::specs::ServeEnds::bad_line))]
+fn bad_line(alloc: Global, shard: u8, line: u64) -> Result<String, Memory>
+    ensures { IfOk result (λ text. string_bytes text ≡ bad_line shard line) }
+{
+    let text = format!(in alloc; "log {shard} line {line}\n")?;
+    Ok(text)
+}
+
+/// Tells of it, where there is memory for the line.
+fn finish_bad_line<K: Sink>(alloc: Global, notes: &mut K, shard: u8, line: u64) -> u8
+    ensures { BadLineEnds K.held K.write_faults result notes.old notes.new shard line }
+{
+    match bad_line(alloc, shard, line) {
+        Ok(text) => {
+            note(notes, text.as_bytes());
+            17
+        }
+        Err(Memory) => {
+            note(notes, b"out of memory\n");
+            6
+        }
+    }
+}
 
 /// Says how the run ended, and gives the status.
 fn finish<K: Sink>(alloc: Global, notes: &mut K, end: &ServeEnd) -> u8
@@ -46,6 +71,15 @@ fn finish<K: Sink>(alloc: Global, notes: &mut K, end: &ServeEnd) -> u8
             note(notes, b"journal fault\n");
             16
         }
+        ServeEnd::BadLine { shard, line } => finish_bad_line(alloc, notes, *shard, *line),
+        ServeEnd::BadLogs => {
+            note(notes, b"bad logs\n");
+            17
+        }
+        ServeEnd::TooManyIds => {
+            note(notes, b"too many ids\n");
+            18
+        }
     }
 }
 
@@ -66,7 +100,7 @@ pub fn run_serve<
     requires workers { (keys : Keys) (base : List ℕ) (ask : ServeAsk) → IsServeRow (map string_bytes words.now) keys base ask
         → (length outside.old.listeners.items ≡ ask.workers) × (length outside.old.clocks.items ≡ ask.workers) }
     requires logs { (keys : Keys) (base : List ℕ) (ask : ServeAsk) (keep : Keep) → IsServeRow (map string_bytes words.now) keys base ask → ask.keep ≡ Some keep
-        → (length outside.old.logs.items ≡ 16) × AllByRecursion (λ log. G.synced log ≡ G.held log) outside.old.logs.items }
+        → (length outside.old.logs.items ≡ 16) × (length outside.old.lasts.items ≡ 16) × AllByRecursion (λ log. G.synced log ≡ G.held log) outside.old.logs.items }
     requires has_all_back { AllByRecursion (λ listener. N.finished listener ≡ N.accepted listener) outside.old.listeners.items }
     ensures { ServeEnds ⟦<Outside<S, K, F, N, D, C, G> as Meant<S, K, F, N, D, C, G, N::Link>>⟧.meanings (map string_bytes words.now) result outside.old outside.new }
 {

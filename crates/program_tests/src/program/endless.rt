@@ -43,6 +43,7 @@ fn met_with(alloc: Global, input: Endless) -> Result<Met<Endless>, Memory>
         dialer: met.dialer,
         clocks: met.clocks,
         logs: met.logs,
+        lasts: Vec::new(alloc),
     })
 }
 

@@ -42,6 +42,16 @@ const FINE: Keeping<'static> = Keeping {
 };
 
 /// A log for each shard.
+fn no_lasts(alloc: Global) -> Result<Vec<Option<MemSource>>, Memory>
+    ensures { IfOk result (λ lasts. length lasts.items ≡ 16) }
+{
+    let mut lasts = Vec::with_capacity(alloc, 16)?;
+    'lasts: while lasts.len() < 16 {
+        lasts.push_reserved(None);
+    }
+    Ok(lasts)
+}
+
 fn logs(alloc: Global, how: Keeping<'_>) -> Result<Vec<MemLog>, Memory> {
     let mut logs = Vec::new(alloc);
     for shard in 0..16usize {
@@ -76,6 +86,7 @@ fn run<R: Threads + Wait + Sync>(
     clocks.push(ScriptClock::new(0, [5u64].to_vec(alloc)?))?;
     let mut left = meet(alloc, folders(alloc)?, listeners, clocks)?;
     left.logs = logs(alloc, how)?;
+    left.lasts = no_lasts(alloc)?;
     let status = serve(rt, alloc, words, &mut left)?;
     let listener = left.listeners.first().ok_or("a listener")?;
     let replies = match listener.finished_links().first() {

@@ -226,6 +226,7 @@ pub fn meet<F: Drop, L: Drop>(
         dialer: ScriptDialer::new(alloc, Vec::new(alloc)),
         clocks,
         logs: Vec::new(alloc),
+        lasts: Vec::new(alloc),
     })
 }
 

@@ -122,6 +122,7 @@ fn watched(alloc: Global) -> Result<ServedTo<BellSink, MemFolder, PatientLink>, 
         dialer: ScriptDialer::new(alloc, Vec::new(alloc)),
         clocks,
         logs: Vec::new(alloc),
+        lasts: Vec::new(alloc),
     })
 }
 

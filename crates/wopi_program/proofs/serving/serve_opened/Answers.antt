@@ -1,11 +1,13 @@
 use Rattle.std.proofs.Common.{◌≤◌, List, length, refl, sym, ap, ◌∙◌, subst, arith}
 use Rattle.wopi_model.specs.Host.{kept_limits}
 use Rattle.host_server.specs.declared.working.WorkEnd.{WorkEnd}
+use Rattle.wopi_program.specs.Tale.{new_part}
 use Rattle.wopi_program.specs.Watched.{AreRightIn, TellsOf, none_raised}
 use Rattle.wopi_program.specs.Worked.{Wrote}
 use Rattle.wopi_program.proofs.ServeLemmas.{worked_still}
 use Rattle.wopi_program.proofs.Merged.{based_many, merged_of_ends}
 use Rattle.wopi_program.proofs.WatchLemmas.{all_told, tells_both}
+use Rattle.wopi_program.proofs.WorkerLemmas.{length_mapped}
 use Rattle.wopi_program.proofs.serving.serve_opened.Goals as goal
 
 pub serve_host-worked-requires-clause-space : goal.serve_host-worked-requires-clause-space
@@ -28,7 +30,7 @@ returns-clause-runs g c =
     let told : TellsOf held count c.args.outside.now.notes rest.new.notes none_raised rest.new.marks =
     tells_both held count c.args.outside.now.notes worked.new.outside.notes rest.new.notes none_raised worked.result.marks rest.new.marks worked.ensures.told rest.ensures.told in
     let merged = merged_of_ends _ _ _ _ journal _ worked.ensures.worked.closed in
-    let few : length journal.parts ≤ 16 = let same = based_many _ _ _ journal.parts merged.based in let many = c.requires.many in omega (arith, same, many) in
+    let few : length journal.parts ≤ 16 = let same = based_many _ _ merged.based in let long = length_mapped (new_part journal.opened journal.first) journal.parts in let many = c.requires.many in omega (arith, same, long, many) in
     record {
       journal = journal;
       ends = worked.result.ends.items;
