@@ -19,7 +19,7 @@ use Rattle.journal_text.specs.declared.text.Line.{Line}
 use Rattle.journal_text.specs.Lines.{AreSized, IsLine, size_of, told_size}
 use Rattle.journal_audit.specs.Calls.{act_of, call_of, entry_of, told_ruling}
 use Rattle.journal_audit.specs.Contents.{Gives, GivesNone, HadContents, IsGiven, Stood, StoodThere}
-use Rattle.journal_audit.specs.Known.{version_told}
+use Rattle.journal_text.specs.Versions.{version_behind}
 use Rattle.journal_audit.specs.Lines.{Begun, KeepsBounds, LegalLines, LegalText, MayCome, behind_line, behind_lines, opened_host}
 use Rattle.journal_audit.proofs.Auditing.{file_of, opening-file}
 use Rattle.journal_audit.proofs.Hosts.{go_on}
@@ -34,7 +34,7 @@ Turned old had new has contents version =
     ⊎ ((c : List ℕ) × (contents ≡ Some c) × (version ≡ Some new) × (has ≡ Some c) × (old < new))
 
 by_act : (was : File) (one : EntryAct) (contents : Option (List ℕ)) (version : Option ℕ) → AreSized (size_of one) contents
-    → version_told was.version one version ≡ version_after was (act_of one contents)
+    → version_behind was.version one version ≡ version_after was (act_of one contents)
     → Turned was.version was.contents (version_after was (act_of one contents)) (contents_after was (act_of one contents)) contents version
 by_act was act.Info None version sized told = inl (refl, refl, λ c e. e)
 by_act was (act.Get most) None version sized told = inl (refl, refl, λ c e. e)

@@ -19,13 +19,14 @@ use Rattle.host_core.specs.declared.entry.EntryAct.TheVariants as act
 use Rattle.host_core.specs.Entries.{kept_act}
 use Rattle.journal_text.specs.declared.text.Line.{Line}
 use Rattle.journal_text.specs.Lines.{AreSized, told_size}
+use Rattle.journal_text.specs.Versions.{version_behind}
 use Rattle.journal_audit.specs.Calls.{Said, act_of, call_of, told_ruling}
 use Rattle.journal_audit.specs.Judging.{IsSize, Placed, sized_ask}
-use Rattle.journal_audit.specs.Known.{IsKnown, placed_after, settled_place, size_after, version_told}
+use Rattle.journal_audit.specs.Known.{IsKnown, placed_after, settled_place, size_after}
 use Rattle.journal_audit.specs.Lines.{IsRuledOn}
 use Rattle.journal_audit.specs.Spent.{ends}
 use Rattle.journal_audit.specs.Tracks.{IsSound}
-use Rattle.journal_audit.proofs.Rulings.{told_outcome, version_outcome}
+use Rattle.journal_text.proofs.Rulings.{told_outcome, version_outcome}
 use Rattle.journal_audit.proofs.Sizes.{Stands, ask-same}
 
 -- an id that is put before others, at a moment
@@ -106,7 +107,7 @@ size-after file (act.Create overwrite new) status (Some bytes) size ok sized is 
     ap (λ (n : ℕ). Some n) (sym told.1)
 size-after file act.Delete status contents size ok sized is = refl
 
-pub told-same : (old : ℕ) (one : EntryAct) (contents : Option (List ℕ)) (told : Option ℕ) → version_told old one told ≡ version_told old (kept_act (act_of one contents)) told
+pub told-same : (old : ℕ) (one : EntryAct) (contents : Option (List ℕ)) (told : Option ℕ) → version_behind old one told ≡ version_behind old (kept_act (act_of one contents)) told
 told-same old act.Info contents told = refl
 told-same old (act.Get most) contents told = refl
 told-same old (act.Put lock size) contents told = refl
@@ -147,8 +148,8 @@ accepts place refused refused' file line opened sound ok known ruled since is =
     ap (λ (s : Option ℕ). sized_ask s line.act) known.size_is ∙ ask-same file line.act line.contents in
     let lock = known.lock_is in
     record {
-      version_is = ap (λ (v : ℕ). version_told v line.act line.version) known.version_is
-          ∙ ap (λ (v : Option ℕ). version_told file.version line.act v) (sym told)
+      version_is = ap (λ (v : ℕ). version_behind v line.act line.version) known.version_is
+          ∙ ap (λ (v : Option ℕ). version_behind file.version line.act v) (sym told)
           ∙ told-same file.version line.act line.contents ruling.version
           ∙ version_outcome file (call_of line) opened now ruling ruled.1 (ap (λ (s : ℕ). s == 200) status ∙ ok);
       size_is = size-after file line.act line.status line.contents place.size ok sound.contents known.size_is;

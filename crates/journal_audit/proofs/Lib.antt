@@ -1,10 +1,9 @@
-mod Rulings
-mod Sizes
+pub mod Sizes
 mod Knowing
 mod Spending
 mod Stepping
 mod Tracking
-mod Merges
+pub mod Merges
 mod Hosts
 mod Ordering
 mod Auditing

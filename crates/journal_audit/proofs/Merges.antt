@@ -1,6 +1,6 @@
 -- Legal lines tell of the entries of a legal merge, and those of a legal merge are told by legal lines.
 use Rattle.std.proofs.Common.{◌≡◌, inl, inr, ℕ, ◌<◌, ◌==◌, max, Bool, true, false, cond, List, [], ◌∷◌, Option, None, Some, map, filter, length, refl, ap, sym, ◌∙◌, subst, arith, true≢false}
-use Rattle.std.specs.Prelude.{option_map}
+use Rattle.std.specs.Prelude.{option_map, unwrap_or}
 use Rattle.std.proofs.lemmas.Bool.{eqb-true, eqb-false, eq-eqb}
 use Rattle.std.specs.List.{AllByRecursion}
 use Rattle.wopi_text.specs.FileName.{shard_of}
@@ -18,16 +18,16 @@ use Rattle.host_core.specs.declared.entry.EntryAct.TheVariants as act
 use Rattle.host_core.specs.Entries.{Made, accepted_contents, brought_by, kept_act}
 use Rattle.host_core.specs.Times.{IsTimely, steps_of}
 use Rattle.journal_text.specs.declared.text.Line.{Line}
-use Rattle.journal_text.specs.Lines.{AreSized, size_of}
+use Rattle.journal_text.specs.Lines.{AreSized, size_of, told_size}
 use Rattle.journal_text.specs.Told.{line_of, lock_of}
 use Rattle.journal_audit.specs.Calls.{Said, act_of, call_of, entry_of, said_by, said_of, told_ruling}
 use Rattle.journal_audit.specs.Lines.{Begun, IsBehind, IsRuled, IsRuledOn, LegalLines, MayCome, behind_line, opened_host}
 use Rattle.journal_audit.specs.Merges.{AreTimely, ComesBehind, GoesOn, behind_entry, made_in}
 use Rattle.journal_audit.specs.Tracks.{IsSound}
-use Rattle.journal_audit.specs.Judging.{Placed}
+use Rattle.journal_audit.specs.Judging.{IsSize, Placed}
 use Rattle.journal_audit.proofs.Sizes.{Stands, sizes_decide, stores-same}
 use Rattle.wopi_model.proofs.Replacing.{acceptance-status}
-use Rattle.journal_audit.proofs.Rulings.{told_outcome}
+use Rattle.journal_text.proofs.Rulings.{told_outcome}
 use Rattle.journal_audit.proofs.Knowing.{left-by, length-zeros}
 
 pub by_eq : (k n : ℕ) (P : Bool → Type 0) → (k ≡ n → P true) → ((k ≡ n → ⊥) → P false) → P (k == n)
@@ -121,7 +121,8 @@ first_came begun one made goes =
 
 -- ---- a line and its entry
 
-act-is : (one : Act) → act_of (kept_act one) (brought_by one) ≡ one
+-- the act with the contents that it brought
+pub act-is : (one : Act) → act_of (kept_act one) (brought_by one) ≡ one
 act-is acts.Info = refl
 act-is (acts.Get most) = refl
 act-is (acts.Put lock contents) = refl
@@ -167,7 +168,8 @@ refused-same file call other now (Refuse status) e = refl
 refused-same file call other now (Conflict reason) e = refl
 refused-same file call other now Accept e = absurd (true≢false (sym (ap (λ (s : ℕ). s == 200) (acceptance-status call.act (effect file call now))) ∙ e))
 
-outcome-same : (file : File) (one : Made) (opened now : ℕ) → IsOutcome file one.step.call opened now one.step.ruling → IsOutcome file (call_of (line_of one)) opened now one.step.ruling
+-- an outcome of an entry's call is one of the call that its line tells
+pub outcome-same : (file : File) (one : Made) (opened now : ℕ) → IsOutcome file one.step.call opened now one.step.ruling → IsOutcome file (call_of (line_of one)) opened now one.step.ruling
 outcome-same file one opened now outcome = by_test (one.step.ruling.status == 200) refl
   where
     by_test : (test : Bool) → (one.step.ruling.status == 200) ≡ test → IsOutcome file (call_of (line_of one)) opened now one.step.ruling
@@ -229,12 +231,21 @@ told_lines begun (one ∷ made) goes =
 
 -- ---- from lines to entries
 
-kept-sized : (one : EntryAct) (b : Bool) (contents : Option (List ℕ)) → AreSized (cond b (size_of one) None) contents → kept_act (act_of one contents) ≡ one
+size-is : (size : Option ℕ) (contents : Option (List ℕ)) → AreSized size contents → IsSize contents size
+size-is None None sized = refl
+size-is None (Some bytes) sized = absurd sized
+size-is (Some size) None sized = absurd sized
+size-is (Some size) (Some bytes) sized = ap (λ (n : ℕ). Some n) (sym sized.1)
+
+same-size : (size : ℕ) (bytes : List ℕ) → IsSize (Some bytes) (Some size) → length bytes ≡ size
+same-size size bytes sized = sym (ap (λ (o : Option ℕ). unwrap_or o 0) sized)
+
+kept-sized : (one : EntryAct) (b : Bool) (contents : Option (List ℕ)) → IsSize contents (cond b (size_of one) None) → kept_act (act_of one contents) ≡ one
 kept-sized act.Info b contents sized = refl
 kept-sized (act.Get most) b contents sized = refl
 kept-sized (act.Put lock size) b None sized = ap (λ (n : ℕ). act.Put lock n) (length-zeros size)
-kept-sized (act.Put lock size) true (Some bytes) sized = ap (λ (n : ℕ). act.Put lock n) sized.1
-kept-sized (act.Put lock size) false (Some bytes) sized = absurd sized
+kept-sized (act.Put lock size) true (Some bytes) sized = ap (λ (n : ℕ). act.Put lock n) (same-size size bytes sized)
+kept-sized (act.Put lock size) false (Some bytes) sized = absurd (cc sized)
 kept-sized (act.Lock id) b contents sized = refl
 kept-sized act.GetLock b contents sized = refl
 kept-sized (act.Refresh id) b contents sized = refl
@@ -242,19 +253,19 @@ kept-sized (act.Unlock id) b contents sized = refl
 kept-sized (act.Relock old id) b contents sized = refl
 kept-sized act.Look b contents sized = refl
 kept-sized (act.Create overwrite size) b None sized = ap (λ (n : ℕ). act.Create overwrite n) (length-zeros size)
-kept-sized (act.Create overwrite size) true (Some bytes) sized = ap (λ (n : ℕ). act.Create overwrite n) sized.1
-kept-sized (act.Create overwrite size) false (Some bytes) sized = absurd sized
+kept-sized (act.Create overwrite size) true (Some bytes) sized = ap (λ (n : ℕ). act.Create overwrite n) (same-size size bytes sized)
+kept-sized (act.Create overwrite size) false (Some bytes) sized = absurd (cc sized)
 kept-sized act.Delete b contents sized = refl
 
-no-contents : (contents : Option (List ℕ)) → AreSized None contents → None ≡ contents
+no-contents : (contents : Option (List ℕ)) → IsSize contents None → None ≡ contents
 no-contents None sized = refl
-no-contents (Some bytes) sized = absurd sized
+no-contents (Some bytes) sized = absurd (cc sized)
 
-told-contents : (one : EntryAct) (b : Bool) (contents : Option (List ℕ)) → AreSized (cond b (size_of one) None) contents → cond b (brought_by (act_of one contents)) None ≡ contents
+told-contents : (one : EntryAct) (b : Bool) (contents : Option (List ℕ)) → IsSize contents (cond b (size_of one) None) → cond b (brought_by (act_of one contents)) None ≡ contents
 told-contents one false contents sized = no-contents contents sized
 told-contents act.Info true contents sized = no-contents contents sized
 told-contents (act.Get most) true contents sized = no-contents contents sized
-told-contents (act.Put lock size) true None sized = absurd sized
+told-contents (act.Put lock size) true None sized = absurd (cc sized)
 told-contents (act.Put lock size) true (Some bytes) sized = refl
 told-contents (act.Lock id) true contents sized = no-contents contents sized
 told-contents act.GetLock true contents sized = no-contents contents sized
@@ -262,23 +273,24 @@ told-contents (act.Refresh id) true contents sized = no-contents contents sized
 told-contents (act.Unlock id) true contents sized = no-contents contents sized
 told-contents (act.Relock old id) true contents sized = no-contents contents sized
 told-contents act.Look true contents sized = no-contents contents sized
-told-contents (act.Create overwrite size) true None sized = absurd sized
+told-contents (act.Create overwrite size) true None sized = absurd (cc sized)
 told-contents (act.Create overwrite size) true (Some bytes) sized = refl
 told-contents act.Delete true contents sized = no-contents contents sized
 
 -- the entry that a line tells, with the ruling that was found
-abbrev made_of : Line → Ruling → Made
+abbrev pub made_of : Line → Ruling → Made
 made_of line ruling = record { time = line.now; step = entry_of line ruling; told = true }
 
-line-is : (line : Line) (ruling : Ruling) → IsSound line → line.shard ≡ shard_of line.name → said_of ruling ≡ said_by line → line ≡ line_of (made_of line ruling)
-line-is line ruling sound own said =
-    let acts-are : line.act ≡ kept_act (act_of line.act line.contents) = sym (kept-sized line.act (line.status == 200) line.contents sound.contents) in
+-- the line of that entry is the line again, where it tells as many bytes as it says
+pub line-is : (line : Line) (ruling : Ruling) → IsSize line.contents (told_size line.act line.status) → line.shard ≡ shard_of line.name → said_of ruling ≡ said_by line → line ≡ line_of (made_of line ruling)
+line-is line ruling sized own said =
+    let acts-are : line.act ≡ kept_act (act_of line.act line.contents) = sym (kept-sized line.act (line.status == 200) line.contents sized) in
     let status : line.status ≡ ruling.status = ap (λ (s : Said). s.status) (sym said) in
     let locks : line.lock ≡ lock_of ruling.lock = ap (λ (s : Said). s.lock) (sym said) in
     let reasons : line.reason ≡ ruling.reason = ap (λ (s : Said). s.reason) (sym said) in
     let versions : line.version ≡ ruling.version = ap (λ (s : Said). s.version) (sym said) in
     let contents : line.contents ≡ cond (ruling.status == 200) (brought_by (act_of line.act line.contents)) None =
-    sym (told-contents line.act (line.status == 200) line.contents sound.contents) ∙ ap (λ (s : ℕ). cond (s == 200) (brought_by (act_of line.act line.contents)) None) status in
+    sym (told-contents line.act (line.status == 200) line.contents sized) ∙ ap (λ (s : ℕ). cond (s == 200) (brought_by (act_of line.act line.contents)) None) status in
     λ i. record {
       stamp = line.stamp;
       shard = own i;
@@ -314,7 +326,7 @@ told_by_lines begun (line ∷ lines) sound legal =
     let own = may.ordered.own in
     let ruling = may.ruled.0 in
     let one = made_of line ruling in
-    let is = line-is line ruling sound.0 own may.ruled.2 in
+    let is = line-is line ruling (size-is (told_size line.act line.status) line.contents sound.0.contents) own may.ruled.2 in
     let allowed : IsAllowed (begun.shards (shard_of_entry one.step)) (Step one.step) =
     subst (λ n. IsAllowed (begun.shards n) (Step (entry_of line ruling))) own may.ruled.1 in
     let behind : behind_line begun line ≡ behind_entry begun one.step = ap (λ (l : Line). behind_line begun l) is ∙ behind-same begun one allowed in

@@ -17,13 +17,13 @@ use Rattle.journal_text.specs.declared.text.Line.{Line}
 use Rattle.journal_text.specs.Lines.{AreSized, IsLine, size_of, told_size}
 use Rattle.journal_audit.specs.Calls.{Said, act_of, call_of, entry_of, told_ruling}
 use Rattle.journal_audit.specs.Contents.{HadContents, IsGiven, Stood, StoodThere, left_of}
-use Rattle.journal_audit.specs.Known.{version_told}
+use Rattle.journal_text.specs.Versions.{version_behind}
 use Rattle.journal_audit.specs.Lines.{Begun, IsRuledOn, KeepsBounds, LegalLines, LegalText, MayCome, behind_line, behind_lines, opened_host}
 use Rattle.journal_audit.proofs.Auditing.{file_of, opening-file}
 use Rattle.journal_audit.proofs.Givings.{of_all}
 use Rattle.journal_audit.proofs.Hosts.{go_on}
 use Rattle.journal_audit.proofs.Knowing.{left-by, told-same}
-use Rattle.journal_audit.proofs.Rulings.{version_outcome}
+use Rattle.journal_text.proofs.Rulings.{version_outcome}
 use Rattle.journal_audit.proofs.Streaming.{behind_more}
 
 -- ---- opening files
@@ -60,7 +60,7 @@ stood_there text name version contents there =
 
 -- only the line of an accepted act that brings contents tells some
 brings : (file : File) (one : EntryAct) (ok : Bool) (contents : List ℕ) (version : ℕ) → AreSized (cond ok (size_of one) None) (Some contents)
-    → (ok ≡ true) × (contents_after file (act_of one (Some contents)) ≡ Some contents) × (version_told file.version one (Some version) ≡ version)
+    → (ok ≡ true) × (contents_after file (act_of one (Some contents)) ≡ Some contents) × (version_behind file.version one (Some version) ≡ version)
 brings file one false contents version sized = absurd sized
 brings file act.Info true contents version sized = absurd sized
 brings file (act.Get most) true contents version sized = absurd sized
@@ -75,12 +75,12 @@ brings file (act.Create overwrite size) true contents version sized = (refl, ref
 brings file act.Delete true contents version sized = absurd sized
 
 pub accepted_version : (file : File) (line : Line) (opened now : ℕ) → (line.status == 200) ≡ true → IsRuledOn file line opened now
-    → version_told file.version line.act line.version ≡ (effect file (call_of line) now).version
+    → version_behind file.version line.act line.version ≡ (effect file (call_of line) now).version
 accepted_version file line opened now ok ruled =
     let ruling = ruled.0 in
     let status : ruling.status ≡ line.status = ap (λ (s : Said). s.status) ruled.2 in
     let told : ruling.version ≡ line.version = ap (λ (s : Said). s.version) ruled.2 in
-    ap (λ (v : Option ℕ). version_told file.version line.act v) (sym told)
+    ap (λ (v : Option ℕ). version_behind file.version line.act v) (sym told)
     ∙ told-same file.version line.act line.contents ruling.version
     ∙ version_outcome file (call_of line) opened now ruling ruled.1 (ap (λ (s : ℕ). s == 200) status ∙ ok)
 
@@ -130,7 +130,7 @@ stood_given text name version contents bounds legal given =
       back = given.after;
       lines_are = given.lines_are ∙ sym (append_assoc given.before (line ∷ []) given.after);
       version_is = ap (λ (f : File). f.version) file ∙ sym (accepted_version was line at.opened at.now brought.0 may.ruled)
-          ∙ ap (λ (v : Option ℕ). version_told was.version line.act v) given.gives.version_is ∙ brought.2;
+          ∙ ap (λ (v : Option ℕ). version_behind was.version line.act v) given.gives.version_is ∙ brought.2;
       contents_are = ap (λ (f : File). f.contents) file ∙ ap (λ (c : Option (List ℕ)). contents_after was (act_of line.act c)) given.gives.contents_are ∙ brought.1;
     }
 

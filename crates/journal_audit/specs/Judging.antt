@@ -14,6 +14,7 @@ use Rattle.host_core.specs.declared.entry.EntryAct.TheVariants as act
 use Rattle.journal_text.specs.declared.text.Line.{Line}
 use Rattle.journal_audit.specs.declared.judging.Judgement.{Judgement}
 use Rattle.journal_audit.specs.declared.judging.Judgement.TheVariants as judgement
+use Rattle.journal_audit.specs.declared.judging.SettledFile.{SettledFile}
 use Rattle.journal_audit.specs.Calls.{Said, said_by}
 
 -- A file without its contents: `size` is None where it is absent. Its spent ids stand elsewhere.
@@ -21,6 +22,10 @@ pub record Placed : Type 0 where
   pub version : ℕ
   pub size : Option ℕ
   pub lock : Option Lock
+
+-- what is looked at of a settled file
+abbrev pub placed_of : SettledFile → Placed
+placed_of file = record { version = file.version; size = file.size; lock = option_map (λ held. held.now) file.lock }
 
 -- the size is that of the contents
 abbrev pub IsSize : Option (List ℕ) → Option ℕ → Type 0

@@ -1,5 +1,5 @@
 -- What is known of a file of which nobody keeps the contents. (Own.)
-use Rattle.std.specs.Prelude.{◌≡◌, ℕ, ◌-◌, ◌≤◌, Bool, List, Option, None, Some, unwrap_or, IfSome}
+use Rattle.std.specs.Prelude.{◌≡◌, ℕ, ◌-◌, ◌≤◌, Bool, List, Option, None, Some, IfSome}
 use Rattle.wopi_model.specs.Moment.{IsMoment}
 use Rattle.wopi_model.specs.File.{File}
 use Rattle.wopi_model.specs.Act.{is_spent}
@@ -7,6 +7,7 @@ use Rattle.wopi_model.specs.Settle.{standing, still_spent}
 use Rattle.wopi_model.specs.LockTable.{lock_after}
 use Rattle.host_core.specs.declared.entry.EntryAct.{EntryAct}
 use Rattle.host_core.specs.declared.entry.EntryAct.TheVariants as act
+use Rattle.journal_text.specs.Versions.{version_behind}
 use Rattle.journal_audit.specs.Judging.{IsSize, Placed, sized_ask}
 
 -- a name that was never met
@@ -21,12 +22,6 @@ opened_as first size = record { version = first; size = Some size; lock = None }
 abbrev pub settled_place : Placed → ℕ → Placed
 settled_place place now = record { version = place.version; size = place.size; lock = standing place.lock now }
 
--- the version that the line of an accepted act tells, where that goes on
-abbrev pub version_told : ℕ → EntryAct → Option ℕ → ℕ
-version_told old (act.Put lock size) told = unwrap_or told old
-version_told old (act.Create overwrite size) told = unwrap_or told old
-version_told old _ told = old
-
 abbrev pub size_after : Option ℕ → EntryAct → Option ℕ
 size_after old (act.Put lock size) = Some size
 size_after old (act.Create overwrite size) = Some size
@@ -37,7 +32,7 @@ size_after old _ = old
 abbrev pub placed_after : Placed → EntryAct → ℕ → ℕ → Option ℕ → Placed
 placed_after place one expires now told =
     record {
-      version = version_told place.version one told;
+      version = version_behind place.version one told;
       size = size_after place.size one;
       lock = lock_after place.lock (sized_ask place.size one) expires now;
     }

@@ -5,9 +5,9 @@ ghost use Rattle.wopi_model.specs.Settle.{expired};
 ghost use Rattle.wopi_model.specs.LockTable.{lock_after, spent_by};
 ghost use Rattle.lock_machine.specs.Asks.{act_of};
 ghost use Rattle.journal_audit.specs.Judging.{has_no_bytes, sized_ask};
-ghost use Rattle.journal_audit.specs.Known.{opened_as, placed_after, settled_place, size_after, unmet, version_told};
+ghost use Rattle.journal_audit.specs.Known.{opened_as, placed_after, settled_place, size_after, unmet};
 
-use journal_text::{Line, LineAct};
+use journal_text::{Line, LineAct, version_behind};
 use lock_machine::{LockAsk, change_by, lock_left, settle, spent_left, spent_until, taken_in};
 use std::marker::Model;
 use wopi_model::{Lock, Spent};
@@ -94,16 +94,6 @@ fn judged(
     (left, ended)
 }
 
-/// The version behind an act that was accepted.
-fn version_told(old: u64, act: &LineAct, told: Option<u64>) -> u64
-    ensures { result ≡ version_told old act.now told }
-{
-    match act {
-        LineAct::Put { .. } | LineAct::Create { .. } => told.unwrap_or(old),
-        _ => old,
-    }
-}
-
 /// The size behind an act that was accepted.
 fn size_after(old: Option<u64>, act: &LineAct) -> Option<u64>
     ensures { result ≡ size_after old act.now }
@@ -180,7 +170,7 @@ impl KnownFile {
         let ask = sized_ask(self.size, &line.act);
         let (lock, ended) = judged(&self.lock, ask, line.token.expires, line.now);
         self.lock = lock;
-        self.version = version_told(self.version, &line.act, line.version);
+        self.version = version_behind(self.version, &line.act, line.version);
         self.size = size_after(self.size, &line.act);
         ended
     }

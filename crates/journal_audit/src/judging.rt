@@ -3,13 +3,22 @@ ghost use Rattle.std.specs.Prelude.{◌≡◌, ◌↔◌, ◌+◌, IsTrue, None,
 ghost use Rattle.wopi_model.specs.LockTable as table;
 ghost use Rattle.wopi_model.specs.Token as tokens;
 ghost use Rattle.journal_audit.specs.Calls.{said_by};
-ghost use Rattle.journal_audit.specs.Judging.{SaysOutcome, accepted_as, creates, decision_of, is_over_most, lock_id, sized_ask, sized_decision, stores, writes};
+ghost use Rattle.journal_audit.specs.Judging.{SaysOutcome, accepted_as, creates, decision_of, is_over_most, lock_id, placed_of, sized_ask, sized_decision, stores, writes};
 
-use crate::file::{KnownFile, sized_ask};
+use crate::file::sized_ask;
 use journal_text::{Line, LineAct};
 use lock_machine::verdict;
 use wopi_model::{Lock, Token, Verdict};
 use wopi_text::{LockId, Reason};
+
+/// A settled file, as far as it is looked at: its version, the size of its contents where it is there, and the lock that
+/// stands. Whoever keeps a file can tell this of it.
+#[derive(Clone, Copy)]
+pub struct SettledFile<'a> {
+    pub version: u64,
+    pub size: Option<u64>,
+    pub lock: Option<&'a Lock>,
+}
 
 /// What is decided.
 #[derive(Clone, Copy, Debug, PartialEq, Eq)]
@@ -45,7 +54,8 @@ fn writes(act: &LineAct) -> bool
     }
 }
 
-fn stores(act: &LineAct) -> bool
+/// Whether the store takes part in an act where that is accepted: it saves, or it removes.
+pub fn stores(act: &LineAct) -> bool
     ensures { result ≡ stores act.now }
 {
     match act {
@@ -66,15 +76,15 @@ fn is_over_most(size: Option<u64>, act: &LineAct) -> bool
 }
 
 /// What the lock table says of an act. `shown` says that an id which the act presents is spent.
-fn verdict_on(file: &KnownFile, shown: bool, act: &LineAct) -> Verdict
-    ensures { result ≡ table.verdict file.now.lock shown (sized_ask file.now.size act.now) }
+fn verdict_on(file: SettledFile<'_>, shown: bool, act: &LineAct) -> Verdict
+    ensures { result ≡ table.verdict (placed_of file.entry).lock shown (sized_ask (placed_of file.entry).size act.now) }
 {
-    verdict(file.lock(), shown, sized_ask(file.size(), act))
+    verdict(file.lock, shown, sized_ask(file.size, act))
 }
 
 /// What is decided of a line's call on a settled file.
-fn judge(file: &KnownFile, shown: bool, line: &Line, opened: u64) -> Judgement
-    ensures { decision_of result ≡ sized_decision file.now shown line.entry.now.act line.entry.now.name line.entry.now.token opened line.entry.now.now }
+fn judge(file: SettledFile<'_>, shown: bool, line: &Line, opened: u64) -> Judgement
+    ensures { decision_of result ≡ sized_decision (placed_of file.entry) shown line.entry.now.act line.entry.now.name line.entry.now.token opened line.entry.now.now }
 {
     if !is_live(&line.token, opened, line.now) {
         return Judgement::Refuse(401);
@@ -82,7 +92,7 @@ fn judge(file: &KnownFile, shown: bool, line: &Line, opened: u64) -> Judgement
     if !creates(&line.act) && line.token.file != line.name {
         return Judgement::Refuse(401);
     }
-    if !creates(&line.act) && file.size().is_none() {
+    if !creates(&line.act) && file.size.is_none() {
         return Judgement::Refuse(404);
     }
     if writes(&line.act) && !line.token.write {
@@ -91,7 +101,7 @@ fn judge(file: &KnownFile, shown: bool, line: &Line, opened: u64) -> Judgement
     match verdict_on(file, shown, &line.act) {
         Verdict::Refuse { reason } => return Judgement::Conflict(reason),
         Verdict::Accept => {
-            if is_over_most(file.size(), &line.act) {
+            if is_over_most(file.size, &line.act) {
                 return Judgement::Refuse(412);
             }
             return Judgement::Accept;
@@ -155,26 +165,29 @@ fn says_lock(line: &Line, status: u16, reason: Option<Reason>, lock: Option<&Loc
 }
 
 /// Whether a line says what an acceptance says.
-fn says_accepted(file: &KnownFile, line: &Line) -> bool
-    ensures { IsTrue result ↔ (said_by line.entry.now ≡ accepted_as file.now line.entry.now.act) }
+fn says_accepted(file: SettledFile<'_>, line: &Line) -> bool
+    ensures { IsTrue result ↔ (said_by line.entry.now ≡ accepted_as (placed_of file.entry) line.entry.now.act) }
 {
     match &line.act {
-        LineAct::Put { .. } | LineAct::Create { .. } => return says_next(line, file.version()),
+        LineAct::Put { .. } | LineAct::Create { .. } => return says_next(line, file.version),
         LineAct::Refresh { .. } | LineAct::Look | LineAct::Delete => return says_only(
             line, 200, None,
         ),
-        LineAct::GetLock => return says_lock(line, 200, None, file.lock()),
-        _ => return says_only(line, 200, Some(file.version())),
+        LineAct::GetLock => return says_lock(line, 200, None, file.lock),
+        _ => return says_only(line, 200, Some(file.version)),
     }
 }
 
-/// Whether a line says what an outcome of the step on the settled file says.
-pub(crate) fn says_outcome(file: &KnownFile, shown: bool, line: &Line, opened: u64) -> bool
-    ensures { IsTrue result ↔ SaysOutcome file.now shown line.entry.now opened }
+/// Whether a line says what an outcome of the step on the file says: its status, lock, reason and version, which are all that
+/// a line tells of a ruling. `shown` says that an id which the act presents is spent. File and ids are those of the line's
+/// time, once the file is settled, and to settle it is the caller's to do. A fault of the store is an outcome too, where the
+/// store takes part. Neither contents nor the stores of ids are looked at, so one judgement serves all who keep sizes alone.
+pub fn says_outcome(file: SettledFile<'_>, shown: bool, line: &Line, opened: u64) -> bool
+    ensures { IsTrue result ↔ SaysOutcome (placed_of file.entry) shown line.entry.now opened }
 {
     match judge(file, shown, line, opened) {
         Judgement::Refuse(status) => return says_only(line, status, None),
-        Judgement::Conflict(reason) => return says_lock(line, 409, Some(reason), file.lock()),
+        Judgement::Conflict(reason) => return says_lock(line, 409, Some(reason), file.lock),
         Judgement::Accept => {
             if says_accepted(file, line) {
                 return true;

@@ -17,6 +17,7 @@ pub use auditor::{Auditor, audit};
 pub use contents::contents_at;
 pub use file::KnownFile;
 pub use input::{Audit, audit_input};
+pub use judging::{SettledFile, says_outcome, stores};
 pub use sought::read_contents;
 pub use track::Track;
 pub use verdict::{AuditFault, Verdict};

@@ -5,12 +5,12 @@ ghost use Rattle.wopi_model.specs.Shard.{Opening, Shard, Step, at_moment, happen
 ghost use Rattle.name_index.specs.Index.{number_of};
 ghost use Rattle.journal_audit.specs.Calls.{entry_of, told_ruling};
 ghost use Rattle.journal_audit.specs.Lines.{IsRuledOn};
-ghost use Rattle.journal_audit.specs.Judging.{Placed, shows_spent};
+ghost use Rattle.journal_audit.specs.Judging.{Placed, SaysOutcome, shows_spent};
 ghost use Rattle.journal_audit.specs.Spent.{refuses};
 ghost use Rattle.journal_audit.specs.Tracks.{AreNumbered, IsOpened, IsSound, Knows, OthersStay, Steps, Takes};
 
 use crate::file::KnownFile;
-use crate::judging::says_outcome;
+use crate::judging::{SettledFile, says_outcome};
 use crate::spent::SpentIds;
 use journal_text::{Line, LineAct};
 use name_index::NameIndex;
@@ -59,6 +59,18 @@ fn shows_spent(spent: &SpentIds, number: u32, act: &LineAct, now: u64) -> bool
     }
 }
 
+/// Whether a line says what an outcome of the step on the settled file says.
+fn says_known(file: &KnownFile, shown: bool, line: &Line, opened: u64) -> bool
+    ensures { IsTrue result ↔ SaysOutcome file.now shown line.entry.now opened }
+{
+    let settled = SettledFile {
+        version: file.version(),
+        size: file.size(),
+        lock: file.lock(),
+    };
+    says_outcome(settled, shown, line, opened)
+}
+
 /// Whether a line says of its ruling what an outcome of the step on its file says. The file goes on with it.
 fn step_file(
     file: &mut KnownFile,
@@ -74,7 +86,7 @@ fn step_file(
     let ended = file.settle(line.now);
     spent.spend(number, ended)?;
     let shown = shows_spent(spent, number, &line.act, line.now);
-    if !says_outcome(file, shown, line, opened) {
+    if !says_known(file, shown, line, opened) {
         return Ok(false);
     }
     if line.status == 200 {
@@ -146,7 +158,7 @@ fn take_unmet(
     ensures takes { IfOk result (λ ruled. Takes first opened line.entry.now names.old files.old.items spent.now ruled names.new files.new.items spent.now) }
 {
     let mut file = KnownFile::unmet(first);
-    if !says_outcome(&file, false, line, opened) {
+    if !says_known(&file, false, line, opened) {
         return Ok(false);
     }
     if line.status == 200 {

@@ -1,4 +1,3 @@
-pub mod Rulings
 pub mod Telling
 pub mod Placing
 pub mod Once

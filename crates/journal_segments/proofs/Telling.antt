@@ -21,16 +21,17 @@ use Rattle.wopi_model.proofs.Keeping.{shows-tick, shows-entry, shown-at_moment}
 use Rattle.wopi_model.proofs.Histories.{after-append}
 use Rattle.host_core.specs.Entries.{Made, brought_by, kept_act, items_of, history_of}
 use Rattle.journal_text.specs.Told.{line_of}
+use Rattle.journal_text.specs.Versions.{version_behind}
 use Rattle.wopi_model.specs.Begin.{Begin, at_name, put_name}
 use Rattle.wopi_model.specs.Lives.{IsLeftBy}
 use Rattle.journal_text.specs.declared.text.Line.{Line}
 use Rattle.journal_segments.specs.declared.rows.Row.{Row}
 use Rattle.journal_segments.specs.declared.rows.Row.TheVariants as row
-use Rattle.journal_segments.specs.Told.{Placed, Told, Tells, asked, begin_of, contents_after, contents_in, files_in, placed_after, settled_place, told_line, unmet, version_told, whole}
+use Rattle.journal_segments.specs.Told.{Placed, Told, Tells, asked, begin_of, contents_after, contents_in, files_in, placed_after, settled_place, told_line, unmet, whole}
 use Rattle.journal_segments.specs.Rows.{holding, told_holds}
 use Rattle.journal_segments.specs.Openings.{AreOf, GoOn, told_rows}
 use Rattle.wopi_model.proofs.Living.{at-put}
-use Rattle.journal_segments.proofs.Rulings.{told_outcome, version_outcome}
+use Rattle.journal_text.proofs.Rulings.{told_outcome, version_outcome}
 
 -- ---- one accepted act
 
@@ -80,7 +81,7 @@ contents-same kept place act.Delete = refl
 
 -- an accepted call makes of what is told what it makes of the file
 pub whole-effect : (kept : Option (List ℕ)) (place : Placed) (call : Call) (now : ℕ) (told : Option ℕ) →
-    version_told place.version (kept_act call.act) told ≡ steps.version_after (whole kept place) call.act →
+    version_behind place.version (kept_act call.act) told ≡ steps.version_after (whole kept place) call.act →
     whole kept (placed_after place (kept_act call.act) call.token.expires now told (brought_by call.act)) ≡ effect (whole kept place) call now
 whole-effect kept place call now told version =
     let file = whole kept place in

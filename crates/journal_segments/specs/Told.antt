@@ -1,5 +1,5 @@
 -- What the lines of a segment leave, told by their rulings alone. (Own.)
-use Rattle.std.specs.Prelude.{◌≡◌, ⊤, ℕ, ◌-◌, Bool, false, ◌&&◌, ◌==◌, nat_lt, List, [], ◌∷◌, length, map, Option, None, Some, unwrap_or, if◌then◌else◌}
+use Rattle.std.specs.Prelude.{◌≡◌, ⊤, ℕ, ◌-◌, Bool, false, ◌&&◌, ◌==◌, nat_lt, List, [], ◌∷◌, length, map, Option, None, Some, if◌then◌else◌}
 use Rattle.std.specs.Str.{bytes_eq}
 use Rattle.wopi_model.specs.declared.locks.Lock.{Lock}
 use Rattle.wopi_model.specs.declared.locks.Spent.{Spent}
@@ -15,6 +15,7 @@ use Rattle.host_core.specs.declared.entry.EntryAct.TheVariants as act
 use Rattle.host_core.specs.declared.life.LifeContents.{LifeContents}
 use Rattle.host_core.specs.declared.life.LifeContents.TheVariants as has
 use Rattle.journal_text.specs.declared.text.Line.{Line}
+use Rattle.journal_text.specs.Versions.{version_behind}
 use Rattle.wopi_model.specs.Begin.{Begin, at_name, put_name}
 
 -- ---- one file
@@ -58,12 +59,6 @@ asked act.Look = asks.Look
 asked (act.Create overwrite size) = asks.Create false overwrite
 asked act.Delete = asks.Delete
 
--- the version that the line tells, where it goes on
-abbrev pub version_told : ℕ → EntryAct → Option ℕ → ℕ
-version_told old (act.Put lock size) told = unwrap_or told old
-version_told old (act.Create overwrite size) told = unwrap_or told old
-version_told old _ told = old
-
 -- those that a line put there, or none, where it removed them
 abbrev pub told_as : Option (List ℕ) → LifeContents
 told_as None = has.Removed
@@ -79,7 +74,7 @@ contents_after old _ brought = old
 abbrev pub placed_after : Placed → EntryAct → ℕ → ℕ → Option ℕ → Option (List ℕ) → Placed
 placed_after place one expires now told brought =
     record {
-      version = version_told place.version one told;
+      version = version_behind place.version one told;
       contents = contents_after place.contents one brought;
       lock = lock_after place.lock (asked one) expires now;
       spent = with_spent (spent_by place.lock (asked one) expires) place.spent;

@@ -7,12 +7,12 @@ ghost use Rattle.wopi_model.specs.Act.{is_spent};
 ghost use Rattle.wopi_model.specs.Settle.{expired, standing, still_spent, with_spent};
 ghost use Rattle.wopi_model.specs.LockTable.{lock_after, spent_by};
 ghost use Rattle.lock_machine.specs.Asks.{act_of};
-ghost use Rattle.journal_segments.specs.Told.{asked, contents_after, ends_in, placed_after, settled_place, size_told, told_as, unmet, version_told};
+ghost use Rattle.journal_segments.specs.Told.{asked, contents_after, ends_in, placed_after, settled_place, size_told, told_as, unmet};
 ghost use Rattle.journal_segments.specs.Rows.{held_place, holding, left_as, placed_at, spent_place};
 ghost use Rattle.journal_segments.specs.Lives.{file_told};
 
 use host_core::{LifeContents, LifeFile};
-use journal_text::{Line, LineAct};
+use journal_text::{Line, LineAct, version_behind};
 use lock_machine::{
     LockAsk, change_by, is_over, lock_left, settle, spent_left, spent_until, taken_in,
 };
@@ -115,16 +115,6 @@ fn drop_over(spent: &mut Vec<Spent>, now: u64)
     ensures { spent.new.items ≡ still_spent spent.old.items now }
 {
     spent.retain(|one| now < one.until);
-}
-
-/// The version behind an act that was accepted.
-fn version_told(old: u64, act: &LineAct, told: Option<u64>) -> u64
-    ensures { result ≡ version_told old act.now told }
-{
-    match act {
-        LineAct::Put { .. } | LineAct::Create { .. } => told.unwrap_or(old),
-        _ => old,
-    }
 }
 
 /// What a line put there, or that it removed what was there.
@@ -346,7 +336,7 @@ impl ToldFile {
         let (lock, ended) = judged(&self.lock, &act, token.expires, now);
         self.lock = lock;
         add_spent(&mut self.spent, ended)?;
-        self.version = version_told(self.version, &act, version);
+        self.version = version_behind(self.version, &act, version);
         let before = mem::replace(&mut self.contents, LifeContents::Absent);
         self.contents = contents_after(before, &act, brought);
         Ok(())

@@ -19,3 +19,4 @@ pub mod Uniqueness
 pub mod OneReading
 mod PieceLemmas
 pub mod Bare
+pub mod Rulings

@@ -10,3 +10,4 @@ pub mod Written
 pub mod Told
 pub mod Inputs
 pub mod Coming
+pub mod Versions

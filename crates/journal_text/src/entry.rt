@@ -11,6 +11,7 @@ ghost use Rattle.journal_text.specs.declared.entry.Place.{Place};
 ghost use Rattle.journal_text.specs.declared.entry.Head.{Head};
 ghost use Rattle.journal_text.specs.Entries.{AreEnds, IsHead, IsPlace, ends_words, head_words, place_words};
 ghost use Rattle.journal_text.specs.Lines.{IsBare, IsLine, IsToken, MayBeLock, MayFit, is_status, told_size};
+ghost use Rattle.journal_text.specs.Versions.{version_behind};
 ghost use Rattle.journal_text.specs.Words.{bare_words, line_words, words_of};
 
 use crate::acts::act_read;
@@ -153,6 +154,17 @@ pub fn told_size(act: &EntryAct, status: u16) -> Option<u64>
         EntryAct::Put { lock: _, size } => Some(*size),
         EntryAct::Create { overwrite: _, size } => Some(*size),
         _ => None,
+    }
+}
+
+/// The version of a file behind an act that was accepted, of which a line tells that version. Who goes on from lines and
+/// not from contents needs no more: a refused act leaves the version, and so does a store fault.
+pub fn version_behind(old: u64, act: &EntryAct, told: Option<u64>) -> u64
+    ensures { result ≡ version_behind old act.now told }
+{
+    match act {
+        EntryAct::Put { .. } | EntryAct::Create { .. } => told.unwrap_or(old),
+        _ => old,
     }
 }
 

@@ -31,7 +31,7 @@ mod tokens;
 mod values;
 mod writing;
 
-pub use entry::{bare_line_read, told_size};
+pub use entry::{bare_line_read, told_size, version_behind};
 pub use host_core::EntryAct as LineAct;
 pub use host_table::WriteEnd;
 pub use input::{SizeFault, read_bytes, read_lines};

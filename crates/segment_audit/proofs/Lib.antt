@@ -1,4 +1,3 @@
-pub mod Sizing
 pub mod Ruling
 pub mod Judged
 pub mod Verdicts

@@ -6,8 +6,6 @@ use Rattle.std.specs.Str.{bytes_eq}
 use Rattle.line_text.specs.Words.{IsRow}
 use Rattle.wopi_text.specs.FileName.{shard_of}
 use Rattle.wopi_model.specs.declared.calls.Act.{Act}
-use Rattle.wopi_model.specs.declared.calls.Act.TheVariants as asks
-use Rattle.wopi_model.specs.declared.calls.Call.{Call}
 use Rattle.wopi_model.specs.declared.calls.Ruling.{Ruling}
 use Rattle.wopi_model.specs.declared.locks.Lock.{Lock}
 use Rattle.wopi_model.specs.declared.locks.Spent.{Spent}
@@ -26,17 +24,17 @@ use Rattle.host_core.specs.Life.{is_changed}
 use Rattle.host_log.specs.Rows as log
 use Rattle.host_log.specs.Rows.{Counts, TakenBack}
 use Rattle.journal_text.specs.declared.text.Line.{Line}
-use Rattle.journal_text.specs.Told.{line_of, lock_of}
-use Rattle.journal_audit.specs.Calls.{Said, act_of, call_of, said_by, said_of}
+use Rattle.journal_text.specs.Told.{line_of}
+use Rattle.journal_audit.specs.Calls.{call_of}
 use Rattle.journal_audit.specs.Judging.{IsSize, stores}
-use Rattle.journal_audit.specs.Lines.{IsRuledOn}
+use Rattle.journal_audit.proofs.Merges.{act-is, line-is, made_of}
+use Rattle.journal_audit.proofs.Sizes.{stores-same}
 use Rattle.journal_segments.specs.declared.rows.Head.{Head}
 use Rattle.journal_segments.specs.declared.rows.Row.{Row}
 use Rattle.journal_segments.specs.declared.rows.Row.TheVariants as row
 use Rattle.journal_segments.specs.declared.state.Pending.{Pending}
 use Rattle.journal_segments.specs.declared.state.Pending.TheVariants as pending
 use Rattle.journal_segments.specs.declared.state.State.{State}
-use Rattle.journal_segments.specs.Line.{size_in}
 use Rattle.journal_segments.specs.Places.{AreOnce}
 use Rattle.journal_segments.specs.Told.{Placed, Tells, Told, begin_of, contents_in, files_in, size_told, told_line, unmet}
 use Rattle.journal_segments.specs.Logs.{entry_row, logged_rows}
@@ -52,7 +50,7 @@ use Rattle.segment_audit.specs.Sizes.{file_of, zeros}
 use Rattle.segment_audit.specs.Legal.{AreRight, IsLegalSegment, IsRight, IsRuledAt, is_saved}
 use Rattle.segment_audit.specs.Making.{AreLogged, AreMade, HasSizes, MayBeMade, begin_told, zeros_in}
 use Rattle.segment_audit.proofs.Ruling.{zeros_sized}
-use Rattle.segment_audit.proofs.Telling.{Brings, allowed_right, contents_again, kept_again, made_of, ruled_whole}
+use Rattle.segment_audit.proofs.Telling.{Brings, allowed_right, ruled_whole}
 
 -- ---- one entry
 
@@ -74,27 +72,6 @@ tells_more : (folder : List ℕ → Option (List ℕ)) (told : Told) (shard : Sh
 tells_more folder told shard one line tells is late soon allowed =
     tells-rows folder told shard (row.Entry line ∷ []) (one ∷ []) tells (is, tt) (late, soon, tt) (tt, (allowed, tt))
 
--- the line of the entry that it tells is the line again
-line_again : (line : Line) (ruling : Ruling) → shard_of line.name ≡ line.shard → Brings line → said_of ruling ≡ said_by line → line_of (made_of line ruling) ≡ line
-line_again line ruling own brings said =
-    let status : ruling.status ≡ line.status = ap (λ (s : Said). s.status) said in
-    let contents = ap (λ (n : ℕ). cond (n == 200) (brought_by (act_of line.act line.contents)) None) status ∙ contents_again line.act line.status line.contents brings in
-    λ i. record {
-      stamp = line.stamp;
-      shard = own i;
-      pass = line.pass;
-      moment = line.moment;
-      now = line.now;
-      name = line.name;
-      act = kept_again line.act line.status line.contents brings i;
-      token = line.token;
-      status = (said i).status;
-      lock = (said i).lock;
-      reason = (said i).reason;
-      version = (said i).version;
-      contents = contents i;
-    }
-
 -- a line that is right tells an entry that is allowed
 line_made : (folder : List ℕ → Option (List ℕ)) (told : Told) (shard : Shard) (line : Line) → Tells folder told shard → AreSized folder told → shard_of line.name ≡ line.shard → shard.now ≤ line.now →
     line.moment ≤ line.now → Brings line → IsRuledAt told line →
@@ -110,7 +87,7 @@ line_made folder told shard line tells sized own late soon brings ruled =
     let P : File × ℕ × ℕ → Type 0 = λ p. IsOutcome p.0 (call_of line) p.1 p.2 ruling in
     let opened = tells.opened_is in (
       ruling,
-      sym (line_again line ruling own brings said),
+      line-is line ruling brings (sym own) said,
       subst P (λ i. (sym (at ∙ ap (settled (kept name)) time) i, opened i, sym time i)) outcome,
     )
 
@@ -155,7 +132,7 @@ on_entry folder state shard line rows tells sized are ruled first rest =
     let here : told.now ≤ line.now = subst (λ (n : ℕ). n ≤ line.now) (now_told state.told state.pending) late in
     let there : shard.now ≤ line.now = subst (λ (n : ℕ). n ≤ line.now) tells.now_is here in
     let above : told.last < line.stamp = subst (λ (n : ℕ). n < line.stamp) (last_told state.told state.pending) rises in
-    let brings : Brings line = are.0.1 in
+    let brings : Brings line = sym are.0.1 in
     let (ruling, is, allowed) = line_made folder told shard line tells sized (named ∙ sym own) there soon brings ruled in
     let next = tells_more folder told shard (made_of line ruling) line tells is here soon allowed in
     made_first shard told.last line ruling rows is allowed above first
@@ -226,17 +203,7 @@ legal_made head files rows placed logged are right =
 -- ---- entries, as lines
 
 stores_kept : (one : Act) → stores (kept_act one) ≡ is_stored one
-stores_kept asks.Info = refl
-stores_kept (asks.Get most) = refl
-stores_kept (asks.Put lock contents) = refl
-stores_kept (asks.Lock id) = refl
-stores_kept asks.GetLock = refl
-stores_kept (asks.Refresh id) = refl
-stores_kept (asks.Unlock id) = refl
-stores_kept (asks.Relock old id) = refl
-stores_kept asks.Look = refl
-stores_kept (asks.Create overwrite contents) = refl
-stores_kept asks.Delete = refl
+stores_kept one = stores-same (kept_act one) (brought_by one) ∙ ap (λ (a : Act). is_stored a) (act-is one)
 
 entry_comes : (folder : List ℕ → Option (List ℕ)) (state : State) (shard : Shard) (one : Made) → Tells folder (told_at state) shard → MayBeMade shard state.shard (told_at state).last one →
     MayCome state (entry_row one)

@@ -8,7 +8,7 @@ use Rattle.journal_audit.specs.Judging.{IsSize, SaysOutcome, shows_spent}
 use Rattle.journal_audit.specs.Lines.{IsRuledOn}
 use Rattle.journal_segments.specs.Told.{Placed, size_told}
 use Rattle.segment_audit.specs.Sizes.{file_of, refused_at, sized_at, zeros}
-use Rattle.segment_audit.proofs.Sizing.{Stands, outcome_of, says_outcome}
+use Rattle.journal_audit.proofs.Sizes.{Stands, outcome_of, says_outcome}
 
 -- as many zero bytes have that size
 pub zeros_sized : (size : Option ℕ) → IsSize (zeros size) size

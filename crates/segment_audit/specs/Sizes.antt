@@ -3,11 +3,8 @@ use Rattle.std.specs.Prelude.{ℕ, Bool, List, Option, option_map, replicate}
 use Rattle.wopi_model.specs.File.{File}
 use Rattle.wopi_model.specs.Act.{is_spent}
 use Rattle.wopi_model.specs.Settle.{standing, expired, with_spent, still_spent}
-use Rattle.wopi_model.specs.Step.{Decision, Refuse, Conflict, Accept}
 use Rattle.journal_audit.specs.Judging as judging
 use Rattle.journal_segments.specs.Told.{Placed, size_told}
-use Rattle.segment_audit.specs.declared.judging.Judgement.{Judgement}
-use Rattle.segment_audit.specs.declared.judging.Judgement.TheVariants as judgement
 
 -- Where a segment tells the size of contents alone, they are as many zero bytes: what is decided of a call asks only whether contents
 -- are there and how many bytes they have.
@@ -24,8 +21,3 @@ sized_at place now = record { version = place.version; size = size_told place.co
 -- the id is refused on the file then
 abbrev pub refused_at : Placed → ℕ → List ℕ → Bool
 refused_at place now id = is_spent (still_spent (with_spent (expired place.lock now) place.spent) now) id
-
-abbrev pub decision_of : Judgement → Decision
-decision_of (judgement.Refuse status) = Refuse status
-decision_of (judgement.Conflict reason) = Conflict reason
-decision_of judgement.Accept = Accept

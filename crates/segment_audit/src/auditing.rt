@@ -9,8 +9,9 @@ ghost use Rattle.journal_segments.specs.Rows.{last_entry};
 ghost use Rattle.segment_audit.specs.Audits.{IsAudited, IsRuledLast, ShowsFault, verdict_behind};
 ghost use Rattle.segment_audit.specs.Legal.{is_saved};
 
-use crate::judging::{is_ruled, stores};
+use crate::judging::is_ruled;
 use crate::verdict::{RowFault, SegmentVerdict};
+use journal_audit::stores;
 use journal_segments::{SegmentFault, State, Watcher, watch_segment};
 use line_text::InputFault;
 use outside::Source;

@@ -43,6 +43,9 @@ abbrev IsOther : ServeEnd → Type 0
 IsOther end.WriteFault = Unit {0}
 IsOther end.FolderFault = Unit {0}
 IsOther (end.TooLarge name) = Unit {0}
+IsOther (end.BadLine shard line) = Unit {0}
+IsOther end.BadLogs = Unit {0}
+IsOther end.TooManyIds = Unit {0}
 IsOther _ = ⊥
 
 no_other : (lost wanted failed : Bool) (e : ServeEnd) → IsOther e
@@ -149,6 +152,9 @@ module _ {S K F N D C G L : Type 0} (m : Meanings S K F N D C G L) (keys : Keys)
       go end.WriteFault is = absurd (apart end.WriteFault tt is)
       go end.FolderFault is = absurd (apart end.FolderFault tt is)
       go (end.TooLarge name) is = absurd (apart (end.TooLarge name) tt is)
+      go (end.BadLine shard line) is = absurd (apart (end.BadLine shard line) tt is)
+      go end.BadLogs is = absurd (apart end.BadLogs tt is)
+      go end.TooManyIds is = absurd (apart end.TooManyIds tt is)
 
 module _ {S K F N D C G L : Type 0} (m : Meanings S K F N D C G L) (keys : Keys) (base : List ℕ) (origin : Option (List ℕ)) (ask : ServeAsk) (keep : Keep) (desk : Desk)
     (host : HostView (LogView F)) (first : PassView (LogView F)) (old mid new : Outside S K F N D C G) (keys_are : desk.keys ≡ keys) (base_is : desk.base ≡ base)

@@ -10,6 +10,6 @@ returns c =
     let line = c.args.line.now in
     let both = ruled_on place line c.args.opened in
     let P : judging.Placed × Bool → Type 0 = λ p. SaysOutcome p.0 p.1 line c.args.opened in (
-      λ is. both.0 (subst P (λ i. (c.of-sized.ensures i, c.shows_refused-shown.ensures i)) (c.says_outcome.ensures.0 is)),
-      λ ruled. c.says_outcome.ensures.1 (subst P (λ i. (sym c.of-sized.ensures i, sym c.shows_refused-shown.ensures i)) (both.1 ruled)),
+      λ is. both.0 (subst P (λ i. (c.settled_of-settled.ensures i, c.shows_refused-shown.ensures i)) (c.says_outcome.ensures.0 is)),
+      λ ruled. c.says_outcome.ensures.1 (subst P (λ i. (sym c.settled_of-settled.ensures i, sym c.shows_refused-shown.ensures i)) (both.1 ruled)),
     )

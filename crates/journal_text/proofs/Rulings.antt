@@ -12,7 +12,7 @@ use Rattle.wopi_model.specs.LockTable.{verdict}
 use Rattle.wopi_model.specs.Step.{Decision, Refuse, Conflict, Accept, IsOutcome, after_step, acceptance, decision, effect, file_of, is_too_large, is_unauthorized, is_missing, lacks_right, ruling_of, version_after}
 use Rattle.wopi_model.proofs.Replacing.{acceptance-status}
 use Rattle.host_core.specs.Entries.{kept_act}
-use Rattle.journal_audit.specs.Known.{version_told}
+use Rattle.journal_text.specs.Versions.{version_behind}
 
 -- what a decision makes of the file is what its ruling tells
 abbrev Fits : File → Call → ℕ → Decision → Type 0
@@ -51,9 +51,9 @@ told_outcome file call opened now ruling outcome =
 -- ---- the version of what is accepted
 
 abbrev TellsVersion : File → Call → ℕ → Decision → Type 0
-TellsVersion file call now d = ((ruling_of d file call now).status == 200) ≡ true → version_told file.version (kept_act call.act) (ruling_of d file call now).version ≡ version_after file call.act
+TellsVersion file call now d = ((ruling_of d file call now).status == 200) ≡ true → version_behind file.version (kept_act call.act) (ruling_of d file call now).version ≡ version_after file call.act
 
-version_accepted : (file : File) (call : Call) (now : ℕ) (asks : Act) → version_told file.version (kept_act asks) (acceptance asks (effect file (record call { act = asks }) now)).version ≡ version_after file asks
+version_accepted : (file : File) (call : Call) (now : ℕ) (asks : Act) → version_behind file.version (kept_act asks) (acceptance asks (effect file (record call { act = asks }) now)).version ≡ version_after file asks
 version_accepted file call now act.Info = refl
 version_accepted file call now (act.Get most) = refl
 version_accepted file call now (act.Put lock contents) = refl
@@ -83,9 +83,9 @@ version_decided file call opened now =
     (version_verdict file call now (verdict file.lock (presents_spent file.spent call.act) (lock_act file call.act)) (is_too_large file call.act))))
 
 pub version_outcome : (file : File) (call : Call) (opened now : ℕ) (ruling : Ruling) → IsOutcome file call opened now ruling →
-    (ruling.status == 200) ≡ true → version_told file.version (kept_act call.act) ruling.version ≡ version_after file call.act
+    (ruling.status == 200) ≡ true → version_behind file.version (kept_act call.act) ruling.version ≡ version_after file call.act
 version_outcome file call opened now ruling outcome =
-    let P : Ruling → Type 0 = λ r. (r.status == 200) ≡ true → version_told file.version (kept_act call.act) r.version ≡ version_after file call.act in
+    let P : Ruling → Type 0 = λ r. (r.status == 200) ≡ true → version_behind file.version (kept_act call.act) r.version ≡ version_after file call.act in
     elim outcome as (λ _. P ruling) [
       | inl decided ↦ subst P (sym decided) (version_decided file call opened now)
       | inr fault ↦ subst P (sym fault.2) (λ e. absurd (true≢false (sym e)))
