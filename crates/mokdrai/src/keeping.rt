@@ -4,7 +4,9 @@ ghost use Rattle.std.specs.Option.{option_copied};
 ghost use Rattle.adapters.specs.LogNames.{ArePaths};
 ghost use Rattle.wopi_program.specs.Asking.{HasLogs, IsKept, IsServeOver};
 
-use adapters::{AnySource, FileLog, FileSource, HeldLogs, StdSource, Unopened, open_logs, unopened_line};
+use adapters::{
+    AnySource, FileLog, FileSource, HeldLogs, StdSource, Unopened, open_logs, unopened_line,
+};
 use std::alloc::Global;
 use std::fs::{File, Files};
 use std::io::{self, ErrorKind};
@@ -66,9 +68,7 @@ pub(crate) fn keep<'a, R: Files<File = File>>(
 {
     match folder {
         Some(folder) => match open_logs(alloc, rt, folder, files) {
-            Ok(
-                HeldLogs { lock, lasts, logs },
-            ) => match sources(alloc, lasts) {
+            Ok(HeldLogs { lock, lasts, logs }) => match sources(alloc, lasts) {
                 Ok(lasts) => Ok(Kept {
                     lock: Some(lock),
                     lasts,

@@ -458,8 +458,6 @@ pub(crate) fn keep_in<
     match recall(alloc, &mut outside.lasts) {
         Err(fault) => recall_end(fault),
         Ok(None) => keep_anew(rt, alloc, keys, base, origin, ask, keep, outside),
-        Ok(Some(lives)) => keep_on(
-            rt, alloc, lives, keys, base, origin, ask, keep, outside,
-        ),
+        Ok(Some(lives)) => keep_on(rt, alloc, lives, keys, base, origin, ask, keep, outside),
     }
 }
