@@ -12,6 +12,8 @@ use Rattle.host_table.specs.Close.{Leaves}
 use Rattle.host_server.specs.declared.desk.Desk.{Desk}
 use Rattle.host_server.specs.declared.working.WorkEnd.{WorkEnd}
 use Rattle.wopi_program.specs.declared.outside_world.Outside.{Outside}
+use Rattle.wopi_program.specs.declared.recalling.RecallFault.{RecallFault}
+use Rattle.wopi_program.specs.declared.recalling.RecallFault.TheVariants as recall
 use Rattle.wopi_program.specs.declared.serving.ServeEnd.{ServeEnd}
 use Rattle.wopi_program.specs.declared.serving.ServeEnd.TheVariants as end
 use Rattle.wopi_program.specs.Meanings.{Meanings}
@@ -27,6 +29,12 @@ unresumed_end (reopen.TooLarge name) = end.TooLarge name
 unresumed_end reopen.Memory = end.Memory
 unresumed_end reopen.BadLife = end.BadLogs
 unresumed_end reopen.TooManyIds = end.TooManyIds
+
+-- how a run ends whose last logs can't be gone on with
+abbrev pub recall_end : RecallFault → ServeEnd
+recall_end (recall.Bad shard line) = end.BadLine shard line
+recall_end recall.Read = end.JournalFault
+recall_end recall.Memory = end.Memory
 
 module _ {F : Type 0} where
   abbrev pub lost_store : LogView F → Bool

@@ -1,12 +1,13 @@
 //! A host over logs, to which each entry is appended before it's told, so that none is kept in memory.
-ghost use Rattle.std.specs.Prelude.{◌≡◌, ◌≤◌, ◌^◌, ℕ, [], length, true, IfOk, IfSome, vec_capacity};
+ghost use Rattle.std.specs.Prelude.{◌≡◌, ◌≤◌, ◌^◌, ℕ, [], None, length, true, IfOk, IfSome, vec_capacity};
 ghost use Rattle.std.specs.List.{AllByRecursion, list_any};
 ghost use Rattle.access_tokens.specs.Addresses.{is_base};
 ghost use Rattle.access_tokens.specs.Origins.{IsOrigin};
 ghost use Rattle.host_core.specs.Opening.{most_first};
 ghost use Rattle.wopi_program.specs.Keep.{KeepRuns, endless, is_lost, kept_end};
-ghost use Rattle.wopi_program.specs.Paired.{AreAnew, AreParted, HasKeptHost, failed_in, going_end, lost_store, opening_end, unresumed_end};
+ghost use Rattle.wopi_program.specs.Paired.{AreAnew, AreParted, HasKeptHost, failed_in, going_end, lost_store, opening_end, recall_end, unresumed_end};
 ghost use Rattle.wopi_program.specs.Passes.{IsFreshPass};
+ghost use Rattle.wopi_program.specs.Recalled.{AreRecalled};
 ghost use Rattle.wopi_program.specs.Serve.{refused_end};
 
 use crate::crew::{Crew, Returned, crew_of, work_host};
@@ -303,7 +304,17 @@ fn stores_of<S, K, F: Folder, N: Drop, D, C: Drop, G: Log>(
     space: KeepSpace<F, N, C, G>,
     syncs_all: bool,
     outside: &mut Outside<S, K, F, N, D, C, G>,
-) -> Opened<F, N, C, G> {
+) -> Opened<F, N, C, G>
+    requires folders { length outside.old.folders.items ≡ 16 }
+    requires logs { length outside.old.logs.items ≡ 16 }
+    requires synced { AllByRecursion (λ log. G.synced log ≡ G.held log) outside.old.logs.items }
+    ensures crew { result.crew.count ≡ space.crew.count }
+    ensures anew { AreAnew G.held G.write_faults syncs_all 0 outside.old.folders.items outside.old.logs.items result.stores.items }
+    ensures many { length result.stores.items ≡ 16 }
+    ensures folders { (outside.new.folders.items ≡ []) × (16 ≤ vec_capacity outside.new.folders) }
+    ensures logs { (outside.new.logs.items ≡ []) × (16 ≤ vec_capacity outside.new.logs) }
+    ensures others { outside.new ≡ record outside.old { folders = outside.new.folders; logs = outside.new.logs } }
+{
     let KeepSpace {
         crew,
         ending,
@@ -343,7 +354,23 @@ fn keep_anew<
     ask: ServeAsk,
     keep: Keep,
     outside: &mut Outside<S, K, F, N, D, C, G>,
-) -> ServeEnd {
+) -> ServeEnd
+    requires base { is_base base ≡ true }
+    requires page { IfSome origin IsOrigin }
+    requires ids { (1 ≤ keep.ids) × (keep.ids ≤ 32768) }
+    requires first { (1 ≤ ask.first) × (ask.first ≤ most_first) }
+    requires folders { length outside.old.folders.items ≡ 16 }
+    requires logs { length outside.old.logs.items ≡ 16 }
+    requires synced { AllByRecursion (λ log. G.synced log ≡ G.held log) outside.old.logs.items }
+    requires some { 1 ≤ length outside.old.listeners.items }
+    requires few { length outside.old.listeners.items ≤ 1024 }
+    requires clocks { length outside.old.clocks.items ≡ length outside.old.listeners.items }
+    requires has_all_back { AllByRecursion (λ listener. N.finished listener ≡ N.accepted listener) outside.old.listeners.items }
+    ensures runs { (before : Outside S K F N D C G) → outside.old ≡ record before { lasts = outside.old.lasts } → AllByRecursion (λ last. last ≡ None) before.lasts.items
+        → KeepRuns ⟦<Outside<S, K, F, N, D, C, G> as Meant<S, K, F, N, D, C, G, N::Link>>⟧.meanings keys base origin ask keep outside.new.notes result before outside.new }
+    ensures others { outside.new
+        ≡ record outside.old { notes = outside.new.notes; folders = outside.new.folders; listeners = outside.new.listeners; clocks = outside.new.clocks; logs = outside.new.logs } }
+{
     let opened = first_moment(&mut outside.clocks);
     let desk = Desk::serving(keys, base, opened, ask.editor, origin);
     let Ok(space) = reserve_keep(alloc, outside.listeners.len()) else {
@@ -387,7 +414,24 @@ fn keep_on<
     ask: ServeAsk,
     keep: Keep,
     outside: &mut Outside<S, K, F, N, D, C, G>,
-) -> ServeEnd {
+) -> ServeEnd
+    requires lives { length lives.items ≡ 16 }
+    requires base { is_base base ≡ true }
+    requires page { IfSome origin IsOrigin }
+    requires ids { (1 ≤ keep.ids) × (keep.ids ≤ 32768) }
+    requires first { (1 ≤ ask.first) × (ask.first ≤ most_first) }
+    requires folders { length outside.old.folders.items ≡ 16 }
+    requires logs { length outside.old.logs.items ≡ 16 }
+    requires synced { AllByRecursion (λ log. G.synced log ≡ G.held log) outside.old.logs.items }
+    requires some { 1 ≤ length outside.old.listeners.items }
+    requires few { length outside.old.listeners.items ≤ 1024 }
+    requires clocks { length outside.old.clocks.items ≡ length outside.old.listeners.items }
+    requires has_all_back { AllByRecursion (λ listener. N.finished listener ≡ N.accepted listener) outside.old.listeners.items }
+    ensures runs { (before : Outside S K F N D C G) (opened first : ℕ) → outside.old ≡ record before { lasts = outside.old.lasts } → AreRecalled S.left opened first 0 before.lasts.items lives.items
+        → KeepRuns ⟦<Outside<S, K, F, N, D, C, G> as Meant<S, K, F, N, D, C, G, N::Link>>⟧.meanings keys base origin ask keep outside.new.notes result before outside.new }
+    ensures others { outside.new
+        ≡ record outside.old { notes = outside.new.notes; folders = outside.new.folders; listeners = outside.new.listeners; clocks = outside.new.clocks; logs = outside.new.logs } }
+{
     let desk = Desk::serving(keys, base, lives[0].opened, ask.editor, origin);
     let Ok(space) = reserve_keep(alloc, outside.listeners.len()) else {
         return ServeEnd::Memory;
@@ -410,7 +454,9 @@ fn keep_on<
 }
 
 /// How a run ends whose last logs can't be gone on with.
-fn recall_end(fault: RecallFault) -> ServeEnd {
+fn recall_end(fault: RecallFault) -> ServeEnd
+    ensures { result ≡ recall_end fault }
+{
     match fault {
         RecallFault::Bad { shard, line } => ServeEnd::BadLine { shard, line },
         RecallFault::Read => ServeEnd::JournalFault,

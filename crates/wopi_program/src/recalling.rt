@@ -96,7 +96,7 @@ fn recall_each<S: Source>(
 
 /// The first life that is told.
 fn first_told(lives: &[Option<Life>]) -> Option<&Life>
-    ensures { result.entry ≡ None → AllByRecursion (λ life. life ≡ None) lives.entry.now }
+    ensures { result ≡ None → AllByRecursion (λ life. life ≡ None) lives.now }
 {
     for told in lives {
         if let Some(life) = told {
@@ -147,6 +147,7 @@ pub(crate) fn recall<S: Source>(
 ) -> Result<Option<Vec<Life>>, RecallFault>
     requires few { length lasts.old.items ≤ 16 }
     ensures none { result ≡ Ok None → AllByRecursion (λ last. last ≡ None) lasts.old.items }
+    ensures many { (lives : Vec Life) → result ≡ Ok (Some lives) → length lives.items ≡ length lasts.old.items }
     ensures lives { (lives : Vec Life) → result ≡ Ok (Some lives) → (opened : ℕ) × (first : ℕ) × AreRecalled S.left opened first 0 lasts.old.items lives.items }
     ensures bad { (shard line : ℕ) → result ≡ Err (fault.Bad shard line) → HasBadLine S.left shard line lasts.old.items lasts.new.items 0 }
     ensures failed { result ≡ Err fault.Read → HasReadFault S.read_faults lasts.old.items lasts.new.items }

@@ -1,4 +1,3 @@
-use Rattle.wopi_program.proofs.KeepLemmas.{anew_runs, on_runs}
 use Rattle.wopi_program.specs.Keep.{endless, losing}
 use Rattle.wopi_program.proofs.SourceLemmas.{served_come}
 use Rattle.wopi_program.proofs.laws.entries_of_a_host_that_keeps_come_of_messages.Goals as goal
