@@ -186,11 +186,6 @@ def read_logs(logs, number, files):
     return told, doubts
 
 
-def newest(logs):
-    """The greatest number of a log, which the next ones have one more than. One that has no name yet counts as none."""
-    return max((int(name.split(".")[1]) for name in os.listdir(logs) if not name.endswith(".tmp")), default=0)
-
-
 def begin(program, room, first):
     with socket.socket() as probe:
         probe.bind(("127.0.0.1", 0))
@@ -239,7 +234,6 @@ def main():
             first = number * 1_000_000
             for name, file in files.items():
                 file.version = f"v{first}"
-            former = newest(f"{room}/logs")
             host, port = begin(program, room, first)
             told = []
             clients = [Client(port, client, files, told) for client in range(CLIENTS)]
@@ -252,14 +246,14 @@ def main():
                 client.join()
                 calls += client.calls
                 wrong += client.wrong
-            logged, doubts = read_logs(f"{room}/logs", former + 1, before)
+            logged, doubts = read_logs(f"{room}/logs", number, before)
             for name, version, contents in told:
                 digest = hashlib.sha256(contents).digest()
                 if contents_of.setdefault((name, version), digest) != digest:
                     wrong.append(f"{name}: {version} was told for two contents")
             for shard in range(16):
-                if os.path.exists(old := f"{room}/logs/{shard}.{former}"):
-                    os.remove(old)
+                if os.path.exists(former := f"{room}/logs/{shard}.{number - 1}"):
+                    os.remove(former)
             for name, file in files.items():
                 flights += file.flight is not None
                 # (a host that was killed before its logs had their beginnings answered nothing)

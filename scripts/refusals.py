@@ -196,10 +196,6 @@ class Room:
         with open(os.path.join(self.folder, "a.csv"), "rb") as file:
             return file.read()
 
-    def named(self):
-        """How many logs there are, but for those whose beginning wasn't synced."""
-        return sum(not name.endswith(".tmp") for name in os.listdir(self.logs))
-
     def log(self, number):
         with open(os.path.join(self.logs, f"11.{number}"), "rb") as file:
             return file.read()
@@ -366,12 +362,12 @@ def logged(room):
     must(statuses[1:] != [200] or room.kept() == NEW, "a save that was accepted and isn't there")
     must(room.kept() in (OLD, NEW), f"other contents: {room.kept()[:80]}")
     must(room.kept() == OLD or b" put 4c31 " in log, "a save that its log doesn't have")
-    before = room.named()
+    before = len(os.listdir(room.logs))
     host, port = room.host(1, refusing=False, more=("--keep", room.logs))
     got = ask(port)
     notes = ended(host, port)
     must(host.returncode == 0 and got.startswith(b"HTTP/1.1 200 "), f"the next host: status {host.returncode}, {notes}")
-    must(room.named() == before + 16, "the next host wrote into older logs")
+    must(len(os.listdir(room.logs)) == before + 16, "the next host wrote into older logs")
     return status
 
 
